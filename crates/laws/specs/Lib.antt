@@ -1,0 +1,2 @@
+-- Theorems about the definitions of `rules`.
+pub mod Once

@@ -1,0 +1,32 @@
+-- No second outcome meets a call's promise: each promise is an equation, so two outcomes that it admits are equal.
+use mathlib.Core.Path.{_≡_, sym, ap, _∙_}
+use mathlib.Core.List.{List}
+use Prim.Native.Nat.{ℕ}
+use lib.Ieee.{Float}
+use Rattle.rules.specs.Text.{Bytes}
+use Rattle.rules.specs.Refusal.{Reply, Promised}
+use Rattle.rules.specs.Run.{Outcome, Runs}
+use Rattle.rules.specs.Check.{Checks}
+use Rattle.rules.specs.declared.Step.{Step}
+use Rattle.rules.specs.declared.Direction.{Direction}
+use Rattle.rules.specs.declared.Foretold.{Foretold}
+use Rattle.rules.specs.declared.Ran.{Ran}
+
+-- `normalise`, `split`, `parameters`, `translate` and `prepare`: result and lent storage
+pub once : {A R : Type 0} {inWords : Reply ℕ → R} {own : Bytes → Reply (List A)} {text : Bytes} {storage : List A}
+    {r r′ : R} {after after′ : List A}
+    → Promised inWords own text storage r after → Promised inWords own text storage r′ after′ → (r ≡ r′) × (after ≡ after′)
+once {A} {R} p q =
+    let e = p .exactly ∙ sym (q .exactly) in
+    (ap (λ (x : R × List A). x .0) e, ap (λ (x : R × List A). x .1) e)
+
+-- the check: its answer, all of it
+pub check-once : {d : Direction} {t : List Step} {r r′ : Foretold} → Checks d t r → Checks d t r′ → r ≡ r′
+check-once p q = p .exactly ∙ sym (q .exactly)
+
+-- the run: result, list and store
+pub run-once : {d : Direction} {t : List Step} {xs store : List Float} {r r′ : Ran} {xs₁ xs₂ store₁ store₂ : List Float}
+    → Runs d t xs store r xs₁ store₁ → Runs d t xs store r′ xs₂ store₂ → (r ≡ r′) × (xs₁ ≡ xs₂) × (store₁ ≡ store₂)
+run-once p q =
+    let e = p .exactly ∙ sym (q .exactly) in
+    (ap (λ (o : Outcome). o .answer) e, ap (λ (o : Outcome). o .list) e, ap (λ (o : Outcome). o .store) e)

@@ -1,0 +1,1 @@
+// Theorems about the definitions of `rules` alone, in specs/. No code stands here.

@@ -1,0 +1,126 @@
+-- Document 01's examples, input beside outcome: P1 to P13 in one table, the line below them in a second. That every row
+-- of both holds is the one statement of specs/ExamplesHold.antt.
+use mathlib.Core.Path.{_≡_}
+use Prim.Native.Nat.{ℕ}
+use Prim.Native.String.{String}
+use mathlib.Core.Bool.{true}
+use mathlib.Core.List.{List, [], _∷_, _++_, map, flatMap}
+use lib.ListN.{replicate}
+use lib.IntN.{ℤ, pos}
+use lib.Ieee.{Float, binary64, ofInt}
+use Rattle.rules.specs.Ascii.{ascii}
+use Rattle.rules.specs.Text.{Bytes}
+use Rattle.rules.specs.Refusal.{Reply, answers, refuses, tested}
+use Rattle.rules.specs.Normal.{normalise}
+use Rattle.rules.specs.Split.{split}
+use Rattle.rules.specs.Parameters.{parameters}
+use Rattle.rules.specs.Translate.{translate}
+use Rattle.rules.specs.Decimal.{signed}
+use Rattle.rules.specs.Prepare.{prepare}
+use Rattle.rules.specs.Run.{Outcome, runs}
+use Rattle.rules.specs.Check.{check}
+use Rattle.rules.specs.declared.Step.{Step}
+use Rattle.rules.specs.declared.Direction.{Direction}
+use Rattle.rules.specs.declared.Direction.the-variants.{Forward, Inverse}
+use Rattle.rules.specs.declared.Verdict.{Verdict}
+use Rattle.rules.specs.declared.Verdict.the-variants.{Passes, TooFew, TooMany}
+
+-- a row: its mark, what is asked, and the outcome
+pub data Example : Type 1 where
+  says : {A : Type 0} → String → A → A → Example
+
+-- ---- what is asked
+
+-- a call on a text, "1, 2, then their own"
+unfoldable pub on : {A : Type 0} → (Bytes → Reply A) → String → Reply A
+on call text = tested call (ascii text)
+
+-- the number that refuses, 0 if none does
+unfoldable pub refusal : {A : Type 0} → Reply A → ℕ
+refusal (answers x) = 0
+refusal (refuses number place) = number
+
+-- the records of an answer
+unfoldable pub records : Reply (List Step) → List Step
+records (answers l) = l
+records (refuses number place) = []
+
+-- a run of a definition, with no store or with one; the check's verdict on a definition
+unfoldable pub ran : Direction → String → List Float → List Float → Outcome
+ran d text xs store = runs d (records (on prepare text)) xs store
+
+unfoldable pub verdictOn : Direction → String → Verdict
+verdictOn d text = check d (records (on prepare text)) .verdict
+
+-- whole numbers as f64, and -1
+unfoldable pub floats : List ℤ → List Float
+floats l = map (ofInt binary64) l
+
+abbrev pub minus1 : ℤ
+minus1 = signed true 1
+
+abbrev pub oneToFour : List Float
+oneToFour = floats (pos 1 ∷ pos 2 ∷ pos 3 ∷ pos 4 ∷ [])
+
+-- ---- the table
+
+-- (P3 normalises twice, and P11 and P12 say two things each: they take two rows. P12's columns a, b, c are those that a
+-- push of 1, 2, 3 makes; the store shows them bottom first.)
+unfoldable pub examples : List Example
+examples =
+    says "P1" (on normalise "a : b $ c") (answers (ascii "a:b $c"))
+    ∷ says "P2" (on normalise "a > b < c") (answers (ascii "a|omit_inv b|omit_fwd c"))
+    ∷ says "P3" (on normalise ": : a") (answers (ascii ":a"))
+    ∷ says "P3" (on normalise ":a") (answers (ascii "a"))
+    ∷ says "P4" (on split "inv a x=1 | | b") (answers (ascii "a x=1 inv\nb\n"))
+    ∷ says "P5" (on split "a >") (refuses 6 2)
+    ∷ says "P6" (on parameters "a k=1 k=2 f b=c=d") (answers (ascii "_name=a\nb=c\nf=true\nk=2\n"))
+    ∷ says "P7" (on translate "proj=x step step") (answers (ascii "x | step"))
+    ∷ says "P8" (on translate "b=1 c=2 proj=x a=7 rf=9 k=3") (answers (ascii "x c=2 b=1 k_0=3 ellps=7,9"))
+    ∷ says "P9" (on translate "proj=x step inv") (refuses 5 2)
+    ∷ says "P10" (on translate "proj=pipeline inv step proj=x step inv") (answers (ascii "| x inv"))
+    ∷ says "P11" (ran Forward "axisswap order=2,-1" oneToFour [] .list) (floats (pos 2 ∷ minus1 ∷ pos 3 ∷ pos 4 ∷ []))
+    ∷ says "P11" (ran Inverse "axisswap order=2,-1" (floats (pos 2 ∷ minus1 ∷ pos 3 ∷ pos 4 ∷ [])) [] .list) oneToFour
+    ∷ says "P12" (ran Forward "push v_1 v_2 v_3 | stack roll=3,2" oneToFour (replicate 3 (ofInt binary64 (pos 0))) .store) (floats (pos 2 ∷ pos 3 ∷ pos 1 ∷ []))
+    ∷ says "P12" (ran Forward "push v_1 v_2 v_3 | stack roll=3,-2" oneToFour (replicate 3 (ofInt binary64 (pos 0))) .store) (floats (pos 3 ∷ pos 1 ∷ pos 2 ∷ []))
+    ∷ says "P13" (verdictOn Forward "pop inv v_3 | push inv v_3") (TooFew 1)
+    ∷ []
+
+-- eight pushes of eight columns
+abbrev pub sixtyFour : Bytes
+sixtyFour = flatMap (λ (i : ℕ). ascii "stack push=1,2,3,4,1,2,3,4|") (replicate 8 0)
+
+unfoldable pub deep : Bytes → Verdict
+deep text = check Forward (records (tested prepare text)) .verdict
+
+-- the line "Also" below the table
+unfoldable pub also : List Example
+also =
+    says "4,096 bytes pass" (tested translate (replicate 4096 97)) (answers (replicate 4096 97))
+    ∷ says "4,097 do not" (tested translate (replicate 4097 97)) (refuses 1 0)
+    ∷ says "roll 1,0 passes" (refusal (on prepare "stack roll=1,0")) 0
+    ∷ says "3,3 .." (on prepare "stack roll=3,3") (refuses 14 1)
+    ∷ says "and 0,0 do not" (on prepare "stack roll=0,0") (refuses 14 1)
+    ∷ says "order `1` .." (refusal (on prepare "axisswap order=1")) 0
+    ∷ says "and `1.0,2` pass" (refusal (on prepare "axisswap order=1.0,2")) 0
+    ∷ says "`2`" (on prepare "axisswap order=2") (refuses 14 1)
+    ∷ says "`1,1`" (on prepare "axisswap order=1,1") (refuses 14 1)
+    ∷ says "`1.5`" (on prepare "axisswap order=1.5") (refuses 14 1)
+    ∷ says "`-0` do not" (on prepare "axisswap order=-0") (refuses 14 1)
+    ∷ says "eight arguments pass" (refusal (on prepare "stack push=1,2,3,4,1,2,3,4")) 0
+    ∷ says "nine do not" (on prepare "stack push=1,2,3,4,1,2,3,4,1") (refuses 13 1)
+    ∷ says "depth 64 passes" (deep sixtyFour) Passes
+    ∷ says "65 does not" (deep (sixtyFour ++ ascii "push v_1")) (TooMany 9)
+    ∷ says "adapt" (ran Forward "adapt from=nwuf" oneToFour [] .list) (floats (pos 2 ∷ minus1 ∷ pos 3 ∷ pos 4 ∷ []))
+    ∷ says "a slip" (on prepare "push | :inv") (refuses 6 2)
+    ∷ []
+
+-- ---- the statement
+
+-- a row holds if what is asked is the outcome
+unfoldable pub Holds : Example → Type 0
+Holds (says mark asked outcome) = asked ≡ outcome
+
+unfoldable pub AllHold : List Example → Type 0
+AllHold [] = Unit {0}
+AllHold (e ∷ es) = Holds e × AllHold es

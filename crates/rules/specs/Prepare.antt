@@ -1,0 +1,71 @@
+-- Preparing: from a text to its step records, or the refusal.
+use Prim.Native.Nat.{ℕ, suc}
+use mathlib.Core.Bool.{cond}
+use mathlib.Core.Option.{Option, none, some}
+use mathlib.Core.List.{List, [], _∷_}
+use lib.ListN.{length}
+use lib.Dec.{ltb}
+use Rattle.rules.specs.Ascii.{ascii}
+use Rattle.rules.specs.Lists.{any}
+use Rattle.rules.specs.Text.{Bytes}
+use Rattle.rules.specs.Refusal.{Reply, answers, refuses, andThen, prepared, Promised}
+use Rattle.rules.specs.Split.{steps, splitSteps}
+use Rattle.rules.specs.Parameters.{Parameter, parametersOf}
+use Rattle.rules.specs.Keys.{Name, nameOf, kindOf, unknown, misspelt, tooLong}
+use Rattle.rules.specs.OwnRules.{valueOf, ownRule}
+use Rattle.rules.specs.declared.Step.{Step}
+use Rattle.rules.specs.declared.Prepared.{Prepared}
+
+-- ---- one step
+
+-- "judging 14 only if no other applies"
+unfoldable pub judged14 : Option Step → Reply Step
+judged14 none = refuses 14 0
+judged14 (some s) = answers s
+
+-- "its lowest number of .. 11 to 14"
+unfoldable pub judged11 : Name → List Parameter → Reply Step
+judged11 n ps =
+    cond (any (unknown n) ps) (refuses 11 0)
+    (cond (any (λ (p : Parameter). misspelt (kindOf n p) (p .value)) ps) (refuses 12 0)
+    (cond (any (λ (p : Parameter). tooLong (kindOf n p) (p .value)) ps) (refuses 13 0)
+    (judged14 (ownRule n ps))))
+
+-- 10: "no operator name, or not one of the five"
+unfoldable pub named : Option Bytes → Option Name
+named none = none
+named (some value) = nameOf value
+
+unfoldable pub judged10 : Option Name → List Parameter → Reply Step
+judged10 none ps = refuses 10 0
+judged10 (some n) ps = judged11 n ps
+
+unfoldable pub judged : List Parameter → Reply Step
+judged ps = judged10 (named (valueOf (ascii "_name") ps)) ps
+
+-- "A refusal returns .. a place: that of the faulty step"
+unfoldable pub atStep : ℕ → Reply Step → Reply Step
+atStep place (answers s) = answers s
+atStep place (refuses number none-yet) = refuses number place
+
+-- one step's text at its place: 1, "in preparing one step's text, is over 4,096 bytes"; then 6 and 9 as it is cut into
+-- parameters, then 10 to 14
+unfoldable pub prepareStep : ℕ → Bytes → Reply Step
+prepareStep place t =
+    atStep place (cond (ltb 4096 (length t)) (refuses 1 0) (andThen (parametersOf t) judged))
+
+-- ---- all steps
+
+-- "takes the first faulty step": the steps' texts, the first of them at `place`
+unfoldable pub prepareSteps : ℕ → List Bytes → Reply (List Step)
+prepareSteps place [] = answers []
+prepareSteps place (t ∷ ts) =
+    andThen (prepareStep place t) (λ s. andThen (prepareSteps (suc place) ts) (λ l. answers (s ∷ l)))
+
+-- the call `prepare`: "Preparing splits first"
+unfoldable pub prepare : Bytes → Reply (List Step)
+prepare t = andThen (splitSteps (steps t)) (prepareSteps 1)
+
+-- what preparing promises: the answer, and the lent step table afterwards
+abbrev pub Prepares : Bytes → List Step → Prepared → List Step → Type 0
+Prepares text table result table′ = Promised prepared prepare text table result table′

@@ -1,0 +1,94 @@
+// The plain types that every crate shares: step records, coordinates, directions, and what the calls answer. What they
+// mean is written down in specs/. No algorithm stands here.
+
+// A step record: the operator by its number (specs/Record.antt says which), up to eight arguments in place, how many
+// they are, and the marks, each 0 or 1. A slot that is not used holds 0. Whatever a C caller lends is some record; one
+// that no preparation makes is refused 18.
+#[repr(C)]
+pub struct Step {
+    pub operator: u8,
+    pub args: [i32; 8],
+    pub n: usize,
+    pub inv: u8,
+    pub omit_fwd: u8,
+    pub omit_inv: u8,
+}
+
+// A step table by value: n records, the first of 64. A table that stands for a longer row says so by its n.
+pub struct Table {
+    pub steps: [Step; 64],
+    pub n: usize,
+}
+
+// A coordinate: one record of four numbers.
+#[repr(C)]
+pub struct Coord {
+    pub a: f64,
+    pub b: f64,
+    pub c: f64,
+    pub d: f64,
+}
+
+pub enum Direction {
+    Forward,
+    Inverse,
+}
+
+// A place of a tuple, 1 to 4, and whether its sign is turned.
+#[repr(C)]
+pub struct Place {
+    pub axis: u32,
+    pub minus: bool,
+}
+
+// A number in decimal form: whole and millionths, both without the sign.
+pub struct Decimal {
+    pub minus: bool,
+    pub whole: u32,
+    pub millionths: u32,
+}
+
+// What reading a series element answers.
+pub enum Number {
+    Is(Decimal),
+    Not,
+}
+
+// What a text call answers: how many bytes it wrote, from the first of the lent buffer on; or the refusal's number and
+// place.
+pub enum Written {
+    Wrote(usize),
+    Refused { number: u8, place: usize },
+}
+
+// What preparing answers: how many records it wrote, from the first of the lent table on; or the refusal.
+pub enum Prepared {
+    Steps(usize),
+    Refused { number: u8, place: usize },
+}
+
+// What the check says of a step table. What a pass foretells stands beside it, in `Foretold`.
+pub enum Verdict {
+    Passes,
+    TooFew(usize),
+    TooMany(usize),
+    Refused { number: u8, place: usize },
+}
+
+// What the check answers. Of a pass: how many steps run and the depth after each, the deepest, the columns left, and the
+// four places, if they are told (no `adapt` step runs). Everything else is zero.
+pub struct Foretold {
+    pub verdict: Verdict,
+    pub run: usize,
+    pub depths: [usize; 64],
+    pub deepest: usize,
+    pub left: usize,
+    pub told: bool,
+    pub places: [Place; 4],
+}
+
+// What a run answers: the success count and how many columns are left; or the refusal.
+pub enum Ran {
+    Done { count: usize, left: usize },
+    Refused { number: u8, place: usize },
+}
