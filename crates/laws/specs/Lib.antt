@@ -1,2 +1,8 @@
 -- Theorems about the definitions of `rules`.
 pub mod Once
+pub mod Entry
+pub mod Passes
+pub mod Sizes
+pub mod Separators
+pub mod Table
+pub mod Walk

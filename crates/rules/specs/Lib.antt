@@ -24,4 +24,5 @@ pub mod Tuples
 pub mod Run
 pub mod Check
 pub mod Examples
+pub mod Opened
 pub mod ExamplesHold

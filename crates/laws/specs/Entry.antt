@@ -1,0 +1,108 @@
+-- A promise, return by return: these serve every call that reads a text and writes into lent storage.
+use mathlib.Core.Path.{_≡_, refl, sym, ap}
+use Prim.Native.Nat.{ℕ, _≤_, _<_}
+use mathlib.Core.Bool.{Bool, true, false, cond, not}
+use mathlib.Core.List.{List, _++_}
+use native.Mathlib.Omega.{arith}
+use borrow.Author.Tests.{lt-ltb, le-ltb, ltb-false}
+use lib.ListN.{length, take, drop, length-append}
+use lib.Seq.{take-at, drop-at}
+use lib.Dec.{ltb}
+use Rattle.rules.specs.Text.{Bytes, inDomain}
+use Rattle.rules.specs.Refusal.{Reply, answers, refuses, tested, lent, outcome, Promised, written, Writes}
+use Rattle.rules.specs.declared.Written.{Written}
+use Rattle.rules.specs.declared.Written.the-variants as variant
+
+-- ---- for the call itself
+
+module _ {A R : Type 0} {inWords : Reply ℕ → R} {own : Bytes → Reply (List A)} {t : Bytes} {out : List A} where
+  pub too-long : 4096 < length t → Promised inWords own t out (inWords (refuses 1 0)) out
+  unfolding outcome lent tested
+  too-long h = record { exactly = rw (lt-ltb 4096 (length t) h) }
+
+  pub not-text : length t ≤ 4096 → inDomain t ≡ false → Promised inWords own t out (inWords (refuses 2 0)) out
+  unfolding outcome lent tested
+  not-text h d = record { exactly = rw (le-ltb 4096 (length t) h, d) }
+
+  pub refused : {number place : ℕ} → length t ≤ 4096 → inDomain t ≡ true → own t ≡ refuses number place
+      → Promised inWords own t out (inWords (refuses number place)) out
+  unfolding outcome lent tested
+  refused h d o = record { exactly = rw (le-ltb 4096 (length t) h, d, o) }
+
+  pub no-room : {xs : List A} → length t ≤ 4096 → inDomain t ≡ true → own t ≡ answers xs → length out < length xs
+      → Promised inWords own t out (inWords (refuses 7 0)) out
+  unfolding outcome lent tested
+  no-room {xs} h d o l = record { exactly = rw (le-ltb 4096 (length t) h, d, o, lt-ltb (length out) (length xs) l) }
+
+  pub answered : {xs out′ : List A} {r : ℕ} → length t ≤ 4096 → inDomain t ≡ true → own t ≡ answers xs → length xs ≤ length out
+      → r ≡ length xs → out′ ≡ xs ++ drop r out → Promised inWords own t out (inWords (answers r)) out′
+  unfolding outcome lent tested
+  answered {xs} h d o l c w = record { exactly = rw (w, c, le-ltb 4096 (length t) h, d, o, le-ltb (length out) (length xs) l) }
+
+-- ---- for the callers of a text call
+
+-- where the call answers, the answer stands at the buffer's front, and the rest is as it was
+pub record Answers (own : Bytes → Reply Bytes) (t out : Bytes) (r : ℕ) (out′ : Bytes) : Type 0 where
+  pub short : length t ≤ 4096
+  pub domain : inDomain t ≡ true
+  pub answer : own t ≡ answers (take r out′)
+  pub fits : r ≤ length out′
+  pub rest : drop r out′ ≡ drop r out
+
+no : _≡_ {A = ℕ} 0 1 → ⊥
+no z = omega arith
+
+-- which tests were passed, where each stands for itself
+record Picked (long text? : Bool) (reply : Reply Bytes) (out : Bytes) (r : ℕ) (out′ : Bytes) : Type 0 where
+  short : long ≡ false
+  domain : text? ≡ true
+  text : Bytes
+  reply-is : reply ≡ answers text
+  room : length text ≤ length out
+  count : r ≡ length text
+  whole : out′ ≡ text ++ drop (length text) out
+
+abbrev same? : Written × Bytes → Written × Bytes → Type 0
+same? x y = x ≡ y
+
+picked : (long text? : Bool) (reply : Reply Bytes) (out : Bytes) (r : ℕ) (out′ : Bytes)
+    → same? (variant.Wrote r, out′) (lent written (cond long (refuses 1 0) (cond (not text?) (refuses 2 0) reply)) out)
+    → Picked long text? reply out r out′
+unfolding lent written
+picked true text? reply out r out′ e = let z : _≡_ {A = ℕ} 0 1 = cc (ap (λ (x : Written × Bytes). x .0) e) in absurd (no z)
+picked false false reply out r out′ e = let z : _≡_ {A = ℕ} 0 1 = cc (ap (λ (x : Written × Bytes). x .0) e) in absurd (no z)
+picked false true (refuses number place) out r out′ e =
+    let z : _≡_ {A = ℕ} 0 1 = cc (ap (λ (x : Written × Bytes). x .0) e) in absurd (no z)
+picked false true (answers text) out r out′ e = go (ltb (length out) (length text)) refl e
+  where
+    go : (b : Bool) → ltb (length out) (length text) ≡ b
+        → same? (variant.Wrote r, out′) (cond b (variant.Refused 7 0, out) (variant.Wrote (length text), text ++ drop (length text) out))
+        → Picked false true (answers text) out r out′
+    go true l f = let z : _≡_ {A = ℕ} 0 1 = cc (ap (λ (x : Written × Bytes). x .0) f) in absurd (no z)
+    go false l f = record {
+      short = refl;
+      domain = refl;
+      text = text;
+      reply-is = refl;
+      room = ltb-false (length out) (length text) l;
+      count = cc (ap (λ (x : Written × Bytes). x .0) f);
+      whole = ap (λ (x : Written × Bytes). x .1) f;
+    }
+
+picked-answers : (own : Bytes → Reply Bytes) (t out : Bytes) (r : ℕ) (out′ : Bytes)
+    → Picked (ltb 4096 (length t)) (inDomain t) (own t) out r out′ → Answers own t out r out′
+picked-answers own t out r out′ q =
+    let f : take r out′ ≡ q .text = rw (q .whole) (take-at (q .text) (drop (length (q .text)) out) r (sym (q .count))) in
+    record {
+      short = ltb-false 4096 (length t) (q .short);
+      domain = q .domain;
+      answer = rw f (q .reply-is);
+      fits = rw (q .whole, length-append) (omega (arith, q .count));
+      rest = rw (q .whole, q .count) (drop-at (q .text) (drop (length (q .text)) out) (length (q .text)) refl);
+    }
+
+pub answers-so : {own : Bytes → Reply Bytes} {t out : Bytes} {r : ℕ} {out′ : Bytes}
+    → Writes own t out (variant.Wrote r) out′ → Answers own t out r out′
+unfolding outcome tested
+answers-so {own} {t} {out} {r} {out′} p =
+    picked-answers own t out r out′ (picked (ltb 4096 (length t)) (inDomain t) (own t) out r out′ (p .exactly))
