@@ -60,9 +60,9 @@ unfolding xor
 outputOf from to i =
     signed (xor (minus (arg i (from .axes))) (minus (arg i (to .axes)))) (position 1 (size (arg i (to .axes))) (from .axes))
 
--- the code of the factor that goes from one angle to another
+-- the code of the factor that goes from one angle to another, 0 where they are the same
 unfoldable pub angles : Word → Word → ℤ
-angles from to = pos (3 * (from .angle) + (to .angle))
+angles from to = pos (cond (eqb (from .angle) (to .angle)) 0 (3 * (from .angle) + (to .angle)))
 
 -- the eight arguments: the four outputs, and the codes of their factors (an angle stands in the first two numbers)
 unfoldable pub combined : Word → Word → List ℤ

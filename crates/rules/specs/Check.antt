@@ -86,8 +86,8 @@ anyAdapt l = any (λ (s : Numbered). adapting (s .does)) l
 
 -- ---- the verdict
 
--- "passes .., or step and too few or too many": "It passes exactly when no step finds fewer columns than it takes and the
--- depth never exceeds 64; else it names the first step at fault in running order."
+-- "passes .., or step and too few or too many": the first step, in running order, that finds fewer columns than it takes,
+-- or leaves more than 64
 unfoldable pub verdict : List Numbered → Traced → Verdict
 verdict [] m = Passes
 verdict (s ∷ l) m =

@@ -20,7 +20,7 @@ use Rattle.rules.specs.Parameters.{parameter, name, elements, precedes, 
 use Rattle.rules.specs.Prepare.{judged14, judged11, named, judged10, judged, atStep, prepareStep, prepareSteps, prepare}
 use Rattle.rules.specs.Proj.{unplussed, isStep, cutAtStep, withoutNoise, projSteps, isProj, firstProj, inItsPlace, exchanged, hasKey, lastOf, withoutLast, composed, ellipsoid, scale, tidied}
 use Rattle.rules.specs.Reader.{found, next, part, walked}
-use Rattle.rules.specs.Record.{numberOf, operatorOf, arg, isPlace, isRising, isPlaces, isRoll, isDistinct, isOrder, isAdapt, isArgs, operator, args, unused, isSet, nineDigits, made, firstBad, refusal18, blank, listed}
+use Rattle.rules.specs.Record.{numberOf, operatorOf, arg, isPlace, isRising, isPlaces, isRoll, isDistinct, isOrder, isCode, isAdapt, isArgs, operator, args, unused, isSet, nineDigits, made, firstBad, refusal18, blank, listed}
 use Rattle.rules.specs.Refusal.{andThen, tested, lent, outcome, written, prepared}
 use Rattle.rules.specs.Run.{countFrom, count, passes64, badList, storeAfter, refused, finished, unless16, unless15, unless18, runs}
 use Rattle.rules.specs.Split.{modifier, onlyModifiers, leading, following, turned, stepsOf, steps, stepText, splitSteps, line, split}
@@ -42,12 +42,12 @@ unfolding xor flatMap neg mul div eq ofInt ofFields ofBits places rolling unroll
     entered enteredAll tableOf stepTable textTable parametersOf parameterLine parameters judged14 judged11 named
     judged10 judged atStep prepareStep prepareSteps prepare unplussed isStep cutAtStep withoutNoise projSteps isProj
     firstProj inItsPlace exchanged hasKey lastOf withoutLast composed ellipsoid scale tidied found next part walked
-    numberOf operatorOf arg isPlace isRising isPlaces isRoll isDistinct isOrder isAdapt isArgs operator args unused
-    isSet nineDigits made firstBad refusal18 blank listed andThen tested lent outcome written prepared countFrom
-    count passes64 badList storeAfter refused finished unless16 unless15 unless18 runs modifier onlyModifiers
-    leading following turned stepsOf steps stepText splitSteps line split white subscript inDomain same starts
-    contains replaceFrom replace trimStart trimEnd trimmed before behind onto cut words afterEach joinedBy joined
-    isInv notInv isPipeline pipelineWords pipeline initFirst onlyInv firstFault atPosition1 withGlobals
-    exchangedMark withoutInv marked stepOf isWritten inOrder translation translated translate tuples numbers column
-    stored drained stomped starved actedIf acted countsNone counts
+    numberOf operatorOf arg isPlace isRising isPlaces isRoll isDistinct isOrder isCode isAdapt isArgs operator args
+    unused isSet nineDigits made firstBad refusal18 blank listed andThen tested lent outcome written prepared
+    countFrom count passes64 badList storeAfter refused finished unless16 unless15 unless18 runs modifier
+    onlyModifiers leading following turned stepsOf steps stepText splitSteps line split white subscript inDomain
+    same starts contains replaceFrom replace trimStart trimEnd trimmed before behind onto cut words afterEach
+    joinedBy joined isInv notInv isPipeline pipelineWords pipeline initFirst onlyInv firstFault atPosition1
+    withGlobals exchangedMark withoutInv marked stepOf isWritten inOrder translation translated translate tuples
+    numbers column stored drained stomped starved actedIf acted countsNone counts
 opened = tt

@@ -23,7 +23,7 @@ unfoldable pub judged14 : Option Step → Reply Step
 judged14 none = refuses 14 0
 judged14 (some s) = answers s
 
--- "its lowest number of .. 11 to 14"
+-- "its lowest number of .. 9 to 14": 11, 12, 13, then 14
 unfoldable pub judged11 : Name → List Parameter → Reply Step
 judged11 n ps =
     cond (any (unknown n) ps) (refuses 11 0)
@@ -46,7 +46,7 @@ judged ps = judged10 (named (valueOf (ascii "_name") ps)) ps
 -- "A refusal returns .. a place: that of the faulty step"
 unfoldable pub atStep : ℕ → Reply Step → Reply Step
 atStep place (answers s) = answers s
-atStep place (refuses number none-yet) = refuses number place
+atStep place (refuses number nowhere) = refuses number place
 
 -- one step's text at its place: 1, "in preparing one step's text, is over 4,096 bytes"; then 6 and 9 as it is cut into
 -- parameters, then 10 to 14

@@ -84,15 +84,18 @@ isOrder l =
     leb 1 (length l)
     && (leb (length l) 4 && (all (λ (x : ℤ). leb 1 (size x) && leb (size x) (length l)) l && isDistinct l))
 
+-- the code of a factor's size: 0, or that of two angles of which neither is the other (4 and 8 would be 1 again)
+unfoldable pub isCode : ℤ → Bool
+isCode x = not (minus x) && (leb (size x) 7 && not (eqb (size x) 4))
+
 -- adapt: four places of the input, each once, with the sign of the factor; then the codes of the four factors' sizes
 -- (specs/Adapt.antt), the first two alike, the others 0
 unfoldable pub isAdapt : List ℤ → Bool
 isAdapt l =
     eqb (length l) 8
     && (isOrder (take 4 l)
-    && (all (λ (x : ℤ). not (minus x)) (drop 4 l)
-    && (leb (size (arg 5 l)) 8
-    && (eqb (size (arg 6 l)) (size (arg 5 l)) && (eqb (size (arg 7 l)) 0 && eqb (size (arg 8 l)) 0)))))
+    && (all isCode (drop 4 l)
+    && (eqb (size (arg 6 l)) (size (arg 5 l)) && (eqb (size (arg 7 l)) 0 && eqb (size (arg 8 l)) 0))))
 
 -- the arguments that a preparation gives each operator
 unfoldable pub isArgs : Operator → List ℤ → Bool

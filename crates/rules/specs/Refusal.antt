@@ -52,11 +52,11 @@ module _ {A R : Type 0} (inWords : Reply ℕ → R) where
 -- "Where an answer is an enum, a definition gives this paper's number and values for each of its cases, and the promises
 -- use that definition": a text call's answer, and preparing's.
 unfoldable pub written : Reply ℕ → Written
-written (answers length) = written-is.Wrote length
+written (answers n) = written-is.Wrote n
 written (refuses number place) = written-is.Refused number place
 
 unfoldable pub prepared : Reply ℕ → Prepared
-prepared (answers length) = prepared-is.Steps length
+prepared (answers n) = prepared-is.Steps n
 prepared (refuses number place) = prepared-is.Refused number place
 
 -- what a text call promises, by its own rule

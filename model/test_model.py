@@ -1,0 +1,361 @@
+"""The examples of document 01 (P1 to P13, "Also", `steps`) and those of its open points,
+under their numbers, held against the model; then laws that drawn inputs must keep."""
+
+import itertools
+import math
+import random
+import sys
+
+import draw
+from model import (
+    ADAPT, CODES, AXISSWAP, FWD, INV, POP, PUSH, STACK_POP, STACK_PUSH, STACK_ROLL, STACK_SWAP,
+    STACK_UNROLL, Fails, Passes, Ran, Refused, act, answer, check, columns_wanted, made,
+    multipliers, new_step, normal, normalise, parameters, prepare, prepare_step, refuses,
+    run, run_depths, show_number, split, steps_output, translate, used, within)
+
+COUNTS = {"passed": 0, "failed": 0}
+
+
+def same(label, got, want):
+    good = got == want
+    COUNTS["passed" if good else "failed"] += 1
+    if not good:
+        print("%s: got %.300r, want %.300r" % (label, got, want))
+
+
+def holds(label, condition):
+    same(label, bool(condition), True)
+
+
+def ran(direction, definition, numbers, store=100):
+    return run(direction, prepare(definition), list(map(float, numbers)), [-7.0] * store)
+
+
+def bits(numbers):
+    return list(map(show_number, numbers))
+
+
+def checked(direction, definition):
+    return check(direction, prepare(definition))
+
+
+def number_of(definition):
+    """0 where the definition is accepted."""
+    answer = prepare(definition)
+    return answer.number if refuses(answer) else 0
+
+
+ONE = [1, 2, 3, 4]
+
+
+# ----- Document 01 -----------------------------------------------------------
+
+def examples():
+    same("P1", normalise(b"a : b $ c"), b"a:b $c")
+    same("P2", normalise(b"a > b < c"), b"a|omit_inv b|omit_fwd c")
+    same("P3", normalise(b": : a"), b":a")
+    same("P3 twice", normalise(normalise(b": : a")), b"a")
+    same("P4", split(b"inv a x=1 | | b"), b"a x=1 inv\nb\n")
+    same("P5", split(b"a >"), Refused(6, 2))
+    same("P6", parameters(b"a k=1 k=2 f b=c=d"), b"_name=a\nb=c\nf=true\nk=2\n")
+    same("P7", translate(b"proj=x step step"), b"x | step")
+    same("P8", translate(b"b=1 c=2 proj=x a=7 rf=9 k=3"), b"x c=2 b=1 k_0=3 ellps=7,9")
+    same("P9", translate(b"proj=x step inv"), Refused(5, 2))
+    same("P10", translate(b"proj=pipeline inv step proj=x step inv"), b"| x inv")
+    same("P11", ran(FWD, b"axisswap order=2,-1", ONE).numbers, [2, -1, 3, 4])
+    same("P11 inverse", ran(INV, b"axisswap order=2,-1", [2, -1, 3, 4]).numbers, ONE)
+    same("P12", ran(FWD, b"push v_1 v_2 v_3 | stack roll=3,2", ONE, 3).store, [2, 3, 1])
+    same("P12 negative", ran(FWD, b"push v_1 v_2 v_3 | stack roll=3,-2", ONE, 3).store, [3, 1, 2])
+    same("P13", checked(FWD, b"pop inv v_3 | push inv v_3"), Fails(1, True))
+
+
+def also():
+    same("4,096 bytes", normalise(b"x" * 4096), b"x" * 4096)
+    calls = (normalise, split, parameters, translate, prepare)
+    same("4,097 bytes", [call(b"x" * 4097) for call in calls], [Refused(1, 0)] * 5)
+    for arguments, number in ((b"1,0", 0), (b"3,3", 14), (b"0,0", 14)):
+        same("roll " + arguments.decode(), number_of(b"stack roll=" + arguments), number)
+    for order, number in ((b"1", 0), (b"1.0,2", 0), (b"2", 14), (b"1,1", 14), (b"1.5", 14),
+                          (b"-0", 14)):
+        same("order " + order.decode(), number_of(b"axisswap order=" + order), number)
+    same("eight arguments", number_of(b"stack push=1,1,1,1,1,1,1,1"), 0)
+    same("nine arguments", number_of(b"stack push=1,1,1,1,1,1,1,1,1"), 13)
+    deep = b"|".join([b"stack push=1,2,3,4,1,2,3,4"] * 8)
+    same("depth 64", checked(FWD, deep).deepest, 64)
+    same("depth 64 runs", ran(FWD, deep, ONE).left, 64)
+    same("depth 65", checked(FWD, deep + b"|push v_1"), Fails(9, False))
+    same("depth 65 runs", ran(FWD, deep + b"|push v_1", ONE), Refused(16, 9))
+    same("nwuf", ran(FWD, b"adapt from=nwuf", ONE).numbers, [2, -1, 3, 4])
+
+
+STEPS_INPUT = (b"+proj=pipeline +step +proj=push +v_3 +step +proj=axisswap +order=2,1 "
+               b"+step +proj=pop +v_3")
+STEPS_OUTPUT = b"""translated: push v_3 | axisswap order=2,1 | pop v_3
+step 1: push v_3
+step 2: axisswap order=2,1
+step 3: pop v_3
+forward: deepest 1 left 0 places 2,1,3,4
+inverse: deepest 1 left 0 places 2,1,3,4
+"""
+
+
+def program():
+    same("steps", steps_output(STEPS_INPUT), STEPS_OUTPUT)
+    same("20", steps_output(b"push\n"), b"translated: push\n\nstep 1: push\n"
+         b"forward: deepest 0 left 0 places 1,2,3,4\ninverse: deepest 0 left 0 places 1,2,3,4\n")
+    middling = b"proj=x " + b"a>" * 900
+    same("21 over 4,096", steps_output(middling),
+         b"translated: " + translate(middling) + b"\nrefused 1 0\n")
+    same("21 over 65,536", steps_output(long_translation()), b"refused 7 0\n")
+    same("21 over 4,096 in", steps_output(b"x" * 4097), b"refused 1 0\n")
+    same("22", steps_output(b"pop v_3"), b"translated: pop v_3\nstep 1: pop v_3\n"
+         b"forward: step 1 too few\ninverse: deepest 1 left 1 places 1,2,3,4\n")
+    same("22 prepare", steps_output(b"push | foo"),
+         b"translated: push | foo\nstep 1: push\nstep 2: foo\nrefused 10 2\n")
+    same("22 split", steps_output(b"push | inv"), b"translated: push | inv\nrefused 6 2\n")
+    same("23", steps_output(b""), b"translated: \nforward: deepest 0 left 0 places 1,2,3,4\n"
+         b"inverse: deepest 0 left 0 places 1,2,3,4\n")
+    same("adapt", steps_output(b"adapt omit_inv").splitlines()[2:],
+         [b"forward: deepest 0 left 0", b"inverse: deepest 0 left 0 places 1,2,3,4"])
+
+
+def slips():
+    same("exchange", translate(b"a=1 b=2 c=3 proj=x"), b"x b=2 c=3 a=1")
+    same("flip forward twice", ran(INV, b"stack flip=1,1 | stack pop=2,3", ONE).numbers,
+         ran(FWD, b"stack push=3,2 | stack flip=1,1", ONE).numbers)
+    same("flip=1,1", ran(FWD, b"stack push=3,2 | stack flip=1,1", ONE, 2)[2:],
+         ([3, 2, 3, 4], [2, 1]))
+    same("push | :inv", prepare(b"push | :inv"), Refused(6, 2))
+
+
+# ----- The points decided since ----------------------------------------------
+
+def long_translation():
+    return b"proj=pipeline y" + b">" * 2040 + b" step x" * 291
+
+
+def points_of_text():
+    same("1 a", prepare(b">:push"), [new_step(PUSH, [], omit_inv=1)])
+    same("1 b", prepare(b": :|push"), Refused(10, 1))
+    same("1 c", prepare(b">push: :"), Refused(10, 1))
+    same("1 d", ran(INV, b"push>:a _name=axisswap order=2,1", ONE).numbers, ONE)
+    same("1 e", prepare(b"|:inv axisswap order=2,-1="), [new_step(AXISSWAP, [2, -1], inv=1)])
+    same("2", prepare(b">" + b"x" * 4087), Refused(10, 1))
+    same("2 over", prepare(b">" + b"x" * 4088), Refused(1, 1))
+    same("3", len(normal(b">" * 4096)), 40959)
+    holds("3 translation", len(translate(long_translation())) > 5_900_000)
+    same("3 room", within(translate(long_translation()), 131072), Refused(7, 0))
+    same("4", split(b"| | inv"), Refused(6, 1))
+    same("4 translate", translate(b"proj=x step step inv"), Refused(5, 2))
+    same("4 6 before 8", split(b"a|" * 65 + b"inv"), Refused(6, 66))
+    same("4 8", split(b"a|" * 65), Refused(8, 0))
+    same("5 split", split(b"push | :inv"), b"push\n:inv\n")
+    same("5 parameters", parameters(b":inv"), Refused(6, 0))
+    same("5 foo", [prepare(b"foo | inv"), prepare(b"foo | :inv")], [Refused(6, 2), Refused(10, 1)])
+    same("5 separator", parameters(b"inv | inv"), b"_name=inv|inv\n")
+    same("6 comment", parameters(b"a # b"), b"#=true\n_name=a\nb=true\n")
+    same("6 split", split(b"a # b\rc"), b"a c\n")
+    same("6 CR", [normal(b"a\r:b"), normal(b"a\n:b"), normal(b"a\n::b")], [b"a:b", b"a b", b"a:b"])
+    same("6 1C", normal(b"\x1ca \x1f"), b"\x1ca \x1f")
+
+
+def points_of_values():
+    for text, number in ((b"push v_1=true=x", 0), (b"push v_1=", 12), (b"push v_1=TRUE", 12),
+                         (b"push v_1=no v_1", 0), (b"_name=push v_1", 0), (b"push _name", 10),
+                         (b"x=1 push", 10), (b"stack push", 12), (b"stack push=", 12),
+                         (b"axisswap order", 12), (b"adapt from", 14), (b"adapt from=", 14),
+                         (b"axisswap order=1,2,3,4,5", 14), (b"axisswap order=1,2,3,4,5,6,7,8", 14),
+                         (b"axisswap order=1,2,3,4,5,6,7,8,9", 13), (b"stack roll=1,-0", 0),
+                         (b"axisswap order=-0", 14), (b"stack roll=2.5,1", 14),
+                         (b"stack push=-1", 14),
+                         (b"pipeline", 10), (b"push _name=inv", 10)):
+        same("7 to 9, 19: " + text.decode(), number_of(text), number)
+    for one in (b"1.0", b"01", b"1.000000"):
+        same("9 " + one.decode(), prepare(b"axisswap order=" + one), [new_step(AXISSWAP, [1])])
+    keys = b"".join(b" k%d" % i for i in range(31))
+    same("7 keys", [prepare_step(b"push" + keys), prepare_step(b"push" + keys + b" x")], [11, 9])
+    same("7 distinct", prepare_step(b"push" + keys * 2), 11)
+    two = prepare(b"push|pop")
+    same("10", [within(two, room) for room in (1, 2)], [Refused(7, 0), two])
+    same("10 last", within(prepare(b"push|foo"), 0), Refused(10, 2))
+    same("11", [translate(t) for t in (b"inv proj=", b"proj=inv", b"proj=", b"proj=x init=y")],
+         [b"inv", Refused(5, 1), b"", b"x init=y"])
+    same("11 ellps", translate(b"proj=pipeline ellps=e step a=1 rf=2 proj=x k=3"),
+         b"x ellps=e k_0=3 ellps=1,2")
+    same("3 and 4", [translate(t) for t in (b"proj=x step init=a proj=y", b"init=proj",
+                                           b"proj=x step y proj=pipeline")],
+         [Refused(3, 2), Refused(3, 1), Refused(4, 2)])
+    same("lone global", translate(b"proj=pipeline omit_fwd step proj=a"), b"a omit_inv")
+    same("two globals", translate(b"proj=pipeline omit_fwd x=1 step proj=a"), b"a omit_fwd x=1")
+
+
+def points_of_steps():
+    deep = [new_step(STACK_PUSH, [1] * 8)] * 8
+    same("12", run(FWD, deep + [new_step(PUSH, [1])], [], []), Refused(16, 9))
+    back = [new_step(STACK_POP, [1] * 8)] * 9
+    same("12 inverse", run(INV, back, [], []), Refused(16, 1))
+    same("12 places", [ran(FWD, b"push v_1", [1]), ran(FWD, b"push v_1", ONE, 0)],
+         [Refused(15, 0), Refused(17, 0)])
+    same("13 stack", bits(ran(FWD, b"push v_1 | stack pop=1,2", ONE, 1).store), bits([1.0]))
+    taken = ran(FWD, b"push v_4 | pop v_3 v_4 v_2", ONE, 1)
+    same("13 pop", (taken.count, taken.left, bits(taken.numbers)),
+         (0, 0, bits([1.0, 2.0, math.nan, 4.0])))
+    starving = b"|".join([b"stack push=1,1,1,1,1,1,1,1"] * 8) + b"|stack roll=65,1|push v_1"
+    same("13 check", checked(FWD, starving), Fails(9, True))
+    same("13 run", ran(FWD, starving, ONE), Refused(16, 10))
+    same("14", checked(FWD, b"adapt"), Passes([0], 0, 0, None))
+    same("14 omitted", checked(FWD, b"adapt omit_fwd"), Passes([], 0, 0, ONE))
+    same("15", checked(INV, b"push v_1 | axisswap"), Fails(1, True))
+    counting = (b"push v_1|stack swap", b"stack swap", b"stack drop")
+    same("17", [ran(FWD, text, ONE * 2).count for text in counting], [2, 0, 0])
+    same("17 none", ran(FWD, b"push v_1", []), Ran(0, 1, [], [-7.0] * 100))
+    same("18", bits(ran(FWD, b"push v_1 v_2 | pop v_3 | stack roll=9,1", ONE, 4).store),
+         bits([1.0, 0.0, -7.0, -7.0]))
+    same("19", [act(INV, new_step(STACK_UNROLL, [3, -1])), act(FWD, new_step(STACK_ROLL, [3, -1]))],
+         [("roll", (3, 2))] * 2)
+
+
+def record_tests():
+    good = new_step(PUSH, [1, 3])
+    bad = [good._replace(operator=11), good._replace(operator=-1), good._replace(n=9),
+           good._replace(inv=2), good._replace(omit_fwd=2), good._replace(omit_inv=-1),
+           good._replace(n=1), new_step(PUSH, [3, 1]), new_step(PUSH, [1, 1]), new_step(PUSH, [5]),
+           new_step(STACK_PUSH, []), new_step(STACK_POP, [0]), new_step(STACK_ROLL, [3]),
+           new_step(STACK_ROLL, [1_000_000_000, 1]), new_step(STACK_ROLL, [3, 3]),
+           new_step(STACK_SWAP, [1]), new_step(AXISSWAP, []), new_step(AXISSWAP, [2]),
+           new_step(ADAPT, [1, 2, 3, 4]), new_step(ADAPT, [1, 2, 3, 4, 9, 9, 0, 0]),
+           new_step(ADAPT, [1, 2, 3, 4, 1, 0, 0, 0]), new_step(ADAPT, [1, 2, 3, 4, 1, 1, 0, 1]),
+           new_step(ADAPT, [1, 2, 3, 3, 0, 0, 0, 0])]
+    for step in bad:
+        same("16 %r" % (step,), made(step), False)
+    same("18 place", check(FWD, [good, bad[0], bad[1]]), Refused(18, 2))
+    same("18 over 64", run(FWD, [good] * 64 + [bad[0]], [1.0], []), Refused(18, 0))
+    same("18 before 15", run(FWD, [bad[0]], [1.0], []), Refused(18, 1))
+    same("64 records", check(FWD, [new_step(PUSH, [])] * 64).depths, [0] * 64)
+
+
+# ----- Adapt, the requests ---------------------------------------------------
+
+def adapt_tests():
+    same("degrees", bits(multipliers(prepare(b"adapt from=neuf_deg")[0].args)),
+         bits([math.pi / 180, math.pi / 180, 1.0, 1.0]))
+    same("gons to degrees", prepare(b"adapt from=enuf_gon to=seuf_deg inv"),
+         [new_step(ADAPT, [-2, 1, 3, 4, 7, 7, 0, 0], inv=1)])
+    same("inverse", bits(ran(INV, b"adapt from=wsuf to=neuf_deg", ONE).numbers),
+         bits([2 * (1 / (-1 / (math.pi / 180))), (1 / (-1 / (math.pi / 180))), 3.0, 4.0]))
+    same("no-op", bits(ran(FWD, b"adapt from=pass to=enuf_any", [-0.0] * 4).numbers),
+         bits([-0.0] * 4))
+    same("zeros", bits(ran(FWD, b"axisswap order=-1,2,-3", [0.0, -0.0, -0.0, 1.0]).numbers),
+         bits([-0.0, -0.0, 0.0, 1.0]))
+
+
+def requests():
+    for line, want in (
+            ("normalise 1 61", "ok 61"), ("normalise 0 61", "refused 7 0"),
+            ("normalise 0 -", "ok -"),
+            ("normalise 9 ff", "refused 2 0"), ("normalise 131072 -", "ok -"),
+            ("normalise 131073 -", "what"), ("normalise 1 6", "what"), ("normalise 1 6A", "what"),
+            ("normalise 1 ", "what"), ("normalise 1 61 ", "what"), ("", "what"),
+            ("write -", "what"),
+            ("prepare 1 " + b"inv stack roll=3,-2".hex(), "ok 1 stack.roll:i:3,-2"),
+            ("prepare 64 -", "ok 0"), ("prepare 65 -", "what"),
+            ("prepare 9 " + b"push|>axisswap|adapt omit_fwd|adapt to=seuf".hex(),
+             "ok 4 push:-:- axisswap:o:1,2,3,4 adapt:f:noop adapt:-:2,1,3,4,"
+             "bff0000000000000,3ff0000000000000,3ff0000000000000,3ff0000000000000"),
+            ("check fwd " + b"push v_1|axisswap order=-1".hex(), "passes 1 1 -1,2,3,4 1,1"),
+            ("check inv " + b"push v_1|axisswap order=-1".hex(), "fails 1 few"),
+            ("check fwd -", "passes 0 0 1,2,3,4 -"), ("check fwd 0a7c", "passes 0 0 1,2,3,4 -"),
+            ("check both -", "what"), ("check fwd " + b"foo".hex(), "refused 10 1"),
+            ("check fwd " + b"adapt".hex(), "passes 0 0 - 0"),
+            ("run fwd 2 " + b"push v_1".hex() + " zeros:4",
+             "ok 1 1 %s 0000000000000000,c01c000000000000" % ",".join(["0" * 16] * 4)),
+            ("run fwd 0 " + b"pop v_2".hex() + " zeros:4",
+             "ok 0 0 %s,nan,%s,%s -" % (("0" * 16,) * 3)),
+            ("run fwd 0 - -", "ok 0 0 - -"),
+            ("run fwd 0 - zeros:64", "ok 16 0 %s -" % ",".join(["0" * 16] * 64)),
+            ("run fwd 0 - zeros:68", "ok 17 0 - -"), ("run fwd 0 - zeros:262144", "ok 65536 0 - -"),
+            ("run fwd 0 - zeros:262148", "refused 15 0"), ("run fwd 0 - zeros:3", "refused 15 0"),
+            ("run fwd 0 - nan", "what"), ("run fwd 0 - 3ff0", "what"),
+            ("steps " + STEPS_INPUT.hex(), "ok " + STEPS_OUTPUT.hex())):
+        same(line[:40], answer(line), want)
+
+
+# ----- Laws that drawn inputs keep -------------------------------------------
+
+def every_adapt_is_made():
+    """Each record that passes the test for 18 is prepared from some text."""
+    rng = random.Random(1)
+    orders = [[axis * mark for axis, mark in zip(order, signs)]
+              for order in itertools.permutations((1, 2, 3, 4))
+              for signs in itertools.product((1, -1), repeat=4)]
+    steps = [new_step(ADAPT, order + [code, code, 0, 0]) for order in orders for code in CODES]
+    holds("every adapt made", all(map(made, steps)))
+    holds("every adapt written",
+          all(prepare(draw.step_text(rng, step)) == [step] for step in steps))
+
+
+def drawn_tables(rng):
+    direction = rng.choice((FWD, INV))
+    steps = draw.good_table(rng, direction)
+    text = draw.table_text(rng, steps)
+    prepared, verdict = prepare(text), check(direction, steps)
+    result = run(direction, steps, [1.0, 2.0, 3.0, 4.0], [-7.0] * 64)
+    foretold = not isinstance(verdict, Passes) or (
+        verdict.depths == run_depths(direction, steps) and verdict.left == result.left
+        and verdict.places in (None, result.numbers))
+    return prepared == steps and all(map(made, steps)) and foretold
+
+
+def drawn_wrongs(rng):
+    name = rng.choice(draw.NAMES)
+    number = rng.choice(draw.WRONGS[name])
+    text = b"push|" + draw.wrong_step(rng, name, number) + b"|pop"
+    return prepare(text) == Refused(number, 2)
+
+
+def drawn_round_trips(rng):
+    """Pushes, rolls and orders that pass forward are undone by their opposites."""
+    steps = [step._replace(omit_fwd=0) for step in draw.fed_table(rng, FWD)]
+    steps = [step for step in steps if step.operator in UNDOING]
+    if not isinstance(check(FWD, steps), Passes):
+        return True
+    answer = check(FWD, steps + [undoing(step) for step in steps[::-1]])
+    return (answer.left, answer.places) == (0, ONE)
+
+
+UNDOING = {PUSH: POP, STACK_PUSH: STACK_POP, STACK_ROLL: STACK_UNROLL, STACK_UNROLL: STACK_ROLL,
+           AXISSWAP: AXISSWAP}
+
+
+def undoing(step):
+    args = used(step)[::-1] if step.operator == STACK_PUSH else used(step)
+    inv = 1 - step.inv if step.operator == AXISSWAP else step.inv
+    return new_step(UNDOING[step.operator], args, inv)
+
+
+def drawn_starvation(rng):
+    """A step that asks for more columns than there are counts 0."""
+    direction = rng.choice((FWD, INV))
+    step = draw.record(rng, chance=0.0)
+    wanted = columns_wanted(*act(direction, step))
+    result = run(direction, [step], [1.0] * 8, [0.0] * 16)
+    return wanted == 0 or (result.count == 0 and any(number != number for number in result.numbers))
+
+
+def drawn():
+    every_adapt_is_made()
+    for law in (drawn_tables, drawn_wrongs, drawn_round_trips, drawn_starvation):
+        rng = random.Random(7)
+        same(law.__name__, [i for i in range(1500) if not law(rng)], [])
+
+
+def main():
+    for part in (examples, also, program, slips, points_of_text, points_of_values, points_of_steps,
+                 record_tests, adapt_tests, requests, drawn):
+        part()
+    print("%(passed)d passed, %(failed)d failed" % COUNTS)
+    return 1 if COUNTS["failed"] else 0
+
+
+if __name__ == "__main__":
+    sys.exit(main())
