@@ -80,7 +80,6 @@ no z = omega arith
 module _ {n : Bytes} {place : ℕ} {p : Bytes} {ps : List Bytes} (m : At n place p ps) where
   -- the piece is the part of the text from its place up to its end
   at-part : part place (place + length p) n ≡ p
-  unfolding part
   at-part = let e : place + length p - place ≡ length p = omega arith in rw (e, m .here) (take-at p (m .left) (length p) refl)
 
   at-left : drop (place + length p) n ≡ m .left

@@ -19,7 +19,7 @@ use Rattle.rules.specs.OwnRules.{valueOf, isGiven, mark, recordOf, recor
 use Rattle.rules.specs.Parameters.{parameter, name, elements, precedes, entered, enteredAll, tableOf, stepTable, textTable, parametersOf, parameterLine, parameters}
 use Rattle.rules.specs.Prepare.{judged14, judged11, named, judged10, judged, atStep, prepareStep, prepareSteps, prepare}
 use Rattle.rules.specs.Proj.{unplussed, isStep, cutAtStep, withoutNoise, projSteps, isProj, firstProj, inItsPlace, exchanged, hasKey, lastOf, withoutLast, composed, ellipsoid, scale, tidied}
-use Rattle.rules.specs.Reader.{found, next, part, walked}
+use Rattle.rules.specs.Reader.{found, next, walked}
 use Rattle.rules.specs.Record.{numberOf, operatorOf, arg, isPlace, isRising, isPlaces, isRoll, isDistinct, isOrder, isCode, isAdapt, isArgs, operator, args, unused, isSet, nineDigits, made, firstBad, refusal18, blank, listed}
 use Rattle.rules.specs.Refusal.{andThen, tested, lent, outcome, written, prepared}
 use Rattle.rules.specs.Run.{countFrom, count, passes64, badList, storeAfter, refused, finished, unless16, unless15, unless18, runs}
@@ -41,7 +41,7 @@ unfolding xor flatMap neg mul div eq ofInt ofFields ofBits places rolling unroll
     actions actionThen actionsGiven exactlyOne order wordGiven between ownRule parameter name elements precedes
     entered enteredAll tableOf stepTable textTable parametersOf parameterLine parameters judged14 judged11 named
     judged10 judged atStep prepareStep prepareSteps prepare unplussed isStep cutAtStep withoutNoise projSteps isProj
-    firstProj inItsPlace exchanged hasKey lastOf withoutLast composed ellipsoid scale tidied found next part walked
+    firstProj inItsPlace exchanged hasKey lastOf withoutLast composed ellipsoid scale tidied found next walked
     numberOf operatorOf arg isPlace isRising isPlaces isRoll isDistinct isOrder isCode isAdapt isArgs operator args
     unused isSet nineDigits made firstBad refusal18 blank listed andThen tested lent outcome written prepared
     countFrom count passes64 badList storeAfter refused finished unless16 unless15 unless18 runs modifier

@@ -54,6 +54,17 @@ pub enum Number {
     Not,
 }
 
+// A place in a normalised text, from which the walk over its steps goes on.
+pub struct Cursor {
+    pub at: usize,
+}
+
+// What the walk finds: a step, from its first byte up to the byte after its last, and where to go on; or the end.
+pub enum Found {
+    Step { from: usize, to: usize, then: Cursor },
+    End,
+}
+
 // What a text call answers: how many bytes it wrote, from the first of the lent buffer on; or the refusal's number and
 // place.
 pub enum Written {
