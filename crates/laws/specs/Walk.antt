@@ -11,6 +11,8 @@ use Rattle.rules.specs.Lists.{kept, nonEmpty}
 use Rattle.rules.specs.Text.{Bytes, onto, cut, words}
 use Rattle.rules.specs.Split.{stepsOf}
 use Rattle.rules.specs.Reader.{step, found, next, part, walked}
+use Rattle.rules.specs.declared.Cursor.{Cursor}
+use Rattle.rules.specs.declared.Found.the-variants.{Step, End}
 
 -- ---- a text is its first piece and what is left from the `|` on
 
@@ -117,35 +119,60 @@ pub walk : (normalised : Bytes) (place : ℕ) → stepsOf (drop place normalised
 unfolding stepsOf next
 walk normalised place = found-walks normalised place (cut (is "|") (drop place normalised)) (λ q qs e. refl)
 
--- What it finds lies ahead, is not empty, and stands within the text: the walk ends.
-pub record Ahead (normalised : Bytes) (place from to : ℕ) : Type 0 where
+-- What it finds lies ahead, is not empty, stands within the text, and has words; the reader goes on at its end: the walk
+-- ends.
+pub record Ahead (normalised : Bytes) (place from to : ℕ) (then : Cursor) : Type 0 where
   pub ahead : place ≤ from
   pub longer : from < to
   pub within : to ≤ length normalised
+  pub goes-on : then .at ≡ to
+  pub worded : nonEmpty (words (part from to normalised)) ≡ true
 
-worded : (p : Bytes) → nonEmpty (words p) ≡ true → 1 ≤ length p
+not-empty : (p : Bytes) → nonEmpty (words p) ≡ true → 1 ≤ length p
 unfolding words kept nonEmpty cut
-worded [] e = absurd (false≢true e)
-worded (x ∷ p) e = omega arith
+not-empty [] e = absurd (false≢true e)
+not-empty (x ∷ p) e = omega arith
 
-found-ahead : (n : Bytes) (place : ℕ) (ps : List Bytes) (from to : ℕ) → ((q : Bytes) (qs : List Bytes) → ps ≡ q ∷ qs → cut (is "|") (drop place n) ≡ ps) → found place ps ≡ step from to → Ahead n place from to
+found-ahead : (n : Bytes) (place : ℕ) (ps : List Bytes) (from to : ℕ) (then : Cursor)
+    → ((q : Bytes) (qs : List Bytes) → ps ≡ q ∷ qs → cut (is "|") (drop place n) ≡ ps) → found place ps ≡ Step from to then → Ahead n place from to then
 unfolding found
-found-ahead n place [] from to c f = let z : _≡_ {A = ℕ} 0 1 = cc in absurd (no z)
-found-ahead n place (p ∷ ps) from to c f = go (nonEmpty (words p)) refl f (found-ahead n (place + suc (length p)) ps from to (λ q qs e. at-next m q qs e ∙ sym e))
+found-ahead n place [] from to then c f = let z : _≡_ {A = ℕ} 0 1 = cc in absurd (no z)
+found-ahead n place (p ∷ ps) from to then c f =
+    go (nonEmpty (words p)) refl f (found-ahead n (place + suc (length p)) ps from to then (λ q qs e. at-next m q qs e ∙ sym e))
   where
     m : At n place p ps
     m = at n place p ps (c p ps refl)
 
-    go : (b : Bool) → nonEmpty (words p) ≡ b → cond b (step place (place + length p)) (found (place + suc (length p)) ps) ≡ step from to
-        → (found (place + suc (length p)) ps ≡ step from to → Ahead n (place + suc (length p)) from to) → Ahead n place from to
+    go : (b : Bool) → nonEmpty (words p) ≡ b → cond b (step place (place + length p)) (found (place + suc (length p)) ps) ≡ Step from to then
+        → (found (place + suc (length p)) ps ≡ Step from to then → Ahead n (place + suc (length p)) from to then) → Ahead n place from to then
     go true w e h =
-        let l = worded p w in
+        let l = not-empty p w in
         let k : length (drop place n) ≡ length p + length (m .left) = rw (m .here) (length-append p (m .left)) in
         let a : place ≡ from = cc e in
         let b : place + length p ≡ to = cc e in
-        record { ahead = omega arith; longer = omega arith; within = omega (arith, length-drop place n) }
-    go false w e h = let r = h e in record { ahead = omega (arith, r .ahead); longer = r .longer; within = r .within }
+        let t : _≡_ {A = Cursor} (record { at = place + length p }) then = cc e in
+        record {
+          ahead = omega arith;
+          longer = omega arith;
+          within = omega (arith, length-drop place n);
+          goes-on = sym (ap (λ (x : Cursor). x .at) t) ∙ b;
+          worded = rw (← a, ← b, at-part m) w;
+        }
+    go false w e h =
+        let r = h e in
+        record { ahead = omega (arith, r .ahead); longer = r .longer; within = r .within; goes-on = r .goes-on; worded = r .worded }
 
-pub walk-ahead : (normalised : Bytes) (place from to : ℕ) → next normalised place ≡ step from to → Ahead normalised place from to
+pub walk-ahead : (normalised : Bytes) (place from to : ℕ) (then : Cursor) → next normalised place ≡ Step from to then → Ahead normalised place from to then
 unfolding next
-walk-ahead normalised place from to f = found-ahead normalised place (cut (is "|") (drop place normalised)) from to (λ q qs e. refl) f
+walk-ahead normalised place from to then f =
+    found-ahead normalised place (cut (is "|") (drop place normalised)) from to then (λ q qs e. refl) f
+
+-- the steps from the reader's place on, where it finds one, and where it finds none
+pub walk-step : (normalised : Bytes) (place from to : ℕ) (then : Cursor) → next normalised place ≡ Step from to then
+    → stepsOf (drop place normalised) ≡ words (part from to normalised) ∷ stepsOf (drop (then .at) normalised)
+unfolding walked
+walk-step normalised place from to then f = walk normalised place ∙ ap (walked normalised) f
+
+pub walk-end : (normalised : Bytes) (place : ℕ) → next normalised place ≡ End → stepsOf (drop place normalised) ≡ []
+unfolding walked
+walk-end normalised place f = walk normalised place ∙ ap (walked normalised) f

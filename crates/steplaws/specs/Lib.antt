@@ -1,0 +1,19 @@
+-- Theorems about the definitions of preparing, check and run.
+pub mod Tests
+pub mod Depth
+pub mod Verdict
+pub mod Places
+pub mod Keeps
+pub mod Named
+pub mod Lengths
+pub mod Foretold
+pub mod Runs
+pub mod Walk
+pub mod Operators
+pub mod Series
+pub mod Slots
+pub mod Words
+pub mod Arguments
+pub mod Made
+pub mod Ieee
+pub mod Factors

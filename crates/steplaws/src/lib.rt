@@ -1,0 +1,1 @@
+// Theorems about the definitions of `rules` on preparing, check and run, in specs/. No code stands here.
