@@ -61,7 +61,11 @@ pub struct Cursor {
 
 // What the walk finds: a step, from its first byte up to the byte after its last, and where to go on; or the end.
 pub enum Found {
-    Step { from: usize, to: usize, then: Cursor },
+    Step {
+        from: usize,
+        to: usize,
+        then: Cursor,
+    },
     End,
 }
 
