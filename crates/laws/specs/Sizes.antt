@@ -156,7 +156,7 @@ squeezed-weight t = squeezing t .0
 
 -- ---- the normal form
 
-newline-weight : (t : Bytes) → weight (continued t) ≤ weight t
+pub newline-weight : (t : Bytes) → weight (continued t) ≤ weight t
 unfolding continued ascii weight weightOf
 newline-weight t = replace-weight (ascii "\n:") (ascii "\n") t (omega arith) (omega arith)
 
@@ -210,15 +210,36 @@ unfolding weight flatMap uncommented trimStart white
 lines-front [] = omega arith
 lines-front (p ∷ ps) = let u = before (is "#") p ++ flatMap uncommented ps in omega (arith, space, trimStart-weight white u)
 
-lined-weight : (t : Bytes) → weight (normal (lined t)) ≤ weight t
+lined-front : (t : Bytes) → weight (trimStart white (lined t)) ≤ weight t
 unfolding lined
-lined-weight t = omega (arith, normal-weight (lined t), lines-front (cut (is "\n") t), lines-weight t)
+lined-front t = omega (arith, lines-front (cut (is "\n") t), lines-weight t)
 
-newlines-weight : (t : Bytes) → weight (newlines t) ≤ weight t
+lined-weight : (t : Bytes) → weight (normal (lined t)) ≤ weight t
+lined-weight t = omega (arith, normal-weight (lined t), lined-front t)
+
+-- the lines themselves, with the space in front of the first
+pub lined-longer : (t : Bytes) → weight (lined t) ≤ suc (weight t)
+unfolding lined
+lined-longer t = lines-weight t
+
+pub lined-trimmed : (t : Bytes) → weight (trimmed white (lined t)) ≤ weight t
+unfolding trimmed
+lined-trimmed t = omega (arith, trimEnd-weight white (trimStart white (lined t)), lined-front t)
+
+pub newlines-weight : (t : Bytes) → weight (newlines t) ≤ weight t
 unfolding newlines ascii weight weightOf
 newlines-weight t =
     let u = replace (ascii "\r\n") (ascii "\n") t in
     omega (arith, replace-weight (ascii "\r\n") (ascii "\n") t (omega arith) (omega arith), replace-weight (ascii "\r") (ascii "\n") u (omega arith) (omega arith))
+
+-- what is normalised in splitting
+pub stripped-weight : (t : Bytes) → weight (trimmed white (stripped t)) ≤ weight t
+unfolding stripped
+stripped-weight t =
+    let a = trimmed white t in
+    let b = newlines a in
+    let c = continued b in
+    omega (arith, lined-trimmed c, newline-weight b, newlines-weight a, trimmed-weight white t)
 
 -- what is cut into steps
 pub steps-length : (t : Bytes) → length (normal (stripped t)) ≤ 10 * length t

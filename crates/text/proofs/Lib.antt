@@ -1,0 +1,6 @@
+pub mod Writing
+pub mod Finding
+pub mod Replacing
+pub mod Squeezing
+pub mod Trimming
+pub mod Domain

@@ -1,0 +1,2 @@
+-- What the contracts of the fields' readers cite.
+pub mod Bounds

@@ -1,0 +1,23 @@
+// The fields of the protocol that the program `answers` speaks: a line is cut into fields, and numbers and texts
+// are read and written. Nothing here reads or writes a file. Each function is proved safe and ending; a contract
+// says beyond that what a caller needs: a place within the line, a number within its bound, how many bytes were
+// written.
+mod line;
+mod read;
+mod store;
+mod write;
+
+pub use line::field;
+pub use line::fields;
+pub use line::find;
+pub use line::same;
+pub use read::Natural;
+pub use read::Text;
+pub use read::read_natural;
+pub use read::read_text;
+pub use store::fill;
+pub use store::is_all;
+pub use store::to_front;
+pub use write::put;
+pub use write::put_decimal;
+pub use write::put_hex;
