@@ -7,6 +7,7 @@ use crate::out::say;
 use crate::out::say_number;
 use crate::out::say_text;
 use rules::Written;
+use split::split;
 use token::normalise;
 use wire::Natural;
 use wire::Text;
@@ -28,12 +29,16 @@ enum Request {
 // The calls that take a text and write a text.
 enum TextCall {
     Normalise,
+    Split,
 }
 
 // Which request a line's first field names.
 fn asked(word: &[u8]) -> Request {
     if wire::same(word, b"normalise") {
         return Request::Text(TextCall::Normalise);
+    }
+    if wire::same(word, b"split") {
+        return Request::Text(TextCall::Split);
     }
     Request::Nothing
 }
@@ -42,6 +47,7 @@ fn asked(word: &[u8]) -> Request {
 fn call(which: TextCall, text: &[u8], lent: &mut [u8]) -> Written {
     match which {
         TextCall::Normalise => normalise(text, lent),
+        TextCall::Split => split(text, lent),
     }
 }
 

@@ -1,5 +1,5 @@
 -- A promise, return by return: these serve every call that reads a text and writes into lent storage.
-use mathlib.Core.Path.{_≡_, refl, sym, ap}
+use mathlib.Core.Path.{_≡_, refl, sym, ap, _∙_}
 use Prim.Native.Nat.{ℕ, _≤_, _<_}
 use mathlib.Core.Bool.{Bool, true, false, cond, not}
 use mathlib.Core.List.{List, _++_}
@@ -38,6 +38,31 @@ module _ {A R : Type 0} {inWords : Reply ℕ → R} {own : Bytes → Reply (List
       → r ≡ length xs → out′ ≡ xs ++ drop r out → Promised inWords own t out (inWords (answers r)) out′
   unfolding outcome lent tested
   answered {xs} h d o l c w = record { exactly = rw (w, c, le-ltb 4096 (length t) h, d, o, le-ltb (length out) (length xs) l) }
+
+-- ---- for what a text call does once the text is known to be short and in the domain
+
+-- a reply brought into the lent buffer
+pub record Lends (reply : Reply Bytes) (out : Bytes) (result : Written) (out′ : Bytes) : Type 0 where
+  pub exactly : _≡_ {A = Written × Bytes} (result, out′) (lent written reply out)
+
+module _ {reply : Reply Bytes} {out : Bytes} where
+  pub lends-refusal : {number place : ℕ} → reply ≡ refuses number place → Lends reply out (variant.Refused number place) out
+  unfolding lent written
+  lends-refusal e = record { exactly = rw e }
+
+  pub lends-no-room : {text : Bytes} → reply ≡ answers text → length out < length text → Lends reply out (variant.Refused 7 0) out
+  unfolding lent written
+  lends-no-room {text} e l = record { exactly = rw (e, lt-ltb (length out) (length text) l) }
+
+  pub lends-text : {text out′ : Bytes} {r : ℕ} → reply ≡ answers text → length text ≤ length out → r ≡ length text → out′ ≡ text ++ drop r out
+      → Lends reply out (variant.Wrote r) out′
+  unfolding lent written
+  lends-text {text} e l c w = record { exactly = rw (w, c, e, le-ltb (length out) (length text) l) }
+
+pub lends-so : {own : Bytes → Reply Bytes} {t out out′ : Bytes} {r : Written} {reply : Reply Bytes} → length t ≤ 4096 → inDomain t ≡ true → own t ≡ reply
+    → Lends reply out r out′ → Writes own t out r out′
+unfolding outcome tested
+lends-so {own} {t} {out} h d e w = record { exactly = w .exactly ∙ sym (rw (le-ltb 4096 (length t) h, d, e)) }
 
 -- ---- for the callers of a text call
 

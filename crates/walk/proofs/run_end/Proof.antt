@@ -1,0 +1,61 @@
+use Prim.Native.Nat.{_-_}
+use mathlib.Core.Path.{sym, _∙_}
+use lib.ListN.{length}
+use Rattle.walk.specs.Runs.{isOf}
+use Rattle.walk.proofs.Walking.{Scan, scan-none, scan-next, scan-here, scan-end}
+use borrow.Author.Needs.{needs}
+use Rattle.walk.proofs.run_end.Statement.{statement}
+use Rattle.walk.proofs.run_end.Tie as tie
+
+abbrev Inv-loop : tie.InvT-loop
+Inv-loop kind s at i₀ i = Scan (isOf kind) s at i
+
+abbrev μ-loop : tie.MeasureT-loop
+μ-loop kind s at i₀ i = length s - i
+
+-- src/lib.rt:67:5
+loop-holds : tie.Need-loop-holds Inv-loop μ-loop
+loop-holds c = scan-none _ _ _ (c .before .pre)
+
+-- src/lib.rt:68:24
+shared-slice-read-is-of : tie.Need-shared-slice-read-is-of Inv-loop μ-loop
+shared-slice-read-is-of c = search needs
+
+-- src/lib.rt:68:12
+is-of-requires : tie.Need-is-of-requires Inv-loop μ-loop
+is-of-requires c κs = search needs
+
+-- src/lib.rt:69:13
+add-i : tie.Need-add-i Inv-loop μ-loop
+add-i c = search needs
+
+-- src/lib.rt:67:5
+loop-less : tie.Need-loop-less Inv-loop μ-loop
+loop-less c = search needs
+
+-- src/lib.rt:67:5
+loop-again : tie.Need-loop-again Inv-loop μ-loop
+loop-again c = scan-next (c .before .before .before .before .loop .inv) (c .before .before .before .loop-test .taken) (sym (c .before .is-of .ensures) ∙ c .if1 .taken)
+
+-- src/lib.rt:71:13
+returns : tie.Need-returns Inv-loop μ-loop
+returns c = scan-here (c .before .before .before .before .loop .inv) (c .before .before .before .loop-test .taken) (sym (c .before .is-of .ensures) ∙ c .if1 .left)
+
+-- src/lib.rt:62:1
+returns-2 : tie.Need-returns-2 Inv-loop μ-loop
+returns-2 c = scan-end (c .before .loop .inv) (c .loop-test .left)
+
+pub run-end-spec : {M : Type 1} → statement M
+run-end-spec =
+    tie.close
+    (tie.spec
+    Inv-loop
+    μ-loop
+    loop-holds
+    shared-slice-read-is-of
+    is-of-requires
+    add-i
+    loop-less
+    loop-again
+    returns
+    returns-2)
