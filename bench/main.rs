@@ -34,6 +34,7 @@ struct Reply {
 type Call = unsafe extern "C" fn(*const u8, usize, *mut u8, usize) -> Reply;
 unsafe extern "C" {
     fn sakondreno_normalise(text: *const u8, text_len: usize, out: *mut u8, out_len: usize) -> Reply;
+    fn sakondreno_split(text: *const u8, text_len: usize, out: *mut u8, out_len: usize) -> Reply;
 }
 
 fn proved(call: Call, text: &[u8], out: &mut [u8]) -> usize {
@@ -65,10 +66,31 @@ fn normalise_proved(text: &[u8], out: &mut [u8]) -> usize {
     proved(sakondreno_normalise, text, out)
 }
 
+#[inline(never)]
+fn split_rust(text: &[u8], out: &mut [u8]) -> usize {
+    let mut n = 0;
+    for step in read(text).split_into_steps() {
+        n += put(&mut out[n..], &step);
+        out[n] = b'\n';
+        n += 1;
+    }
+    n
+}
+#[inline(never)]
+fn split_proved(text: &[u8], out: &mut [u8]) -> usize {
+    proved(sakondreno_split, text, out)
+}
+
 // a call, the Rust, the proved code, and the piece that its text repeats
-const PAIRS: [(&str, Side, Side, &str); 1] = [("normalise", normalise_rust, normalise_proved, PIPELINE)];
+const PAIRS: [(&str, Side, Side, &str); 2] = [
+    ("normalise", normalise_rust, normalise_proved, PIPELINE),
+    ("split", split_rust, split_proved, LONG_STEPS),
+];
 
 const PIPELINE: &str = "  push v_3 | axisswap order = 2 , 1  > adapt from=neuf_deg   to: enuf < helmert x₁= 87 y₂ =-96 $ z \n: pop  v_3 |";
+
+// For `split`, which takes at most 64 steps: longer ones.
+const LONG_STEPS: &str = "  push v_3 | axisswap order = 2 , 1  a_long_key = 1234567890 , 1234567890   another = value  > adapt from=neuf_deg   to: enuf < helmert x₁= 87 y₂ =-96 $ z \n: x = 1 y = 2 # a comment\n inv one = 1 two = 2 three = 3 four = 4 five = 5 six = 6 seven = 7 | pop  v_3 eight = 8 nine = 9 ten = 10 eleven = 11 twelve = 12 thirteen = 13 fourteen = 14 fifteen = 15 sixteen = 16 seventeen = 17 |";
 
 // A text of exactly `size` bytes: no clock and no randomness in it.
 fn text(piece: &str, size: usize) -> Vec<u8> {

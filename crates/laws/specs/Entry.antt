@@ -39,6 +39,27 @@ module _ {A R : Type 0} {inWords : Reply ℕ → R} {own : Bytes → Reply (List
   unfolding outcome lent tested
   answered {xs} h d o l c w = record { exactly = rw (w, c, le-ltb 4096 (length t) h, d, o, le-ltb (length out) (length xs) l) }
 
+-- a promise, told in other words
+abbrev told : {A R S : Type 0} → (R → S) → R × List A → S × List A
+told f x = (f (x .0), x .1)
+
+told-cond : {A R S : Type 0} (f : R → S) (b : Bool) (x y : R × List A) → cond b (told f x) (told f y) ≡ told f (cond b x y)
+told-cond f true x y = refl
+told-cond f false x y = refl
+
+lent-told : {A R S : Type 0} (inWords : Reply ℕ → R) (f : R → S) (reply : Reply (List A)) (storage : List A)
+    → lent (λ (x : Reply ℕ). f (inWords x)) reply storage ≡ told f (lent inWords reply storage)
+unfolding lent
+lent-told inWords f (refuses number place) storage = refl
+lent-told inWords f (answers xs) storage =
+    told-cond f (ltb (length storage) (length xs)) (inWords (refuses 7 0), storage) (inWords (answers (length xs)), xs ++ drop (length xs) storage)
+
+pub in-other-words : {A R S : Type 0} {inWords : Reply ℕ → R} (f : R → S) {own : Bytes → Reply (List A)} {t : Bytes} {storage storage′ : List A} {r : R}
+    → Promised inWords own t storage r storage′ → Promised (λ (x : Reply ℕ). f (inWords x)) own t storage (f r) storage′
+unfolding outcome
+in-other-words {A} {R} {S} {inWords} f {own} {t} {storage} {storage′} {r} p =
+    record { exactly = ap (told f) (p .exactly) ∙ sym (lent-told inWords f (tested own t) storage) }
+
 -- ---- for what a text call does once the text is known to be short and in the domain
 
 -- a reply brought into the lent buffer
