@@ -14,10 +14,9 @@ use Rattle.rules.specs.declared.Cursor.{Cursor}
 use Rattle.rules.specs.declared.Found.the-variants.{Step, End}
 use Rattle.laws.specs.Passes.{inWord, grow, words-cons}
 use Rattle.laws.specs.Walk.{walk-ahead, walk-step, walk-end}
-use Rattle.text.specs.Writing.{Wrote}
+use Rattle.text.specs.Writing.{Wrote, WroteAt}
 use Rattle.text.proofs.Writing.{Sofar, sofar-start, sofar-part, sofar-part-room, sofar-end, sofar-length}
 use Rattle.split.specs.Lines.{linesOf}
-use Rattle.split.specs.Writing.{WroteAt}
 use Rattle.walk.proofs.Leading.{words-nil}
 
 -- ---- how long they are

@@ -26,11 +26,11 @@ ghost use Rattle.rules.specs.Comments.{newlines, lined, stripped};
 ghost use Rattle.rules.specs.Normal.{normal};
 ghost use Rattle.laws.specs.Entry.{Lends};
 ghost use Rattle.laws.specs.Sizes.{weight};
-ghost use Rattle.text.specs.Writing.{Wrote, Holds};
+ghost use Rattle.text.specs.Writing.{Wrote, Holds, WroteAt};
 ghost use Rattle.split.specs.Faults.{faultOf};
 ghost use Rattle.split.specs.declared.Fault.the-variants.{Nothing};
 ghost use Rattle.split.specs.Lines.{left, linesOf, splitNormal};
-ghost use Rattle.split.specs.Writing.{WroteAt, spaced};
+ghost use Rattle.split.specs.Writing.{spaced};
 
 // "a text .. is over 4,096 bytes": 1
 const MOST: usize = 4096;

@@ -1,4 +1,5 @@
 pub mod Writing
+pub mod Placing
 pub mod Finding
 pub mod Replacing
 pub mod Squeezing

@@ -2,7 +2,7 @@
 use mathlib.Core.Path.{_≡_}
 use Prim.Native.Nat.{ℕ}
 use mathlib.Core.List.{_++_}
-use lib.ListN.{length, drop}
+use lib.ListN.{length, take, drop}
 use Rattle.rules.specs.Text.{Bytes}
 
 -- `dst`, which was `dst₀`, has `text` from its first byte on, and is as it was after that; `r` is the text's length
@@ -13,3 +13,7 @@ pub record Wrote (text dst₀ : Bytes) (r : ℕ) (dst : Bytes) : Type 0 where
 -- `buf` has `text` in its first r bytes, and nothing is said of those after it
 abbrev pub Holds : Bytes → ℕ → Bytes → Type 0
 Holds text r buf = Wrote text buf r buf
+
+-- `dst`, which was `dst₀`, has `text` from `at` up to `r`, and is as it was before and behind it
+pub record WroteAt (text dst₀ : Bytes) (at r : ℕ) (dst : Bytes) : Type 0 where
+  pub wrote : Wrote (take at dst₀ ++ text) dst₀ r dst

@@ -192,8 +192,9 @@ unfolding nonEmpty inWord
 edge-words [] u v e x r z = rw words-nil
 edge-words (y ∷ t) u v e x r z = words-append (y ∷ t) u (ap inWord z ∙ sym (ap (λ (w : Bytes). inWord (w ++ v)) z) ∙ e)
 
-module _ {s : Bytes} {k a e : ℕ} (m : Leads s k) (p : Run white s k a) (q : Run (other white) s a e) where
-  -- the word from a to e stands behind white space
+-- ---- the words from a place on: white space up to a, a word up to e
+
+module _ {s : Bytes} {k a e : ℕ} (p : Run white s k a) (q : Run (other white) s a e) where
   one-word : a < e → words (part a e s) ≡ part a e s ∷ []
   one-word h =
       let z = part-some s a e h (q .within) in
@@ -204,33 +205,12 @@ module _ {s : Bytes} {k a e : ℕ} (m : Leads s k) (p : Run white s k a) (q : Ru
       ap words (part-rest s k a (p .ahead)) ∙ words-white (part k a s) (drop a s) (p .whole)
       ∙ ap words (part-rest s a e (q .ahead)) ∙ words-append (part a e s) (drop e s) (word-edge q)
 
-  -- a modifier more
-  pub leads-longer : modifier (part a e s) ≡ true → a < e
-  unfolding modifier same ascii
-  leads-longer f = elim (decLt a e) [ yes h ↦ h | no h ↦ absurd (false≢true (sym (empty (omega arith)) ∙ f)) ]
-    where
-      empty : e ≤ a → modifier (part a e s) ≡ false
-      empty h = let n : e - a ≡ 0 = omega arith in ap (λ (j : ℕ). modifier (take j (drop a s))) n
+  -- a word, and those behind it
+  pub word-there : a < e → words (drop k s) ≡ part a e s ∷ words (drop e s)
+  word-there h = behind-k ∙ ap (λ (u : Words). u ++ words (drop e s)) (one-word h)
 
-  pub leads-more : modifier (part a e s) ≡ true → Leads s e
-  leads-more f =
-      let h = leads-longer f in
-      let k≤e : k ≤ e = omega (arith, p .ahead, q .ahead) in
-      let j : part k e s ≡ part k a s ++ part a e s = part-join s k a e (p .ahead) (q .ahead) in
-      let w : words (part k e s) ≡ part a e s ∷ [] = ap words j ∙ words-white (part k a s) (part a e s) (p .whole) ∙ one-word h in
-      let z = part-some s k e (omega (arith, p .ahead)) (q .within) in
-      let g : (nonEmpty (take k s) && inWord (part k e s ++ drop e s)) ≡ false = ap (λ (u : Bytes). nonEmpty (take k s) && inWord u) (sym (part-rest s k e k≤e)) ∙ m .edge in
-      let t : words (take e s) ≡ words (take k s) ++ (part a e s ∷ []) =
-      ap words (take-part s k e k≤e) ∙ edge-words (take k s) (part k e s) (drop e s) g _ _ z ∙ ap (λ (u : Words). words (take k s) ++ u) w in
-      record {
-        within = q .within;
-        modifiers = ap (all modifier) t ∙ all-more (words (take k s)) (part a e s) (m .modifiers) f;
-        whole = ap words (sym (take-append-drop e s)) ∙ words-append (take e s) (drop e s) (word-edge q);
-        edge = ap (λ (b : Bool). nonEmpty (take e s) && b) (word-edge q) ∙ and-false (nonEmpty (take e s));
-      }
-
-  -- another word, or none
-  none-left : e ≤ a → words (drop k s) ≡ []
+  -- or none
+  pub none-left : e ≤ a → words (drop k s) ≡ []
   unfolding all
   none-left h =
       let z : e ≡ a = omega (arith, q .ahead) in
@@ -247,15 +227,42 @@ module _ {s : Bytes} {k a e : ℕ} (m : Leads s k) (p : Run white s k a) (q : Ru
               let d : not (white (getD s a 0)) ≡ false = ap (λ (j : ℕ). not (white (getD s j 0))) (sym z) ∙ run-stops q g in
               true≢false (ap not (sym b) ∙ d)
 
+module _ {s : Bytes} {k a e : ℕ} (m : Leads s k) (p : Run white s k a) (q : Run (other white) s a e) where
+  -- a modifier more
+  pub leads-longer : modifier (part a e s) ≡ true → a < e
+  unfolding modifier same ascii
+  leads-longer f = elim (decLt a e) [ yes h ↦ h | no h ↦ absurd (false≢true (sym (empty (omega arith)) ∙ f)) ]
+    where
+      empty : e ≤ a → modifier (part a e s) ≡ false
+      empty h = let n : e - a ≡ 0 = omega arith in ap (λ (j : ℕ). modifier (take j (drop a s))) n
+
+  pub leads-more : modifier (part a e s) ≡ true → Leads s e
+  leads-more f =
+      let h = leads-longer f in
+      let k≤e : k ≤ e = omega (arith, p .ahead, q .ahead) in
+      let j : part k e s ≡ part k a s ++ part a e s = part-join s k a e (p .ahead) (q .ahead) in
+      let w : words (part k e s) ≡ part a e s ∷ [] = ap words j ∙ words-white (part k a s) (part a e s) (p .whole) ∙ one-word p q h in
+      let z = part-some s k e (omega (arith, p .ahead)) (q .within) in
+      let g : (nonEmpty (take k s) && inWord (part k e s ++ drop e s)) ≡ false = ap (λ (u : Bytes). nonEmpty (take k s) && inWord u) (sym (part-rest s k e k≤e)) ∙ m .edge in
+      let t : words (take e s) ≡ words (take k s) ++ (part a e s ∷ []) =
+      ap words (take-part s k e k≤e) ∙ edge-words (take k s) (part k e s) (drop e s) g _ _ z ∙ ap (λ (u : Words). words (take k s) ++ u) w in
+      record {
+        within = q .within;
+        modifiers = ap (all modifier) t ∙ all-more (words (take k s)) (part a e s) (m .modifiers) f;
+        whole = ap words (sym (take-append-drop e s)) ∙ words-append (take e s) (drop e s) (word-edge q);
+        edge = ap (λ (b : Bool). nonEmpty (take e s) && b) (word-edge q) ∙ and-false (nonEmpty (take e s));
+      }
+
+  -- another word, or none
   stops : modifier (part a e s) ≡ false → (leading (words (drop k s)) ≡ []) × (following (words (drop k s)) ≡ words (drop k s))
   unfolding leading following
   stops f = elim (decLt a e) [ yes h ↦ word h | no h ↦ none (omega arith) ]
     where
       word : a < e → (leading (words (drop k s)) ≡ []) × (following (words (drop k s)) ≡ words (drop k s))
-      word h = let b : words (drop k s) ≡ part a e s ∷ words (drop e s) = behind-k ∙ ap (λ (u : Words). u ++ words (drop e s)) (one-word h) in rw (b, f) (refl, refl)
+      word h = rw (word-there p q h, f) (refl, refl)
 
       none : e ≤ a → (leading (words (drop k s)) ≡ []) × (following (words (drop k s)) ≡ words (drop k s))
-      none h = rw (none-left h) (refl, refl)
+      none h = rw (none-left p q h) (refl, refl)
 
   pub leads-here : modifier (part a e s) ≡ false → Lead s k
   leads-here f =

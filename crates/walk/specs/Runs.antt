@@ -10,13 +10,14 @@ use Rattle.rules.specs.Text.{Bytes, white, words}
 use Rattle.rules.specs.Split.{leading, following}
 use Rattle.rules.specs.Reader.{part}
 use Rattle.walk.specs.declared.Kind.{Kind}
-use Rattle.walk.specs.declared.Kind.the-variants.{Piece, White, Word}
+use Rattle.walk.specs.declared.Kind.the-variants.{Piece, White, Word, Key}
 
 -- is the byte of that kind?
 abbrev pub isOf : Kind → ℕ → Bool
 isOf Piece b = not (is "|" b)
 isOf White b = white b
 isOf Word b = not (white b)
+isOf Key b = not (is "=" b)
 
 -- the run from one place goes up to the other: every byte passes the test, and it ends at one that does not, or with the text
 pub record Run (test : ℕ → Bool) (s : Bytes) (from to : ℕ) : Type 0 where

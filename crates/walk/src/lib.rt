@@ -35,6 +35,8 @@ pub enum Kind {
     White,
     // anything but white space
     Word,
+    // anything but `=`
+    Key,
 }
 
 // Is b of that kind?
@@ -45,6 +47,7 @@ fn is_of(kind: Kind, b: u8) -> bool
         Kind::Piece => b != 124,
         Kind::White => is_white(b),
         Kind::Word => !is_white(b),
+        Kind::Key => b != 61,
     }
 }
 

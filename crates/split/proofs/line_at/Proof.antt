@@ -1,7 +1,7 @@
 use mathlib.Core.Path.{_∙_}
 use Prim.Native.Nat.{ℕ}
 use lib.ListN.{length-set}
-use Rattle.split.proofs.Stepping.{line-room, line-place, line-done}
+use Rattle.text.proofs.Placing.{line-room, line-place, line-done}
 use borrow.Author.Needs.{needs}
 use Rattle.split.proofs.line_at.Statement.{statement}
 use Rattle.split.proofs.line_at.Tie as tie

@@ -1,6 +1,6 @@
 use Prim.Native.Nat.{ℕ, _-_}
 use lib.ListN.{length}
-use Rattle.split.proofs.Stepping.{part-wrote, part-room, part-fits}
+use Rattle.text.proofs.Placing.{part-wrote, part-room, part-fits}
 use native.Mathlib.Omega.{arith}
 use borrow.Rule.Slice.PartMut.{same-len-mid}
 use borrow.Author.Needs.{needs}

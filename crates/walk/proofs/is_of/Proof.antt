@@ -24,6 +24,9 @@ enum-told-3 c = search needs
 is-white-requires-2 : tie.Need-is-white-requires-2
 is-white-requires-2 c κs = search needs
 
+enum-told-4 : tie.Need-enum-told-4
+enum-told-4 c = search needs
+
 -- src/lib.rt:51:1
 returns : tie.Need-returns
 returns c = rw (c .enum-told .given .1)
@@ -36,6 +39,10 @@ returns-2 c = rw (c .before .enum-told2 .given .1) (c .is-white .ensures)
 returns-3 : tie.Need-returns-3
 returns-3 c = rw (c .before .enum-told3 .given .1) (ap not (c .is-white2 .ensures))
 
+-- src/lib.rt:51:1
+returns-4 : tie.Need-returns-4
+returns-4 c = rw (c .enum-told4 .given .1)
+
 pub is-of-spec : {M : Type 1} → statement M
 is-of-spec =
     tie.close
@@ -45,6 +52,8 @@ is-of-spec =
     is-white-requires
     enum-told-3
     is-white-requires-2
+    enum-told-4
     returns
     returns-2
-    returns-3)
+    returns-3
+    returns-4)

@@ -1,0 +1,5 @@
+pub mod Growing
+pub mod Comparing
+pub mod Placing
+pub mod Inserting
+pub mod Entering
