@@ -85,6 +85,15 @@ pub lends-so : {own : Bytes → Reply Bytes} {t out out′ : Bytes} {r : Written
 unfolding outcome tested
 lends-so {own} {t} {out} h d e w = record { exactly = w .exactly ∙ sym (rw (le-ltb 4096 (length t) h, d, e)) }
 
+-- the first two refusals of a text call
+pub writes-long : {own : Bytes → Reply Bytes} {t out : Bytes} → 4096 < length t → Writes own t out (variant.Refused 1 0) out
+unfolding written
+writes-long l = too-long l
+
+pub writes-outside : {own : Bytes → Reply Bytes} {t out : Bytes} → length t ≤ 4096 → inDomain t ≡ false → Writes own t out (variant.Refused 2 0) out
+unfolding written
+writes-outside h d = not-text h d
+
 -- ---- for the callers of a text call
 
 -- where the call answers, the answer stands at the buffer's front, and the rest is as it was

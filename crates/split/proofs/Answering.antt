@@ -8,13 +8,13 @@ use lib.ListN.{length, take}
 use lib.Dec.{ltb}
 use Rattle.rules.specs.Lists.{any, placeOf}
 use Rattle.rules.specs.Text.{Bytes, Steps, white, inDomain, trimmed}
-use Rattle.rules.specs.Refusal.{Reply, answers, refuses, andThen, written, Writes}
+use Rattle.rules.specs.Refusal.{Reply, answers, refuses, andThen, Writes}
 use Rattle.rules.specs.Normal.{normal}
 use Rattle.rules.specs.Comments.{stripped}
 use Rattle.rules.specs.Split.{onlyModifiers, stepsOf, steps, stepText, splitSteps, line, split}
 use Rattle.rules.specs.declared.Written.{Written}
 use Rattle.rules.specs.declared.Written.the-variants as variant
-use Rattle.laws.specs.Entry.{Lends, lends-no-room, lends-text, lends-so, too-long, not-text}
+use Rattle.laws.specs.Entry.{Lends, lends-no-room, lends-text, lends-so}
 use Rattle.laws.specs.Sizes.{weight, weight-length, steps-length, stripped-weight}
 use Rattle.text.specs.Writing.{Wrote, Holds}
 use Rattle.text.proofs.Writing.{wrote-front}
@@ -113,14 +113,6 @@ module _ (t : Bytes) {a : Bytes} {n : ℕ} (w : Holds (normal (stripped t)) n a)
 
   pub split-so : {out out′ : Bytes} {r : Written} → length t ≤ 4096 → inDomain t ≡ true → Lends (splitNormal (take n a)) out r out′ → Writes split t out r out′
   split-so h d v = lends-so h d (is-split t) (rw (wrote-front w) at v)
-
-pub refused-long : {t out : Bytes} → 4096 < length t → Writes split t out (variant.Refused 1 0) out
-unfolding written
-refused-long l = too-long l
-
-pub refused-text : {t out : Bytes} → length t ≤ 4096 → inDomain t ≡ false → Writes split t out (variant.Refused 2 0) out
-unfolding written
-refused-text h d = not-text h d
 
 -- a text of so many bytes, ten times as long, has room
 pub tenfold : (t : Bytes) (most : ℕ) {x y : ℕ} → length t ≤ most → 10 * most ≤ x → x ≡ y → 10 * length t ≤ y

@@ -1,6 +1,6 @@
 -- Writing the steps' lines: the laws of writing from a place on, of a step's text, and of the loop over the steps.
 use mathlib.Core.Path.{_≡_, refl, sym, ap, _∙_, subst}
-use mathlib.Core.Bool.{Bool, true, false, cond, not, _&&_, false≢true, true≢false}
+use mathlib.Core.Bool.{true, false, not, false≢true}
 use mathlib.Core.List.{[], _∷_, _++_, append-assoc}
 use Prim.Native.Nat.{ℕ, _+_, _-_, _≤_, _<_}
 use native.Mathlib.Omega.{arith}
@@ -12,21 +12,14 @@ use Rattle.text.specs.Writing.{WroteAt}
 use Rattle.text.proofs.Placing.{wrote-nothing, wrote-both, wrote-room, wrote-byte}
 use Rattle.walk.specs.Runs.{Lead}
 use Rattle.split.specs.Writing.{spaced}
-use Rattle.walk.proofs.Walking.{words-blank}
-use Rattle.walk.proofs.Leading.{part-from}
+use Rattle.walk.proofs.Walking.{words-blank, words-none}
+use Rattle.walk.proofs.Leading.{part-from, following-some}
 
 -- ---- words, each after a space
 
-blank-none : (t : Bytes) → all white t ≡ true → words t ≡ []
-blank-none t e = go (words t) (words-blank t ∙ ap not e)
-  where
-    go : (ws : Words) → nonEmpty ws ≡ false → ws ≡ []
-    go [] f = refl
-    go (w ∷ ws) f = unfold nonEmpty in absurd (true≢false f)
-
 pub spaced-none : (t : Bytes) → all white t ≡ true → spaced (words t) ≡ []
 unfolding afterEach
-spaced-none t e = ap spaced (blank-none t e)
+spaced-none t e = ap spaced (words-none t e)
 
 pub spaced-some : (t : Bytes) → all white t ≡ false → spaced (words t) ≡ (32 ∷ []) ++ joined (words t)
 spaced-some t e = go (words t) (words-blank t ∙ ap not e)
@@ -36,15 +29,6 @@ spaced-some t e = go (words t) (words-blank t ∙ ap not e)
     go (w ∷ ws) f = unfold afterEach joined joinedBy in refl
 
 -- ---- a step's text
-
-following-some : (ws : Words) → all modifier ws ≡ false → nonEmpty (following ws) ≡ true
-unfolding all following
-following-some [] e = absurd (true≢false e)
-following-some (w ∷ ws) e = go (modifier w) e (following-some ws)
-  where
-    go : (b : Bool) → (b && all modifier ws) ≡ false → (all modifier ws ≡ false → nonEmpty (following ws) ≡ true) → nonEmpty (cond b (following ws) (w ∷ ws)) ≡ true
-    go true f h = h f
-    go false f h = unfold nonEmpty in refl
 
 spaced-append : (ws us : Words) → spaced (ws ++ us) ≡ spaced ws ++ spaced us
 unfolding afterEach

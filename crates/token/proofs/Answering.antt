@@ -1,6 +1,6 @@
 -- Each return of `normalise` is the one that its promise names.
 use mathlib.Core.Path.{_≡_, refl}
-use mathlib.Core.Bool.{true, false}
+use mathlib.Core.Bool.{true}
 use Prim.Native.Nat.{ℕ, _≤_, _<_}
 use native.Mathlib.Omega.{arith}
 use lib.ListN.{length, take}
@@ -8,7 +8,7 @@ use Rattle.rules.specs.Text.{Bytes, inDomain}
 use Rattle.rules.specs.Normal.{normal, normalise}
 use Rattle.rules.specs.Refusal.{answers, written, Writes}
 use Rattle.rules.specs.declared.Written.the-variants as variant
-use Rattle.laws.specs.Entry.{too-long, not-text, no-room, answered}
+use Rattle.laws.specs.Entry.{no-room, answered}
 use Rattle.text.specs.Writing.{Wrote, Holds}
 use Rattle.text.proofs.Writing.{wrote-front}
 
@@ -27,11 +27,3 @@ module _ {t out a : Bytes} {n : ℕ} (short : length t ≤ 4096) (domain : inDom
   wrote-answer l w =
       let v = rw (wrote-front h) at w in
       answered short domain (is-normal t) (omega (arith, h .count)) (v .count) (v .whole)
-
-pub refused-long : {t out : Bytes} → 4096 < length t → Writes normalise t out (variant.Refused 1 0) out
-unfolding written
-refused-long l = too-long l
-
-pub refused-text : {t out : Bytes} → length t ≤ 4096 → inDomain t ≡ false → Writes normalise t out (variant.Refused 2 0) out
-unfolding written
-refused-text h d = not-text h d

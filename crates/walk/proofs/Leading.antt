@@ -298,6 +298,10 @@ not-not : (b : Bool) → not (not b) ≡ b
 not-not true = refl
 not-not false = refl
 
+-- where not all words are modifiers, there is a word after those in front
+pub following-some : (ws : Words) → all modifier ws ≡ false → nonEmpty (following ws) ≡ true
+following-some ws e = sym (not-not (nonEmpty (following ws))) ∙ ap not (following-all ws ∙ e)
+
 -- the part of a text from a place on
 pub part-from : (s : Bytes) (k : ℕ) → take (length s - k) (drop k s) ≡ drop k s
 part-from s k = take-all (length s - k) (drop k s) (omega (arith, length-drop k s))

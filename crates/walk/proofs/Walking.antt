@@ -59,6 +59,13 @@ words-blank (x ∷ t) = rw (words-cons x t) (go (white x) (words-blank t))
     go true h = h
     go false h = grow-nonEmpty x (inWord t) (words t)
 
+pub words-none : (t : Bytes) → all white t ≡ true → words t ≡ []
+words-none t e = go (words t) (words-blank t ∙ ap not e)
+  where
+    go : (ws : Words) → nonEmpty ws ≡ false → ws ≡ []
+    go [] f = refl
+    go (w ∷ ws) f = unfold nonEmpty in absurd (true≢false f)
+
 -- ---- a run
 
 pub record Scan (test : ℕ → Bool) (s : Bytes) (from i : ℕ) : Type 0 where

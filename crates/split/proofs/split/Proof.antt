@@ -1,13 +1,13 @@
 use mathlib.Core.Path.{sym, _∙_}
 use borrow.Author.Tests.{not-true, not-false}
-use Rattle.split.proofs.Answering.{refused-long, refused-text}
+use Rattle.laws.specs.Entry.{writes-long, writes-outside}
 use borrow.Author.Needs.{needs}
 use Rattle.split.proofs.split.Statement.{statement}
 use Rattle.split.proofs.split.Tie as tie
 
 -- src/lib.rt:422:9
 returns : tie.Need-returns
-returns c = refused-long (c .if1 .taken)
+returns c = writes-long (c .if1 .taken)
 
 -- src/lib.rt:427:9
 in-domain-requires : tie.Need-in-domain-requires
@@ -15,7 +15,7 @@ in-domain-requires c κs = search needs
 
 -- src/lib.rt:428:9
 returns-2 : tie.Need-returns-2
-returns-2 c = refused-text (c .before .before .if1 .left) (sym (c .before .in-domain .ensures) ∙ not-true _ (c .if2 .taken))
+returns-2 c = writes-outside (c .before .before .if1 .left) (sym (c .before .in-domain .ensures) ∙ not-true _ (c .if2 .taken))
 
 -- src/lib.rt:434:9
 short-requires : tie.Need-short-requires

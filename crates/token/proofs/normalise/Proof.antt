@@ -2,18 +2,18 @@
 use borrow.Author.Needs.{needs}
 use mathlib.Core.Path.{sym, _∙_}
 use borrow.Author.Tests.{not-true, not-false}
-use Rattle.token.proofs.Answering.{refused-long, refused-text}
+use Rattle.laws.specs.Entry.{writes-long, writes-outside}
 use Rattle.token.proofs.normalise.Statement.{statement}
 use Rattle.token.proofs.normalise.Tie as tie
 
 returns : tie.Need-returns
-returns c = refused-long (c .if1 .taken)
+returns c = writes-long (c .if1 .taken)
 
 in-domain-requires : tie.Need-in-domain-requires
 in-domain-requires c κs = search needs
 
 returns-2 : tie.Need-returns-2
-returns-2 c = refused-text (c .before .before .if1 .left) (sym (c .before .in-domain .ensures) ∙ not-true _ (c .if2 .taken))
+returns-2 c = writes-outside (c .before .before .if1 .left) (sym (c .before .in-domain .ensures) ∙ not-true _ (c .if2 .taken))
 
 short-requires : tie.Need-short-requires
 short-requires c κs = (c .before .if3 .taken, sym (c .before .before .before .in-domain .ensures) ∙ not-false _ (c .before .before .if2 .left))

@@ -1,0 +1,65 @@
+-- A step's elements as parts of a text that also spells `_name` and `true`.
+use mathlib.Core.Path.{_≡_}
+use mathlib.Core.Bool.{Bool, true, false, cond}
+use mathlib.Core.List.{List, [], _∷_, map, flatMap}
+use Prim.Native.Nat.{ℕ, _+_, _<_}
+use lib.ListN.{length}
+use Rattle.rules.specs.Ascii.{ascii, is}
+use Rattle.rules.specs.Lists.{any}
+use Rattle.rules.specs.Text.{Bytes, Words}
+use Rattle.rules.specs.Parameters.{Parameter, parameter, name, elements, enteredAll, tableOf, stepTable, textTable, parameterLine}
+use Rattle.rules.specs.Refusal.{Reply, answers, andThen}
+use Rattle.rules.specs.Reader.{part}
+use Rattle.table.specs.Parts.{partOf, listed, Within, Good}
+use Rattle.table.specs.declared.Part.{Part}
+use Rattle.table.specs.declared.Parts.{Parts}
+use Rattle.table.specs.declared.Entered.{Entered}
+
+-- from n on, the text spells `_name` and `true`, and then it ends
+pub record Spelt (s : Bytes) (n : ℕ) : Type 0 where
+  pub ends : n + 9 ≡ length s
+  pub name-there : part n (n + 5) s ≡ ascii "_name"
+  pub true-there : part (n + 5) (n + 9) s ≡ ascii "true"
+
+-- the parameter that an element is: the first, if it has no `=`, is the name
+unfoldable pub element : Bool → Bytes → Parameter
+element first w = cond first (cond (any (is "=") w) (parameter w) (name w)) (parameter w)
+
+-- the parameters of words, of which the first may be the name
+unfoldable pub elementsFrom : Bool → Words → List Parameter
+elementsFrom first ws = cond first (elements ws) (map parameter ws)
+
+-- the word of the text from one place up to another, as an element
+pub record IsPart (s : Bytes) (from to : ℕ) (first : Bool) (p : Part) : Type 0 where
+  pub within : Within s p
+  pub spells : partOf s p ≡ element first (part from to s)
+
+-- "parameters as `key=value`, are written each with a newline after it": those of a table
+abbrev pub linesOf : Bytes → Parts → Bytes
+linesOf s t = flatMap parameterLine (listed s t)
+
+-- what entering parameters one after the other gives: the table with them, or that they have no room
+pub record EntersAll (s : Bytes) (t : Parts) (ps : List Parameter) (r : Entered) : Type 0 where
+  pub table : r .full ≡ false → listed s (r .table) ≡ enteredAll ps (listed s t)
+  pub good : r .full ≡ false → Good s (r .table)
+  pub no-room : r .full ≡ true → 32 < length (enteredAll ps (listed s t))
+
+-- the table of a step's words, or that it has no room
+pub record Tabled (s : Bytes) (ws : Words) (r : Entered) : Type 0 where
+  pub table : r .full ≡ false → listed s (r .table) ≡ tableOf ws
+  pub good : r .full ≡ false → Good s (r .table)
+  pub no-room : r .full ≡ true → 32 < length (tableOf ws)
+
+-- the reply that a table is written as
+abbrev written : Reply (List Parameter) → Reply Bytes
+written reply = andThen reply (λ table. answers (flatMap parameterLine table))
+
+-- for a step's words, for a text with a separator, and for any normalised text
+abbrev pub stepReply : Words → Reply Bytes
+stepReply ws = written (stepTable ws)
+
+abbrev pub nameReply : Bytes → Reply Bytes
+nameReply normalised = answers (flatMap parameterLine (name normalised ∷ []))
+
+abbrev pub textReply : Bytes → Reply Bytes
+textReply normalised = written (textTable normalised)

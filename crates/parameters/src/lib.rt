@@ -1,0 +1,298 @@
+// Cutting a step into its parameters. The Rust is `split_into_parameters` of src/token/mod.rs.
+use rules::Written;
+use table::Entered;
+use table::Part;
+use table::Parts;
+use table::empty;
+use table::enter;
+use text::in_domain;
+use text::put;
+use token::normal_of;
+use walk::Kind;
+use walk::is_blank;
+use walk::is_lead;
+use walk::lead_end;
+use walk::run_end;
+ghost use mathlib.Core.Path.{_≡_};
+ghost use mathlib.Core.Bool.{true, false};
+ghost use Prim.Native.Nat.{_+_, _*_, _≤_};
+ghost use lib.ListN.{length, take, drop};
+ghost use Rattle.rules.specs.Lists.{all};
+ghost use Rattle.rules.specs.Text.{words, inDomain};
+ghost use Rattle.rules.specs.Refusal.{answers, Writes};
+ghost use Rattle.rules.specs.Split.{modifier};
+ghost use Rattle.rules.specs.Parameters.{parameterLine, parameters};
+ghost use Rattle.laws.specs.Entry.{Lends};
+ghost use Rattle.text.specs.Writing.{Wrote, WroteAt};
+ghost use Rattle.table.specs.Parts.{partOf, Within, Good};
+ghost use Rattle.parameters.specs.Elements.{Spelt, IsPart, elementsFrom, EntersAll, Tabled, linesOf, stepReply, nameReply, textReply};
+
+// "a text .. is over 4,096 bytes": 1
+const MOST: usize = 4096;
+
+// A text of so few bytes, ten times as long, has room in 4,096 with nine bytes behind it.
+const FEW: usize = 408;
+
+// The parameter that the word of s from `from` up to `to` is. At `n` stand `_name` and `true`, for a word without `=`: the
+// first is the name, another has the value `true`.
+fn part_of(s: &[u8], from: usize, to: usize, n: usize, first: bool) -> Part
+    requires { ⌜ Spelt (now s) n ⌝ }
+    requires { ⌜ (from ≤ to) × (to ≤ length (now s)) ⌝ }
+    ensures { λ r. ⌜ IsPart (now (s .entry)) from to first r ⌝ }
+{
+    let q = run_end(Kind::Key, &s[from..to], 0);
+    if q < to - from {
+        let r = run_end(Kind::Key, &s[from..to], q + 1);
+        return Part {
+            key: from,
+            key_end: from + q,
+            value: from + q + 1,
+            value_end: from + r,
+        };
+    }
+    if first {
+        return Part {
+            key: n,
+            key_end: n + 5,
+            value: from,
+            value_end: to,
+        };
+    }
+    Part {
+        key: from,
+        key_end: to,
+        value: n + 5,
+        value_end: n + 9,
+    }
+}
+
+// Enters the words of s from `from` up to `to` into the table, one after the other, until one finds no room. The first of
+// them may be the name.
+fn enter_words(s: &[u8], t: Parts, from: usize, to: usize, n: usize, first: bool) -> Entered
+    requires { ⌜ Spelt (now s) n ⌝ }
+    requires { ⌜ (from ≤ to) × (to ≤ length (now s)) ⌝ }
+    requires { ⌜ Good (now s) t ⌝ }
+    ensures { λ r. ⌜ EntersAll (now (s .entry)) t (elementsFrom first (words (drop from (take to (now (s .entry)))))) r ⌝ }
+{
+    let mut table = t;
+    let mut name = first;
+    let mut k = from;
+    while k < to {
+        let a = run_end(Kind::White, &s[..to], k);
+        let e = run_end(Kind::Word, &s[..to], a);
+        if e <= a {
+            return Entered {
+                full: false,
+                table: table,
+            };
+        }
+        let entered = enter(s, table, part_of(s, a, e, n, name));
+        if entered.full {
+            return entered;
+        }
+        table = entered.table;
+        name = false;
+        k = e;
+    }
+    Entered {
+        full: false,
+        table: table,
+    }
+}
+
+// The table of a step's words, which stand in the first n bytes of s: those after the modifiers in front, then these.
+fn table_of(s: &[u8], n: usize) -> Entered
+    requires { ⌜ Spelt (now s) n ⌝ }
+    requires { ⌜ all modifier (words (take n (now s))) ≡ false ⌝ }
+    ensures { λ r. ⌜ Tabled (now (s .entry)) (words (take n (now (s .entry)))) r ⌝ }
+{
+    let k = lead_end(&s[..n]);
+    let first = enter_words(s, empty(), k, n, n, true);
+    if first.full {
+        return first;
+    }
+    enter_words(s, first.table, 0, k, n, false)
+}
+
+// Writes a parameter as `key=value`, with a newline after it.
+fn line_at(s: &[u8], p: Part, dst: &mut [u8], at: usize) -> usize
+    requires { ⌜ Within (now s) p ⌝ }
+    requires { ⌜ at + length (parameterLine (partOf (now s) p)) ≤ length (now dst) ⌝ }
+    ensures { λ r. ⌜ WroteAt (parameterLine (partOf (now (s .entry)) p)) (now (dst .entry)) at r (now (dst .exit)) ⌝ }
+{
+    let key = p.key;
+    let key_end = p.key_end;
+    let value = p.value;
+    let value_end = p.value_end;
+    let o = put(&s[key..key_end], dst, at);
+    dst[o] = 61;
+    let e = put(&s[value..value_end], dst, o + 1);
+    dst[e] = 10;
+    e + 1
+}
+
+// Writes all parameters of a table.
+fn lines_of(s: &[u8], t: Parts, dst: &mut [u8]) -> usize
+    requires { ⌜ Good (now s) t ⌝ }
+    requires { ⌜ length (linesOf (now s) t) ≤ length (now dst) ⌝ }
+    ensures { λ r. ⌜ Wrote (linesOf (now (s .entry)) t) (now (dst .entry)) r (now (dst .exit)) ⌝ }
+{
+    let parts = t.parts;
+    let count = t.n;
+    let mut i = 0;
+    let mut o = 0;
+    while i < count {
+        let p = parts[i];
+        o = line_at(s, p, dst, o);
+        i += 1;
+    }
+    o
+}
+
+// How many bytes they are.
+fn length_of(s: &[u8], t: Parts) -> usize
+    requires { ⌜ Good (now s) t ⌝ }
+    requires { ⌜ length (now s) ≤ 40969 ⌝ }
+    ensures { λ r. ⌜ r ≡ length (linesOf (now (s .entry)) t) ⌝ }
+{
+    let parts = t.parts;
+    let count = t.n;
+    let mut i = 0;
+    let mut n = 0;
+    while i < count {
+        let p = parts[i];
+        n += p.key_end - p.key;
+        n += p.value_end - p.value;
+        n += 2;
+        i += 1;
+    }
+    n
+}
+
+// Writes the parameters of a table into out, or refuses 7.
+fn lines_out(s: &[u8], t: Parts, out: &mut [u8]) -> Written
+    requires { ⌜ Good (now s) t ⌝ }
+    requires { ⌜ length (now s) ≤ 40969 ⌝ }
+    ensures { λ r. ⌜ Lends (answers (linesOf (now (s .entry)) t)) (now (out .entry)) r (now (out .exit)) ⌝ }
+{
+    let m = length_of(s, t);
+    if out.len() < m {
+        return Written::Refused {
+            number: 7,
+            place: 0,
+        };
+    }
+    Written::Wrote(lines_of(s, t, out))
+}
+
+// Writes the parameters of a step, which stands in the first n bytes of s: 6, 9, then 7.
+fn step_out(s: &[u8], n: usize, out: &mut [u8]) -> Written
+    requires { ⌜ Spelt (now s) n ⌝ }
+    requires { ⌜ length (now s) ≤ 40969 ⌝ }
+    ensures { λ r. ⌜ Lends (stepReply (words (take n (now (s .entry))))) (now (out .entry)) r (now (out .exit)) ⌝ }
+{
+    if is_blank(&s[..n]) {
+        return Written::Wrote(0);
+    }
+    if is_lead(&s[..n]) {
+        return Written::Refused {
+            number: 6,
+            place: 0,
+        };
+    }
+    let t = table_of(s, n);
+    if t.full {
+        return Written::Refused {
+            number: 9,
+            place: 0,
+        };
+    }
+    lines_out(s, t.table, out)
+}
+
+// Writes the first n bytes of s as the value of `_name`.
+fn name_out(s: &[u8], n: usize, out: &mut [u8]) -> Written
+    requires { ⌜ Spelt (now s) n ⌝ }
+    requires { ⌜ length (now s) ≤ 40969 ⌝ }
+    ensures { λ r. ⌜ Lends (nameReply (take n (now (s .entry)))) (now (out .entry)) r (now (out .exit)) ⌝ }
+{
+    let p = Part {
+        key: n,
+        key_end: n + 5,
+        value: 0,
+        value_end: n,
+    };
+    let e = enter(s, empty(), p);
+    lines_out(s, e.table, out)
+}
+
+// Writes the parameters of a normalised text, the first n bytes of s.
+fn text_out(s: &[u8], n: usize, out: &mut [u8]) -> Written
+    requires { ⌜ Spelt (now s) n ⌝ }
+    requires { ⌜ length (now s) ≤ 40969 ⌝ }
+    ensures { λ r. ⌜ Lends (textReply (take n (now (s .entry)))) (now (out .entry)) r (now (out .exit)) ⌝ }
+{
+    let e = run_end(Kind::Piece, &s[..n], 0);
+    if e < n {
+        return name_out(s, n, out);
+    }
+    step_out(s, n, out)
+}
+
+// The answer for a text that is neither too long nor outside the domain; a and b are room to work in. Behind the normal
+// form stand the words that a parameter may have and the text has not.
+fn answer(text: &[u8], out: &mut [u8], a: &mut [u8], b: &mut [u8]) -> Written
+    requires { ⌜ length (now text) ≤ 4096 ⌝ }
+    requires { ⌜ inDomain (now text) ≡ true ⌝ }
+    requires { ⌜ 10 * length (now text) + 9 ≤ length (now a) ⌝ }
+    requires { ⌜ 10 * length (now text) ≤ length (now b) ⌝ }
+    ensures { λ r. ⌜ Writes parameters (now (text .entry)) (now (out .entry)) r (now (out .exit)) ⌝ }
+{
+    let n = normal_of(text, a, b);
+    let m = put(b"_nametrue", a, n);
+    text_out(&a[..m], n, out)
+}
+
+// The same over buffers of its own, for a short text and for any.
+fn short(text: &[u8], out: &mut [u8]) -> Written
+    requires { ⌜ length (now text) ≤ 408 ⌝ }
+    requires { ⌜ inDomain (now text) ≡ true ⌝ }
+    ensures { λ r. ⌜ Writes parameters (now (text .entry)) (now (out .entry)) r (now (out .exit)) ⌝ }
+{
+    let mut a = [0u8; 4096];
+    let mut b = [0u8; 4096];
+    answer(text, out, &mut a, &mut b)
+}
+
+fn long(text: &[u8], out: &mut [u8]) -> Written
+    requires { ⌜ length (now text) ≤ 4096 ⌝ }
+    requires { ⌜ inDomain (now text) ≡ true ⌝ }
+    ensures { λ r. ⌜ Writes parameters (now (text .entry)) (now (out .entry)) r (now (out .exit)) ⌝ }
+{
+    let mut a = [0u8; 40969];
+    let mut b = [0u8; 40960];
+    answer(text, out, &mut a, &mut b)
+}
+
+// Cuts text into its parameters, each as `key=value` with a newline after it, into out from its first byte. It refuses 1,
+// 2, 6, 9, then 7, and then out is as it was.
+pub fn parameters(text: &[u8], out: &mut [u8]) -> Written
+    ensures { λ r. ⌜ Writes parameters (now (text .entry)) (now (out .entry)) r (now (out .exit)) ⌝ }
+{
+    if MOST < text.len() {
+        return Written::Refused {
+            number: 1,
+            place: 0,
+        };
+    }
+    if !in_domain(text) {
+        return Written::Refused {
+            number: 2,
+            place: 0,
+        };
+    }
+    if text.len() <= FEW {
+        return short(text, out);
+    }
+    long(text, out)
+}
