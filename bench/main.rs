@@ -35,6 +35,7 @@ type Call = unsafe extern "C" fn(*const u8, usize, *mut u8, usize) -> Reply;
 unsafe extern "C" {
     fn sakondreno_normalise(text: *const u8, text_len: usize, out: *mut u8, out_len: usize) -> Reply;
     fn sakondreno_split(text: *const u8, text_len: usize, out: *mut u8, out_len: usize) -> Reply;
+    fn sakondreno_parameters(text: *const u8, text_len: usize, out: *mut u8, out_len: usize) -> Reply;
 }
 
 fn proved(call: Call, text: &[u8], out: &mut [u8]) -> usize {
@@ -81,16 +82,37 @@ fn split_proved(text: &[u8], out: &mut [u8]) -> usize {
     proved(sakondreno_split, text, out)
 }
 
+#[inline(never)]
+fn parameters_rust(text: &[u8], out: &mut [u8]) -> usize {
+    let mut n = 0;
+    for (key, value) in read(text).split_into_parameters() {
+        n += put(&mut out[n..], &key);
+        out[n] = b'=';
+        n += 1 + put(&mut out[n + 1..], &value);
+        out[n] = b'\n';
+        n += 1;
+    }
+    n
+}
+#[inline(never)]
+fn parameters_proved(text: &[u8], out: &mut [u8]) -> usize {
+    proved(sakondreno_parameters, text, out)
+}
+
 // a call, the Rust, the proved code, and the piece that its text repeats
-const PAIRS: [(&str, Side, Side, &str); 2] = [
+const PAIRS: [(&str, Side, Side, &str); 3] = [
     ("normalise", normalise_rust, normalise_proved, PIPELINE),
     ("split", split_rust, split_proved, LONG_STEPS),
+    ("parameters", parameters_rust, parameters_proved, ONE_STEP),
 ];
 
 const PIPELINE: &str = "  push v_3 | axisswap order = 2 , 1  > adapt from=neuf_deg   to: enuf < helmert x₁= 87 y₂ =-96 $ z \n: pop  v_3 |";
 
 // For `split`, which takes at most 64 steps: longer ones.
 const LONG_STEPS: &str = "  push v_3 | axisswap order = 2 , 1  a_long_key = 1234567890 , 1234567890   another = value  > adapt from=neuf_deg   to: enuf < helmert x₁= 87 y₂ =-96 $ z \n: x = 1 y = 2 # a comment\n inv one = 1 two = 2 three = 3 four = 4 five = 5 six = 6 seven = 7 | pop  v_3 eight = 8 nine = 9 ten = 10 eleven = 11 twelve = 12 thirteen = 13 fourteen = 14 fifteen = 15 sixteen = 16 seventeen = 17 |";
+
+// For `parameters`, which takes at most 32 keys: a step without a separator, whose keys come again and again.
+const ONE_STEP: &str = "  adapt from=neuf_deg   to: enuf helmert x₁= 87 y₂ =-96 $ z \n: order = 2 , 1 rotation = 0.1 inv scale =1 position_vector exact = 1,2,3 ";
 
 // A text of exactly `size` bytes: no clock and no randomness in it.
 fn text(piece: &str, size: usize) -> Vec<u8> {

@@ -6,6 +6,7 @@ ghost use Rattle.answering.specs.Storage.{Filled, Storage};
 use crate::out::say;
 use crate::out::say_number;
 use crate::out::say_text;
+use parameters::parameters;
 use rules::Written;
 use split::split;
 use token::normalise;
@@ -30,6 +31,7 @@ enum Request {
 enum TextCall {
     Normalise,
     Split,
+    Parameters,
 }
 
 // Which request a line's first field names.
@@ -40,6 +42,9 @@ fn asked(word: &[u8]) -> Request {
     if wire::same(word, b"split") {
         return Request::Text(TextCall::Split);
     }
+    if wire::same(word, b"parameters") {
+        return Request::Text(TextCall::Parameters);
+    }
     Request::Nothing
 }
 
@@ -48,6 +53,7 @@ fn call(which: TextCall, text: &[u8], lent: &mut [u8]) -> Written {
     match which {
         TextCall::Normalise => normalise(text, lent),
         TextCall::Split => split(text, lent),
+        TextCall::Parameters => parameters(text, lent),
     }
 }
 

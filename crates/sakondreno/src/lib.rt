@@ -5,6 +5,7 @@ ghost use mathlib.Core.Path.{_≡_};
 ghost use Rattle.rules.specs.Refusal.{Promised};
 ghost use Rattle.rules.specs.Normal.{normalise};
 ghost use Rattle.rules.specs.Split.{split};
+ghost use Rattle.rules.specs.Parameters.{parameters};
 ghost use Rattle.sakondreno.specs.Replies.{plain, replied};
 
 // What a text call answers: number 0 and the length of the answer, which stands at the front of the lent buffer; or the
@@ -47,4 +48,12 @@ pub extern "C" fn sakondreno_split(text: &[u8], out: &mut [u8]) -> Answer
     ensures { λ r. ⌜ Promised replied split (now (text .entry)) (now (out .entry)) r (now (out .exit)) ⌝ }
 {
     answered(split::split(text, out))
+}
+
+// Cuts a step into its parameters, each as `key=value` with a newline after it.
+#[no_mangle]
+pub extern "C" fn sakondreno_parameters(text: &[u8], out: &mut [u8]) -> Answer
+    ensures { λ r. ⌜ Promised replied parameters (now (text .entry)) (now (out .entry)) r (now (out .exit)) ⌝ }
+{
+    answered(parameters::parameters(text, out))
 }

@@ -1,0 +1,24 @@
+use Rattle.laws.specs.Entry.{in-other-words}
+use Rattle.sakondreno.specs.Replies.{plain}
+use borrow.Author.Needs.{needs}
+use Rattle.sakondreno.proofs.sakondreno_parameters.Statement.{statement}
+use Rattle.sakondreno.proofs.sakondreno_parameters.Tie as tie
+use Rattle.sakondreno.proofs.sakondreno_parameters.Reads as reads
+use Rattle.sakondreno.proofs.sakondreno_parameters.Lts as lts
+use Rattle.sakondreno.proofs.answered.Reads as answered-reads
+use Rattle.parameters.proofs.parameters.Reads as parameters-reads
+
+parameters-requires : tie.Need-parameters-requires
+parameters-requires c κs = search needs
+
+answered-requires : tie.Need-answered-requires
+answered-requires c κs = search needs
+
+same-length : tie.Need-same-length
+same-length c = search needs
+
+returns : tie.Need-returns
+returns c = rw (c .answered .ensures) (in-other-words plain (c .before .before .before .parameters .ensures))
+
+pub sakondreno-parameters-spec : {M : Type 1} → statement M
+sakondreno-parameters-spec = tie.close (tie.spec parameters-requires answered-requires same-length returns)
