@@ -95,11 +95,9 @@ fn place_of(s: &[u8], t: Parts, p: Part) -> usize
     requires { ⌜ Within (now s) p ⌝ }
     ensures { λ r. ⌜ Place (now (s .entry)) (held t) p r ⌝ }
 {
-    let parts = t.parts;
-    let n = t.n;
     let mut i = 0;
-    while i < n {
-        let q = parts[i];
+    while i < t.n {
+        let q = t.parts[i];
         if goes_at(s, p, q) {
             return i;
         }
@@ -114,9 +112,8 @@ fn is_there(s: &[u8], t: Parts, p: Part, at: usize) -> bool
     requires { ⌜ Within (now s) p ⌝ }
     ensures { λ r. ⌜ r ≡ isFirst (now (s .entry)) p (drop at (held t)) ⌝ }
 {
-    let parts = t.parts;
     if at < t.n {
-        let q = parts[at];
+        let q = t.parts[at];
         return is_same_key(s, p, q);
     }
     false

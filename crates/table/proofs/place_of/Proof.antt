@@ -6,40 +6,40 @@ use Rattle.table.proofs.place_of.Statement.{statement}
 use Rattle.table.proofs.place_of.Tie as tie
 
 abbrev Inv-loop : tie.InvT-loop
-Inv-loop s p parts n i₀ i = Seeks s (record { parts = parts; n = n }) p i
+Inv-loop s p t i₀ i = Seeks s t p i
 
 abbrev μ-loop : tie.MeasureT-loop
-μ-loop s p parts n i₀ i = n - i
+μ-loop s p t i₀ i = t .n - i
 
--- src/lib.rt:101:5
+-- src/lib.rt:99:5
 loop-holds : tie.Need-loop-holds Inv-loop μ-loop
-loop-holds c = seeks-none (c .before .before .pre .0)
+loop-holds c = seeks-none (c .before .pre .0)
 
--- src/lib.rt:102:17
+-- src/lib.rt:100:17
 mul-q : tie.Need-mul-q Inv-loop μ-loop
 mul-q c = search needs
 
--- src/lib.rt:102:17
-array-copy-out-q : tie.Need-array-copy-out-q Inv-loop μ-loop
-array-copy-out-q c = search needs
+-- src/lib.rt:100:17
+element-copy-out-q : tie.Need-element-copy-out-q Inv-loop μ-loop
+element-copy-out-q c = search needs
 
--- src/lib.rt:103:12
+-- src/lib.rt:101:12
 goes-at-requires : tie.Need-goes-at-requires Inv-loop μ-loop
-goes-at-requires c κs = let t = c .before .before in (t .before .before .before .pre .1, seeks-at (t .loop .inv) _ (c .before .loop-test .taken))
+goes-at-requires c κs = (c .before .before .before .before .pre .1, seeks-at (c .before .before .loop .inv) _ (c .before .loop-test .taken))
 
--- src/lib.rt:104:13
+-- src/lib.rt:102:13
 returns : tie.Need-returns Inv-loop μ-loop
 returns c = let t = c .before .before .before in seeks-here (t .before .loop .inv) _ (t .loop-test .taken) (sym (c .before .goes-at .ensures) ∙ c .if1 .taken)
 
--- src/lib.rt:106:9
+-- src/lib.rt:104:9
 add-i : tie.Need-add-i Inv-loop μ-loop
 add-i c = search needs
 
--- src/lib.rt:101:5
+-- src/lib.rt:99:5
 loop-less : tie.Need-loop-less Inv-loop μ-loop
 loop-less c = search needs
 
--- src/lib.rt:101:5
+-- src/lib.rt:99:5
 loop-again : tie.Need-loop-again Inv-loop μ-loop
 loop-again c = let t = c .before .before .before in seeks-more (t .before .loop .inv) _ (t .loop-test .taken) (sym (c .before .goes-at .ensures) ∙ c .if1 .left)
 
@@ -55,7 +55,7 @@ place-of-spec =
     μ-loop
     loop-holds
     mul-q
-    array-copy-out-q
+    element-copy-out-q
     goes-at-requires
     returns
     add-i
