@@ -6,43 +6,33 @@ use borrow.Author.Needs.{needs}
 use Rattle.parameters.proofs.answer.Statement.{statement}
 use Rattle.parameters.proofs.answer.Tie as tie
 
--- src/lib.rt:251:9
 normal-of-requires : tie.Need-normal-of-requires
 normal-of-requires c κs = let t = c .before .before .before .before .before .before in (text-weight (t .args .text .now) (omega (arith, t .pre .1 .1 .0)), text-weight (t .args .text .now) (t .pre .1 .1 .1))
 
--- src/lib.rt:252:17
 slice-aggregate-put : tie.Need-slice-aggregate-put
 slice-aggregate-put c = search needs
 
--- src/lib.rt:252:9
 put-requires : tie.Need-put-requires
 put-requires c κs = let t = c .before .before .before .before .before .before .before .before .before .before .before .before .before in words-room (t .args .text .now) (c .before .before .before .before .before .before .normal-of .ensures) (t .pre .1 .1 .0) (c .before .before .before .before .before .before .normal-of .kept .1 .0)
 
--- src/lib.rt:253:14
 slice-reshare-prefix-text-out : tie.Need-slice-reshare-prefix-text-out
 slice-reshare-prefix-text-out c = wrote-fits (c .before .before .put .ensures)
 
--- src/lib.rt:253:14
 slice-aggregate-text-out : tie.Need-slice-aggregate-text-out
 slice-aggregate-text-out c = wrote-counts (c .before .before .before .put .ensures)
 
--- src/lib.rt:253:5
 text-out-requires : tie.Need-text-out-requires
 text-out-requires c κs = let t = c .before .before .before .before .before .before .before .before .before .before .before .before .before .before .before .before .before .before in (front-spelt (t .args .text .now) (c .before .before .before .before .before .before .before .before .before .before .before .normal-of .ensures) (c .before .before .before .before .put .ensures), front-small (t .args .text .now) (c .before .before .before .before .before .before .before .before .before .before .before .normal-of .ensures) (c .before .before .before .before .put .ensures) (t .pre .0))
 
--- src/lib.rt:244:1
 same-length : tie.Need-same-length
 same-length c = search needs
 
--- src/lib.rt:244:1
 same-length-2 : tie.Need-same-length-2
 same-length-2 c = search needs
 
--- src/lib.rt:244:1
 same-length-3 : tie.Need-same-length-3
 same-length-3 c = search needs
 
--- src/lib.rt:244:1
 returns : tie.Need-returns
 returns c = let t = c .before .before .before .before .before .before .before .before .before .before .before .before .before .before .before .before .before .before .before .before .before in parameters-so (t .args .text .now) (c .before .before .before .before .before .before .before .before .before .before .before .before .before .before .normal-of .ensures) (c .before .before .before .before .before .before .before .put .ensures) (t .pre .0) (t .pre .1 .0) (c .before .before .text-out .ensures)
 

@@ -13,51 +13,39 @@ Inv-loop s from to n first table₀ name₀ k₀ table name k = Words-left s tab
 abbrev μ-loop : tie.MeasureT-loop
 μ-loop s from to n first table₀ name₀ k₀ table name k = to - k
 
--- src/lib.rt:62:5
 loop-holds : tie.Need-loop-holds Inv-loop μ-loop
 loop-holds c = words-all (c .before .pre .1 .0 .0) (c .before .pre .1 .0 .1) (c .before .pre .1 .1)
 
--- src/lib.rt:63:38
 slice-aggregate-run-end : tie.Need-slice-aggregate-run-end Inv-loop μ-loop
 slice-aggregate-run-end c = sym (length-take-le _ _ (c .before .before .before .before .pre .1 .0 .1))
 
--- src/lib.rt:63:13
 run-end-requires : tie.Need-run-end-requires Inv-loop μ-loop
 run-end-requires c κs = let t = c .before .before .before .before in omega (arith, length-take-le (t .args .to) (t .args .s .now) (c .before .before .before .before .pre .1 .0 .1), c .before .before .loop .inv .within)
 
--- src/lib.rt:64:37
 slice-aggregate-run-end-2 : tie.Need-slice-aggregate-run-end-2 Inv-loop μ-loop
 slice-aggregate-run-end-2 c = sym (length-take-le _ _ (c .before .before .before .before .before .before .pre .1 .0 .1))
 
--- src/lib.rt:64:13
 run-end-requires-2 : tie.Need-run-end-requires-2 Inv-loop μ-loop
 run-end-requires-2 c κs = search needs
 
--- src/lib.rt:66:13
 returns : tie.Need-returns Inv-loop μ-loop
 returns c = words-none (c .before .before .before .before .before .before .loop .inv) (c .before .before .before .run-end .ensures) (c .before .run-end2 .ensures) (c .if1 .taken)
 
--- src/lib.rt:71:39
 part-of-requires : tie.Need-part-of-requires Inv-loop μ-loop
 part-of-requires c κs = let h = word-ends (c .before .before .before .before .before .before .loop .inv) (c .before .before .before .run-end .ensures) (c .before .run-end2 .ensures) in (c .before .before .before .before .before .before .before .before .pre .0, (h .0, omega (arith, h .1, c .before .before .before .before .before .before .before .before .pre .1 .0 .1)))
 
--- src/lib.rt:71:13
 enter-requires : tie.Need-enter-requires Inv-loop μ-loop
 enter-requires c κs = (c .before .before .before .before .before .before .before .loop .inv .good, c .part-of .ensures .within)
 
--- src/lib.rt:73:13
 returns-2 : tie.Need-returns-2 Inv-loop μ-loop
 returns-2 c = let t = c .before .before .before .before in words-full (c .before .before .before .before .before .before .before .before .before .loop .inv) (t .before .before .run-end .ensures) (t .run-end2 .ensures) (c .before .before .before .if1 .left) (c .before .before .part-of .ensures) (c .before .enter .ensures) (c .if2 .taken)
 
--- src/lib.rt:62:5
 loop-less : tie.Need-loop-less Inv-loop μ-loop
 loop-less c = let t = c .before .before .before .before .before in let h = word-ends (c .before .before .before .before .before .before .before .before .before .before .loop .inv) (t .before .before .run-end .ensures) (t .run-end2 .ensures) in omega (arith, h .1, t .before .before .run-end .ensures .ahead, c .before .before .before .before .if1 .left)
 
--- src/lib.rt:62:5
 loop-again : tie.Need-loop-again Inv-loop μ-loop
 loop-again c = let t = c .before .before .before .before .before in words-more (c .before .before .before .before .before .before .before .before .before .before .loop .inv) (t .before .before .run-end .ensures) (t .run-end2 .ensures) (c .before .before .before .before .if1 .left) (c .before .before .before .part-of .ensures) (c .before .before .enter .ensures) (c .before .if2 .left)
 
--- src/lib.rt:53:1
 returns-3 : tie.Need-returns-3 Inv-loop μ-loop
 returns-3 c = words-end (c .before .loop .inv) (c .loop-test .left)
 

@@ -11,51 +11,39 @@ Inv-loop s parts count i₀ n₀ i n = Total s (record { parts = parts; n = coun
 abbrev μ-loop : tie.MeasureT-loop
 μ-loop s parts count i₀ n₀ i n = count - i
 
--- src/lib.rt:93:5
 loop-holds : tie.Need-loop-holds Inv-loop μ-loop
 loop-holds c = total-none _ _ (c .before .pre .0) (c .before .pre .1)
 
--- src/lib.rt:94:17
 mul-p : tie.Need-mul-p Inv-loop μ-loop
 mul-p c = search needs
 
--- src/lib.rt:94:17
 array-copy-out-p : tie.Need-array-copy-out-p Inv-loop μ-loop
 array-copy-out-p c = search needs
 
--- src/lib.rt:95:14
 sub-n : tie.Need-sub-n Inv-loop μ-loop
 sub-n c = total-part (c .before .before .before .loop .inv) _ (c .before .before .loop-test .taken) .key-ahead
 
--- src/lib.rt:95:9
 add-n : tie.Need-add-n Inv-loop μ-loop
 add-n c = fits-under _ _ 2622081 (omega (arith, total-small (c .before .before .before .loop .inv) no-part (c .before .before .loop-test .taken))) tt
 
--- src/lib.rt:96:14
 sub-n-2 : tie.Need-sub-n-2 Inv-loop μ-loop
 sub-n-2 c = total-part (c .before .before .before .before .loop .inv) _ (c .before .before .before .loop-test .taken) .value-ahead
 
--- src/lib.rt:96:9
 add-n-2 : tie.Need-add-n-2 Inv-loop μ-loop
 add-n-2 c = fits-under _ _ 2622081 (omega (arith, total-small (c .before .before .before .before .loop .inv) no-part (c .before .before .before .loop-test .taken))) tt
 
--- src/lib.rt:97:9
 add-n-3 : tie.Need-add-n-3 Inv-loop μ-loop
 add-n-3 c = fits-under _ _ 2622081 (omega (arith, total-small (c .before .before .before .before .loop .inv) no-part (c .before .before .before .loop-test .taken))) tt
 
--- src/lib.rt:98:9
 add-i : tie.Need-add-i Inv-loop μ-loop
 add-i c = search needs
 
--- src/lib.rt:93:5
 loop-less : tie.Need-loop-less Inv-loop μ-loop
 loop-less c = search needs
 
--- src/lib.rt:93:5
 loop-again : tie.Need-loop-again Inv-loop μ-loop
 loop-again c = total-more (c .before .before .before .before .loop .inv) _ (c .before .before .before .loop-test .taken)
 
--- src/lib.rt:84:1
 returns : tie.Need-returns Inv-loop μ-loop
 returns c = total-end (c .before .loop .inv) (c .loop-test .left)
 

@@ -3,59 +3,45 @@ use borrow.Author.Needs.{needs}
 use Rattle.parameters.proofs.line_at.Statement.{statement}
 use Rattle.parameters.proofs.line_at.Tie as tie
 
--- src/lib.rt:58:17
 sub-put : tie.Need-sub-put
 sub-put c = search needs
 
--- src/lib.rt:58:17
 part-put-start : tie.Need-part-put-start
 part-put-start c = search needs
 
--- src/lib.rt:58:17
 part-put-end : tie.Need-part-put-end
 part-put-end c = search needs
 
--- src/lib.rt:58:9
 put-requires : tie.Need-put-requires
 put-requires c κs = let t = c .before .before .before .before in key-room (t .args .s .now) (t .args .p) (t .args .dst .now) (t .args .at) (t .pre .1)
 
--- src/lib.rt:59:5
 slice-write-dst : tie.Need-slice-write-dst
 slice-write-dst c = let t = c .before .before .before .before .before .before .before in equals-room (t .args .s .now) (t .args .p) (t .args .dst .now) (t .args .at) (t .pre .1) (c .before .before .put .ensures) .0
 
--- src/lib.rt:60:17
 sub-put-2 : tie.Need-sub-put-2
 sub-put-2 c = search needs
 
--- src/lib.rt:60:17
 part-put-start-2 : tie.Need-part-put-start-2
 part-put-start-2 c = search needs
 
--- src/lib.rt:60:17
 part-put-end-2 : tie.Need-part-put-end-2
 part-put-end-2 c = search needs
 
--- src/lib.rt:60:44
 add-put : tie.Need-add-put
 add-put c = let t = c .before .before .before .before .before .before .before .before .before in let h = equals-room (t .args .s .now) (t .args .p) (t .args .dst .now) (t .args .at) (t .pre .1) (c .before .before .before .before .put .ensures) .1 in search needs
 
--- src/lib.rt:60:9
 put-requires-2 : tie.Need-put-requires-2
 put-requires-2 c κs = let t = c .before .before .before .before .before .before .before .before .before in value-room (t .args .s .now) (t .args .p) (t .args .dst .now) (t .args .at) (t .pre .1) (c .before .before .before .before .put .ensures)
 
--- src/lib.rt:61:5
 slice-write-dst-2 : tie.Need-slice-write-dst-2
 slice-write-dst-2 c = let t = c .before .before .before .before .before .before .before .before .before .before .before .before in end-room (t .args .s .now) (t .args .p) (t .args .dst .now) (t .args .at) (t .pre .1) (c .before .before .before .before .before .before .before .put .ensures) (c .before .before .put2 .ensures) .0
 
--- src/lib.rt:62:5
 add-result : tie.Need-add-result
 add-result c = let t = c .before .before .before .before .before .before .before .before .before .before .before .before in let h = end-room (t .args .s .now) (t .args .p) (t .args .dst .now) (t .args .at) (t .pre .1) (c .before .before .before .before .before .before .before .put .ensures) (c .before .before .put2 .ensures) .1 in search needs
 
--- src/lib.rt:49:1
 same-length : tie.Need-same-length
 same-length c = let t = c .before .before .before .before .before .before .before .before .before .before .before .before in line-kept (t .args .s .now) (t .args .p) (t .args .dst .now) (t .args .at) (t .pre .1) (c .before .before .before .before .before .before .before .put .ensures) (c .before .before .put2 .ensures)
 
--- src/lib.rt:49:1
 returns : tie.Need-returns
 returns c = let t = c .before .before .before .before .before .before .before .before .before .before .before .before in line-done (t .args .s .now) (t .args .p) (t .args .dst .now) (t .args .at) (t .pre .1) (c .before .before .before .before .before .before .before .put .ensures) (c .before .before .put2 .ensures)
 

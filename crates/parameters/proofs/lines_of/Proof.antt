@@ -10,39 +10,30 @@ Inv-loop s dst₀ parts count i₀ o₀ dst i o = Lines s (record { parts = part
 abbrev μ-loop : tie.MeasureT-loop
 μ-loop s dst₀ parts count i₀ o₀ dst i o = count - i
 
--- src/lib.rt:75:5
 loop-holds : tie.Need-loop-holds Inv-loop μ-loop
 loop-holds c = lines-start _ _ _ (c .before .before .before .pre .0) (c .before .before .before .pre .1)
 
--- src/lib.rt:76:17
 mul-p : tie.Need-mul-p Inv-loop μ-loop
 mul-p c = search needs
 
--- src/lib.rt:76:17
 array-copy-out-p : tie.Need-array-copy-out-p Inv-loop μ-loop
 array-copy-out-p c = search needs
 
--- src/lib.rt:77:9
 line-at-requires : tie.Need-line-at-requires Inv-loop μ-loop
 line-at-requires c κs = (lines-part (c .before .before .before .loop .inv) _ (c .before .before .loop-test .taken), lines-room (c .before .before .before .loop .inv) _ (c .before .before .loop-test .taken))
 
--- src/lib.rt:78:9
 add-i : tie.Need-add-i Inv-loop μ-loop
 add-i c = search needs
 
--- src/lib.rt:75:5
 loop-less : tie.Need-loop-less Inv-loop μ-loop
 loop-less c = search needs
 
--- src/lib.rt:75:5
 loop-again : tie.Need-loop-again Inv-loop μ-loop
 loop-again c = lines-more (c .before .before .before .before .before .before .loop .inv) _ (c .before .before .before .before .before .loop-test .taken) (c .before .before .line-at .ensures)
 
--- src/lib.rt:66:1
 same-length : tie.Need-same-length Inv-loop μ-loop
 same-length c = lines-kept (c .before .loop .inv)
 
--- src/lib.rt:66:1
 returns : tie.Need-returns Inv-loop μ-loop
 returns c = lines-done (c .before .loop .inv) (c .loop-test .left)
 

@@ -3,23 +3,18 @@ use borrow.Author.Needs.{needs}
 use Rattle.parameters.proofs.lines_out.Statement.{statement}
 use Rattle.parameters.proofs.lines_out.Tie as tie
 
--- src/lib.rt:170:9
 length-of-requires : tie.Need-length-of-requires
 length-of-requires c κs = search needs
 
--- src/lib.rt:172:9
 returns : tie.Need-returns
 returns c = let t = c .before .before .before .before in out-no-room (t .args .s .now) (t .args .t) (t .args .out .now) (c .before .length-of .ensures) (c .if1 .taken)
 
--- src/lib.rt:177:20
 lines-of-requires : tie.Need-lines-of-requires
 lines-of-requires c κs = search needs
 
--- src/lib.rt:165:1
 same-length : tie.Need-same-length
 same-length c = search needs
 
--- src/lib.rt:165:1
 returns-2 : tie.Need-returns-2
 returns-2 c = let t = c .before .before .before .before .before .before .before .before in out-wrote (t .args .s .now) (t .args .t) (t .args .out .now) (c .before .before .before .before .before .length-of .ensures) (c .before .before .before .before .if1 .left) (c .before .before .lines-of .ensures)
 

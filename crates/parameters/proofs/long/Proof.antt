@@ -7,23 +7,18 @@ use borrow.Author.Needs.{needs}
 use Rattle.parameters.proofs.long.Statement.{statement}
 use Rattle.parameters.proofs.long.Tie as tie
 
--- src/lib.rt:274:23
 slice-aggregate-answer : tie.Need-slice-aggregate-answer
 slice-aggregate-answer c = search needs
 
--- src/lib.rt:274:31
 slice-aggregate-answer-2 : tie.Need-slice-aggregate-answer-2
 slice-aggregate-answer-2 c = search needs
 
--- src/lib.rt:274:5
 answer-requires : tie.Need-answer-requires
 answer-requires c κs = let p = c .before .before .before .before .before .pre in let t = now (c .before .before .before .before .before .args .text) in (p .0, (p .1, (rw (length-replicate {A = ℕ} 40969 0) (nine-room t 4096 (p .0) (omega arith)), rw (length-replicate {A = ℕ} 40960 0) (omega (arith, p .0)))))
 
--- src/lib.rt:267:1
 same-length : tie.Need-same-length
 same-length c = search needs
 
--- src/lib.rt:267:1
 returns : tie.Need-returns
 returns c = search needs
 

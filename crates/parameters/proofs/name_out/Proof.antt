@@ -3,27 +3,21 @@ use borrow.Author.Needs.{needs}
 use Rattle.parameters.proofs.name_out.Statement.{statement}
 use Rattle.parameters.proofs.name_out.Tie as tie
 
--- src/lib.rt:213:18
 add-t6 : tie.Need-add-t6
 add-t6 c = search needs
 
--- src/lib.rt:217:22
 empty-requires : tie.Need-empty-requires
 empty-requires c κs = search needs
 
--- src/lib.rt:217:9
 enter-requires : tie.Need-enter-requires
 enter-requires c κs = (empty-good _ (c .empty .ensures), whole-within (c .before .before .before .pre .0))
 
--- src/lib.rt:218:5
 lines-out-requires : tie.Need-lines-out-requires
 lines-out-requires c κs = (name-good (c .before .before .before .before .before .pre .0) (c .before .before .empty .ensures) (c .before .enter .ensures), c .before .before .before .before .before .pre .1)
 
--- src/lib.rt:206:1
 same-length : tie.Need-same-length
 same-length c = search needs
 
--- src/lib.rt:206:1
 returns : tie.Need-returns
 returns c = name-so (c .before .before .before .before .before .before .before .before .pre .0) (c .before .before .before .before .before .empty .ensures) (c .before .before .before .before .enter .ensures) (c .before .before .lines-out .ensures)
 

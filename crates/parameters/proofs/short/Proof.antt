@@ -5,23 +5,18 @@ use borrow.Author.Needs.{needs}
 use Rattle.parameters.proofs.short.Statement.{statement}
 use Rattle.parameters.proofs.short.Tie as tie
 
--- src/lib.rt:264:23
 slice-aggregate-answer : tie.Need-slice-aggregate-answer
 slice-aggregate-answer c = search needs
 
--- src/lib.rt:264:31
 slice-aggregate-answer-2 : tie.Need-slice-aggregate-answer-2
 slice-aggregate-answer-2 c = search needs
 
--- src/lib.rt:264:5
 answer-requires : tie.Need-answer-requires
 answer-requires c κs = let p = c .before .before .before .before .before .pre in let t = now (c .before .before .before .before .before .args .text) in let r = nine-room t 408 {x = 4096} (p .0) (omega arith) in (omega arith, (p .1, (r, omega arith)))
 
--- src/lib.rt:257:1
 same-length : tie.Need-same-length
 same-length c = search needs
 
--- src/lib.rt:257:1
 returns : tie.Need-returns
 returns c = search needs
 

@@ -5,47 +5,36 @@ use borrow.Author.Needs.{needs}
 use Rattle.parameters.proofs.step_out.Statement.{statement}
 use Rattle.parameters.proofs.step_out.Tie as tie
 
--- src/lib.rt:186:17
 slice-aggregate-is-blank : tie.Need-slice-aggregate-is-blank
 slice-aggregate-is-blank c = spelt-front (c .before .before .before .pre .0)
 
--- src/lib.rt:186:8
 is-blank-requires : tie.Need-is-blank-requires
 is-blank-requires c κs = search needs
 
--- src/lib.rt:187:9
 returns : tie.Need-returns
 returns c = let t = c .before .before .before .before .before in step-blank (take (t .args .n) (t .args .s .now)) (t .args .out .now) (sym (c .before .is-blank .ensures) ∙ c .if1 .taken)
 
--- src/lib.rt:189:16
 slice-aggregate-is-lead : tie.Need-slice-aggregate-is-lead
 slice-aggregate-is-lead c = spelt-front (c .before .before .before .before .before .before .pre .0)
 
--- src/lib.rt:189:8
 is-lead-requires : tie.Need-is-lead-requires
 is-lead-requires c κs = search needs
 
--- src/lib.rt:190:9
 returns-2 : tie.Need-returns-2
 returns-2 c = let t = c .before .before .before .before .before .before .before .before in step-modifiers (take (t .args .n) (t .args .s .now)) (t .args .out .now) (sym (c .before .before .before .before .is-blank .ensures) ∙ c .before .before .before .if1 .left) (sym (c .before .is-lead .ensures) ∙ c .if2 .taken)
 
--- src/lib.rt:195:9
 table-of-requires : tie.Need-table-of-requires
 table-of-requires c κs = (c .before .before .before .before .before .before .before .before .pre .0, sym (c .before .is-lead .ensures) ∙ c .if2 .left)
 
--- src/lib.rt:197:9
 returns-3 : tie.Need-returns-3
 returns-3 c = let t = c .before .before .before .before .before .before .before .before .before .before in step-full (take (t .args .n) (t .args .s .now)) (t .args .out .now) (sym (c .before .before .before .is-lead .ensures) ∙ c .before .before .if2 .left) (c .before .table-of .ensures .no-room (c .if3 .taken))
 
--- src/lib.rt:202:5
 lines-out-requires : tie.Need-lines-out-requires
 lines-out-requires c κs = (c .before .before .table-of .ensures .good (c .before .if3 .left), c .before .before .before .before .before .before .before .before .before .before .before .pre .1)
 
--- src/lib.rt:181:1
 same-length : tie.Need-same-length
 same-length c = search needs
 
--- src/lib.rt:181:1
 returns-4 : tie.Need-returns-4
 returns-4 c = let t = c .before .before .before .before .before .before .before .before .before .before .before .before .before .before in step-lines (take (t .args .n) (t .args .s .now)) (t .args .out .now) (sym (c .before .before .before .before .before .before .before .is-lead .ensures) ∙ c .before .before .before .before .before .before .if2 .left) (c .before .before .before .before .before .table-of .ensures) (c .before .before .before .before .if3 .left) (c .before .before .lines-out .ensures)
 

@@ -4,31 +4,24 @@ use borrow.Author.Needs.{needs}
 use Rattle.parameters.proofs.table_of.Statement.{statement}
 use Rattle.parameters.proofs.table_of.Tie as tie
 
--- src/lib.rt:101:22
 slice-aggregate-lead-end : tie.Need-slice-aggregate-lead-end
 slice-aggregate-lead-end c = spelt-front (c .before .before .pre .0)
 
--- src/lib.rt:101:9
 lead-end-requires : tie.Need-lead-end-requires
 lead-end-requires c κs = search needs
 
--- src/lib.rt:102:32
 empty-requires : tie.Need-empty-requires
 empty-requires c κs = search needs
 
--- src/lib.rt:102:9
 enter-words-requires : tie.Need-enter-words-requires
 enter-words-requires c κs = let t = c .before .before .before .before in let l = spelt-fits (t .pre .0) in (t .pre .0, ((lead-within _ _ l (c .before .lead-end .ensures) .0, l), empty-good _ (c .empty .ensures)))
 
--- src/lib.rt:104:9
 returns : tie.Need-returns
 returns c = let t = c .before .before .before .before .before .before in tabled-full _ _ (spelt-fits (t .pre .0)) (c .before .before .before .lead-end .ensures) (t .pre .1) (c .before .before .empty .ensures) (c .before .enter-words .ensures) (c .if1 .taken)
 
--- src/lib.rt:106:5
 enter-words-requires-2 : tie.Need-enter-words-requires-2
 enter-words-requires-2 c κs = let t = c .before .before .before .before .before .before in (t .pre .0, ((omega arith, lead-within _ _ (spelt-fits (t .pre .0)) (c .before .before .before .lead-end .ensures) .1), c .before .enter-words .ensures .good (c .if1 .left)))
 
--- src/lib.rt:96:1
 returns-2 : tie.Need-returns-2
 returns-2 c = let t = c .before .before .before .before .before .before .before in tabled-both _ _ (spelt-fits (t .pre .0)) (c .before .before .before .before .lead-end .ensures) (t .pre .1) (c .before .before .before .empty .ensures) (c .before .before .enter-words .ensures) (c .before .if1 .left) (c .enter-words2 .ensures)
 

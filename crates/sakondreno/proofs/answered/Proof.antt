@@ -3,23 +3,17 @@ use Rattle.sakondreno.specs.Replies.{plain}
 use borrow.Author.Needs.{needs}
 use Rattle.sakondreno.proofs.answered.Statement.{statement}
 use Rattle.sakondreno.proofs.answered.Tie as tie
-use Rattle.sakondreno.proofs.answered.Reads as reads
-use Rattle.sakondreno.proofs.answered.Lts as lts
 
--- src/lib.rt:23:24
 enum-known-w : tie.Need-enum-known-w
 enum-known-w c = search needs
 
--- src/lib.rt:28:28
 enum-known-w-2 : tie.Need-enum-known-w-2
 enum-known-w-2 c = search needs
 
--- src/lib.rt:19:1
 returns : tie.Need-returns
 unfolding plain
 returns c = sym (ap plain (c .before .w .given .1))
 
--- src/lib.rt:19:1
 returns-2 : tie.Need-returns-2
 unfolding plain
 returns-2 c = sym (ap plain (c .before .w2 .given .1))

@@ -3,10 +3,6 @@ use Rattle.sakondreno.specs.Replies.{plain}
 use borrow.Author.Needs.{needs}
 use Rattle.sakondreno.proofs.sakondreno_parameters.Statement.{statement}
 use Rattle.sakondreno.proofs.sakondreno_parameters.Tie as tie
-use Rattle.sakondreno.proofs.sakondreno_parameters.Reads as reads
-use Rattle.sakondreno.proofs.sakondreno_parameters.Lts as lts
-use Rattle.sakondreno.proofs.answered.Reads as answered-reads
-use Rattle.parameters.proofs.parameters.Reads as parameters-reads
 
 parameters-requires : tie.Need-parameters-requires
 parameters-requires c κs = search needs

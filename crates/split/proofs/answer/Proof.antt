@@ -6,39 +6,30 @@ use Rattle.split.proofs.Answering.{normal-fits, split-so}
 use Rattle.split.proofs.answer.Statement.{statement}
 use Rattle.split.proofs.answer.Tie as tie
 
--- src/lib.rt:389:9
 clean-into-requires : tie.Need-clean-into-requires
 clean-into-requires c κs = let t = c .before .before .before .before .before .before .before .before in (t .pre .1 .1 .0, (omega (arith, t .pre .1 .1 .1 .0), t .pre .1 .1 .1 .1))
 
--- src/lib.rt:390:15
 slice-reshare-prefix-steps-out : tie.Need-slice-reshare-prefix-steps-out
 slice-reshare-prefix-steps-out c = wrote-fits (c .before .before .before .before .before .before .clean-into .ensures)
 
--- src/lib.rt:390:15
 slice-aggregate-steps-out : tie.Need-slice-aggregate-steps-out
 slice-aggregate-steps-out c = wrote-counts (c .before .before .before .before .before .before .before .clean-into .ensures)
 
--- src/lib.rt:390:5
 steps-out-requires : tie.Need-steps-out-requires
 steps-out-requires c κs = let t = c .before .before .before .before .before .before .before .before .before .before .before .before .before .before .before .before .before .before in normal-fits (now (t .args .text)) (c .before .before .before .before .before .before .before .before .before .clean-into .ensures) (t .pre .1 .1 .1 .0) (c .before .before .before .before .before .before .before .before .before .clean-into .kept .1 .1 .0)
 
--- src/lib.rt:381:1
 same-length : tie.Need-same-length
 same-length c = c .before .before .before .before .steps-out .kept .1 .0
 
--- src/lib.rt:381:1
 same-length-2 : tie.Need-same-length-2
 same-length-2 c = c .before .before .before .before .before .before .before .before .before .before .before .before .before .before .clean-into .kept .1 .0
 
--- src/lib.rt:381:1
 same-length-3 : tie.Need-same-length-3
 same-length-3 c = c .before .before .before .before .steps-out .kept .1 .1 .0 ∙ c .before .before .before .before .before .before .before .before .before .before .before .before .before .before .clean-into .kept .1 .1 .0
 
--- src/lib.rt:381:1
 same-length-4 : tie.Need-same-length-4
 same-length-4 c = c .before .before .before .before .before .before .before .before .before .before .before .before .before .before .clean-into .kept .1 .1 .1 .0
 
--- src/lib.rt:381:1
 returns : tie.Need-returns
 returns c = let t = c .before .before .before .before .before .before .before .before .before .before .before .before .before .before .before .before .before .before .before .before .before .before .before in split-so (now (t .args .text)) (c .before .before .before .before .before .before .before .before .before .before .before .before .before .before .clean-into .ensures) (t .pre .0) (t .pre .1 .0) (c .before .before .before .before .steps-out .ensures)
 

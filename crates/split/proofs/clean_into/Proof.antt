@@ -5,35 +5,27 @@ use Rattle.split.proofs.Answering.{text-weight, text-weight-less, clean
 use Rattle.split.proofs.clean_into.Statement.{statement}
 use Rattle.split.proofs.clean_into.Tie as tie
 
--- src/lib.rt:376:9
 strip-into-requires : tie.Need-strip-into-requires
 strip-into-requires c κs = let t = c .before .before .before .before .before .before in (text-weight (now (t .args .text)) (t .pre .0), text-weight-less (now (t .args .text)) (t .pre .1 .1))
 
--- src/lib.rt:377:15
 slice-reshare-prefix-normal-of : tie.Need-slice-reshare-prefix-normal-of
 slice-reshare-prefix-normal-of c = wrote-fits (c .before .before .before .before .strip-into .ensures)
 
--- src/lib.rt:377:15
 slice-aggregate-normal-of : tie.Need-slice-aggregate-normal-of
 slice-aggregate-normal-of c = wrote-counts (c .before .before .before .before .before .strip-into .ensures)
 
--- src/lib.rt:377:5
 normal-of-requires : tie.Need-normal-of-requires
 normal-of-requires c κs = let t = c .before .before .before .before .before .before .before .before .before .before .before .before .before .before in (clean-room (now (t .args .text)) (c .before .before .before .before .before .before .before .strip-into .ensures) (t .pre .0) (c .before .before .before .before .before .before .before .strip-into .kept .1 .0), clean-room (now (t .args .text)) (c .before .before .before .before .before .before .before .strip-into .ensures) (t .pre .1 .0) refl)
 
--- src/lib.rt:370:1
 same-length : tie.Need-same-length
 same-length c = c .before .before .before .before .normal-of .kept .1 .0 ∙ c .before .before .before .before .before .before .before .before .before .before .before .before .strip-into .kept .1 .0
 
--- src/lib.rt:370:1
 same-length-2 : tie.Need-same-length-2
 same-length-2 c = c .before .before .before .before .normal-of .kept .1 .1 .0
 
--- src/lib.rt:370:1
 same-length-3 : tie.Need-same-length-3
 same-length-3 c = c .before .before .before .before .before .before .before .before .before .before .before .before .strip-into .kept .1 .1 .0
 
--- src/lib.rt:370:1
 returns : tie.Need-returns
 returns c = clean-holds (now (c .before .before .before .before .before .before .before .before .before .before .before .before .before .before .before .before .before .before .before .args .text)) (c .before .before .before .before .before .before .before .before .before .before .before .before .strip-into .ensures) (c .before .before .before .before .normal-of .ensures)
 

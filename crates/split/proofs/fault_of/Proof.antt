@@ -14,59 +14,45 @@ Inv-loop normal at₀ n₀ at n = Faulting normal at n
 abbrev μ-loop : tie.MeasureT-loop
 μ-loop normal at₀ n₀ at n = length normal - at
 
--- src/lib.rt:172:5
 loop-holds : tie.Need-loop-holds Inv-loop μ-loop
 loop-holds c = faulting-none _
 
--- src/lib.rt:173:13
 next-step-requires : tie.Need-next-step-requires Inv-loop μ-loop
 next-step-requires c κs = search needs
 
--- src/lib.rt:176:20
 enum-told : tie.Need-enum-told Inv-loop μ-loop
 enum-told c = search needs
 
--- src/lib.rt:177:21
 returns : tie.Need-returns Inv-loop μ-loop
 returns c = let t = c .before .before .before in faulting-many (t .before .loop .inv) (sym (t .next-step .ensures) ∙ c .before .enum-told .given .1) (c .if1 .taken)
 
--- src/lib.rt:179:17
 returns-2 : tie.Need-returns-2 Inv-loop μ-loop
 returns-2 c = let t = c .before .before .before in faulting-well (t .before .loop .inv) (sym (t .next-step .ensures) ∙ c .before .enum-told .given .1) (c .if1 .left)
 
--- src/lib.rt:181:27
 enum-known-found : tie.Need-enum-known-found Inv-loop μ-loop
 enum-known-found c = search needs
 
--- src/lib.rt:182:17
 add-n : tie.Need-add-n Inv-loop μ-loop
 add-n c = let t = c .before .before .before in omega (arith, t .before .loop .inv .few, t .before .loop .inv .within)
 
--- src/lib.rt:183:28
 sub-is-lead : tie.Need-sub-is-lead Inv-loop μ-loop
 sub-is-lead c = let t = c .before .before .before in let h = walk-ahead _ _ _ _ _ (sym (t .next-step .ensures) ∙ c .before .found .given .1) in omega (arith, h .longer)
 
--- src/lib.rt:183:28
 part-is-lead-start : tie.Need-part-is-lead-start Inv-loop μ-loop
 part-is-lead-start c = let t = c .before .before .before in let h = walk-ahead _ _ _ _ _ (sym (t .next-step .ensures) ∙ c .before .found .given .1) in search (needs, h)
 
--- src/lib.rt:183:28
 part-is-lead-end : tie.Need-part-is-lead-end Inv-loop μ-loop
 part-is-lead-end c = let t = c .before .before .before in let h = walk-ahead _ _ _ _ _ (sym (t .next-step .ensures) ∙ c .before .found .given .1) in search (needs, h)
 
--- src/lib.rt:183:20
 is-lead-requires : tie.Need-is-lead-requires Inv-loop μ-loop
 is-lead-requires c κs = search needs
 
--- src/lib.rt:184:21
 returns-3 : tie.Need-returns-3 Inv-loop μ-loop
 returns-3 c = let u = c .before .before .before .before in let t = u .before .before in faulting-here (t .before .loop .inv) (sym (t .next-step .ensures) ∙ u .found .given .1) (sym (c .before .is-lead .ensures) ∙ c .if2 .taken)
 
--- src/lib.rt:172:5
 loop-less : tie.Need-loop-less Inv-loop μ-loop
 loop-less c = let u = c .before .before .before .before in let t = u .before .before in let h = walk-ahead _ _ _ _ _ (sym (t .next-step .ensures) ∙ u .found .given .1) in omega (arith, h .ahead, h .longer, h .within, h .goes-on)
 
--- src/lib.rt:172:5
 loop-again : tie.Need-loop-again Inv-loop μ-loop
 loop-again c = let u = c .before .before .before .before in let t = u .before .before in faulting-next (t .before .loop .inv) (sym (t .next-step .ensures) ∙ u .found .given .1) (sym (c .before .is-lead .ensures) ∙ c .if2 .left)
 

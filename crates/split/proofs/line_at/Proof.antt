@@ -6,23 +6,18 @@ use borrow.Author.Needs.{needs}
 use Rattle.split.proofs.line_at.Statement.{statement}
 use Rattle.split.proofs.line_at.Tie as tie
 
--- src/lib.rt:267:9
 step-at-requires : tie.Need-step-at-requires
 step-at-requires c κs = let t = c .before .before .before in (t .pre .0, line-room _ (t .args .dst .now) (t .args .at) (t .pre .1))
 
--- src/lib.rt:268:5
 slice-write-dst : tie.Need-slice-write-dst
 slice-write-dst c = let t = c .before .before .before .before .before .before in line-place _ (t .args .dst .now) (t .args .at) (t .pre .1) (c .before .before .step-at .ensures) .0
 
--- src/lib.rt:269:5
 add-result : tie.Need-add-result
 add-result c = let t = c .before .before .before .before .before .before in let h = line-place _ (t .args .dst .now) (t .args .at) (t .pre .1) (c .before .before .step-at .ensures) .1 in search needs
 
--- src/lib.rt:262:1
 same-length : tie.Need-same-length
 same-length c = length-set {A = ℕ} (c .before .before .step-at .last .1 .0) (c .before .before .step-at .result) 10 ∙ c .before .before .step-at .kept .1 .0
 
--- src/lib.rt:262:1
 returns : tie.Need-returns
 returns c = let t = c .before .before .before .before .before .before in line-done _ (t .args .dst .now) (t .args .at) (t .pre .1) (c .before .before .step-at .ensures)
 

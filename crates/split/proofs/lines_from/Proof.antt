@@ -11,83 +11,63 @@ Inv-loop src dst₀ at o₀ i₀ comment₀ dst o i comment = Lining src dst₀ 
 abbrev μ-loop : tie.MeasureT-loop
 μ-loop src dst₀ at o₀ i₀ comment₀ dst o i comment = length src - i
 
--- src/lib.rt:193:5
 loop-holds : tie.Need-loop-holds Inv-loop μ-loop
 loop-holds c = lining-start _ _ _ (c .pre)
 
--- src/lib.rt:194:17
 shared-slice-read-b : tie.Need-shared-slice-read-b Inv-loop μ-loop
 shared-slice-read-b c = search needs
 
--- src/lib.rt:196:13
 slice-write-dst : tie.Need-slice-write-dst Inv-loop μ-loop
 slice-write-dst c = lining-newline-room (c .before .before .before .loop .inv) (c .before .before .loop-test .taken) (c .if1 .taken) .0
 
--- src/lib.rt:197:13
 add-o : tie.Need-add-o Inv-loop μ-loop
 add-o c = let h = lining-newline-room (c .before .before .before .loop .inv) (c .before .before .loop-test .taken) (c .if1 .taken) .1 in search needs
 
--- src/lib.rt:199:13
 add-i : tie.Need-add-i Inv-loop μ-loop
 add-i c = search needs
 
--- src/lib.rt:193:5
 loop-less : tie.Need-loop-less Inv-loop μ-loop
 loop-less c = search needs
 
--- src/lib.rt:193:5
 loop-again : tie.Need-loop-again Inv-loop μ-loop
 loop-again c = lining-newline (c .before .before .before .loop .inv) (c .before .before .loop-test .taken) (c .if1 .taken)
 
--- src/lib.rt:202:17
 add-i-2 : tie.Need-add-i-2 Inv-loop μ-loop
 add-i-2 c = search needs
 
--- src/lib.rt:193:5
 loop-less-2 : tie.Need-loop-less-2 Inv-loop μ-loop
 loop-less-2 c = search needs
 
--- src/lib.rt:193:5
 loop-again-2 : tie.Need-loop-again-2 Inv-loop μ-loop
 loop-again-2 c = lining-comment (c .before .before .before .before .loop .inv) (c .before .before .before .loop-test .taken) (c .before .if1 .left) (c .if2 .taken)
 
--- src/lib.rt:206:21
 add-i-3 : tie.Need-add-i-3 Inv-loop μ-loop
 add-i-3 c = search needs
 
--- src/lib.rt:193:5
 loop-less-3 : tie.Need-loop-less-3 Inv-loop μ-loop
 loop-less-3 c = search needs
 
--- src/lib.rt:193:5
 loop-again-3 : tie.Need-loop-again-3 Inv-loop μ-loop
 loop-again-3 c = lining-begins (c .before .before .before .before .before .loop .inv) (c .before .before .before .before .loop-test .taken) (c .before .before .if1 .left) (c .before .if2 .left) (c .if3 .taken)
 
--- src/lib.rt:208:21
 slice-write-dst-2 : tie.Need-slice-write-dst-2 Inv-loop μ-loop
 slice-write-dst-2 c = lining-byte-room (c .before .before .before .before .before .loop .inv) (c .before .before .before .before .loop-test .taken) (c .before .before .if1 .left) (c .before .if2 .left) (c .if3 .left) .0
 
--- src/lib.rt:209:21
 add-o-2 : tie.Need-add-o-2 Inv-loop μ-loop
 add-o-2 c = let h = lining-byte-room (c .before .before .before .before .before .loop .inv) (c .before .before .before .before .loop-test .taken) (c .before .before .if1 .left) (c .before .if2 .left) (c .if3 .left) .1 in search needs
 
--- src/lib.rt:210:21
 add-i-4 : tie.Need-add-i-4 Inv-loop μ-loop
 add-i-4 c = search needs
 
--- src/lib.rt:193:5
 loop-less-4 : tie.Need-loop-less-4 Inv-loop μ-loop
 loop-less-4 c = search needs
 
--- src/lib.rt:193:5
 loop-again-4 : tie.Need-loop-again-4 Inv-loop μ-loop
 loop-again-4 c = lining-byte (c .before .before .before .before .before .loop .inv) (c .before .before .before .before .loop-test .taken) (c .before .before .if1 .left) (c .before .if2 .left) (c .if3 .left)
 
--- src/lib.rt:186:1
 same-length : tie.Need-same-length Inv-loop μ-loop
 same-length c = lining-length (c .before .loop .inv)
 
--- src/lib.rt:186:1
 returns : tie.Need-returns Inv-loop μ-loop
 returns c = lining-end (c .before .loop .inv) (c .loop-test .left)
 

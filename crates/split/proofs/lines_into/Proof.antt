@@ -5,19 +5,15 @@ use Rattle.split.proofs.Lining.{lines-place, lines-room, lines-done}
 use Rattle.split.proofs.lines_into.Statement.{statement}
 use Rattle.split.proofs.lines_into.Tie as tie
 
--- src/lib.rt:223:5
 slice-write-dst : tie.Need-slice-write-dst
 slice-write-dst c = lines-place (c .before .before .args .src .now) (c .before .before .args .dst .now) (c .before .before .pre)
 
--- src/lib.rt:224:5
 lines-from-requires : tie.Need-lines-from-requires
 lines-from-requires c κs = lines-room (c .before .before .before .args .src .now) (c .before .before .before .args .dst .now) (c .before .before .before .pre)
 
--- src/lib.rt:219:1
 same-length : tie.Need-same-length
 same-length c = let t = c .before .before .before .before .before .before in c .before .before .lines-from .kept .1 .0 ∙ length-set {A = ℕ} (t .args .dst .now) 0 32
 
--- src/lib.rt:219:1
 returns : tie.Need-returns
 returns c = let t = c .before .before .before .before .before .before in lines-done (t .args .src .now) (t .args .dst .now) (t .pre) (c .before .before .lines-from .ensures)
 

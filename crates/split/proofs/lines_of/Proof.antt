@@ -14,51 +14,39 @@ Inv-loop normal dst₀ place₀ o₀ dst place o = Lines normal dst₀ place o d
 abbrev μ-loop : tie.MeasureT-loop
 μ-loop normal dst₀ place₀ o₀ dst place o = length normal - place
 
--- src/lib.rt:280:5
 loop-holds : tie.Need-loop-holds Inv-loop μ-loop
 loop-holds c = lines-start _ _ (c .before .before .pre .0) (c .before .before .pre .1)
 
--- src/lib.rt:281:13
 next-step-requires : tie.Need-next-step-requires Inv-loop μ-loop
 next-step-requires c κs = search needs
 
--- src/lib.rt:284:17
 enum-told : tie.Need-enum-told Inv-loop μ-loop
 enum-told c = search needs
 
--- src/lib.rt:284:17
 same-length : tie.Need-same-length Inv-loop μ-loop
 same-length c = lines-kept (c .before .before .before .loop .inv)
 
--- src/lib.rt:284:17
 returns : tie.Need-returns Inv-loop μ-loop
 returns c = lines-done (c .before .before .before .loop .inv) (sym (c .before .before .next-step .ensures) ∙ c .enum-told .given .1)
 
--- src/lib.rt:286:27
 enum-known-found : tie.Need-enum-known-found Inv-loop μ-loop
 enum-known-found c = search needs
 
--- src/lib.rt:287:29
 sub-line-at : tie.Need-sub-line-at Inv-loop μ-loop
 sub-line-at c = let h = walk-ahead _ _ _ _ _ (sym (c .before .before .before .next-step .ensures) ∙ c .before .found .given .1) in omega (arith, h .longer)
 
--- src/lib.rt:287:29
 part-line-at-start : tie.Need-part-line-at-start Inv-loop μ-loop
 part-line-at-start c = let h = walk-ahead _ _ _ _ _ (sym (c .before .before .before .next-step .ensures) ∙ c .before .found .given .1) in search (needs, h)
 
--- src/lib.rt:287:29
 part-line-at-end : tie.Need-part-line-at-end Inv-loop μ-loop
 part-line-at-end c = let h = walk-ahead _ _ _ _ _ (sym (c .before .before .before .next-step .ensures) ∙ c .before .found .given .1) in search (needs, h)
 
--- src/lib.rt:287:17
 line-at-requires : tie.Need-line-at-requires Inv-loop μ-loop
 line-at-requires c κs = let e = (sym (c .before .before .before .before .before .next-step .ensures) ∙ c .before .before .before .found .given .1) in (lines-other (c .before .before .before .before .before .before .loop .inv) _ _ _ e, lines-room (c .before .before .before .before .before .before .loop .inv) _ _ _ e)
 
--- src/lib.rt:280:5
 loop-less : tie.Need-loop-less Inv-loop μ-loop
 loop-less c = let h = walk-ahead _ _ _ _ _ (sym (c .before .before .before .before .before .before .before .before .next-step .ensures) ∙ c .before .before .before .before .before .before .found .given .1) in omega (arith, h .ahead, h .longer, h .within, h .goes-on)
 
--- src/lib.rt:280:5
 loop-again : tie.Need-loop-again Inv-loop μ-loop
 loop-again c = lines-more (c .before .before .before .before .before .before .before .before .before .loop .inv) _ _ _ (sym (c .before .before .before .before .before .before .before .before .next-step .ensures) ∙ c .before .before .before .before .before .before .found .given .1) (c .before .before .line-at .ensures)
 

@@ -5,39 +5,30 @@ use Rattle.split.proofs.Answering.{none-only, lines-fit, out-no-room, o
 use Rattle.split.proofs.lines_out.Statement.{statement}
 use Rattle.split.proofs.lines_out.Tie as tie
 
--- src/lib.rt:340:9
 lines-of-requires : tie.Need-lines-of-requires
 lines-of-requires c κs = let t = c .before .before .before .before in (none-only (now (t .args .normal)) (t .pre .0), lines-fit (now (t .args .normal)) (t .pre .1))
 
--- src/lib.rt:342:9
 same-length : tie.Need-same-length
 same-length c = c .before .before .before .lines-of .kept .1 .0
 
--- src/lib.rt:342:9
 returns : tie.Need-returns
 returns c = let t = c .before .before .before .before .before .before .before .before in out-no-room (now (t .args .normal)) (t .pre .0) (c .before .before .before .lines-of .ensures) (c .if1 .taken)
 
--- src/lib.rt:347:24
 slice-reshare-prefix-put : tie.Need-slice-reshare-prefix-put
 slice-reshare-prefix-put c = wrote-fits (c .before .before .before .lines-of .ensures)
 
--- src/lib.rt:347:24
 slice-aggregate-put : tie.Need-slice-aggregate-put
 slice-aggregate-put c = wrote-counts (c .before .before .before .before .lines-of .ensures)
 
--- src/lib.rt:347:20
 put-requires : tie.Need-put-requires
 put-requires c κs = omega (arith, wrote-counts (c .before .before .before .before .before .lines-of .ensures), c .before .before .if1 .left)
 
--- src/lib.rt:335:1
 same-length-2 : tie.Need-same-length-2
 same-length-2 c = c .before .before .put .kept .1 .0
 
--- src/lib.rt:335:1
 same-length-3 : tie.Need-same-length-3
 same-length-3 c = c .before .before .before .before .before .before .before .before .lines-of .kept .1 .0
 
--- src/lib.rt:335:1
 returns-2 : tie.Need-returns-2
 returns-2 c = let t = c .before .before .before .before .before .before .before .before .before .before .before .before .before in out-wrote (now (t .args .normal)) (t .pre .0) (c .before .before .before .before .before .before .before .before .lines-of .ensures) (c .before .before .before .before .before .if1 .left) (c .before .before .put .ensures)
 

@@ -6,47 +6,36 @@ use borrow.Author.Needs.{needs}
 use Rattle.split.proofs.newlines_into.Statement.{statement}
 use Rattle.split.proofs.newlines_into.Tie as tie
 
--- src/lib.rt:304:32
 slice-aggregate-replace-into : tie.Need-slice-aggregate-replace-into
 slice-aggregate-replace-into c = search needs
 
--- src/lib.rt:304:41
 slice-aggregate-replace-into-2 : tie.Need-slice-aggregate-replace-into-2
 slice-aggregate-replace-into-2 c = search needs
 
--- src/lib.rt:304:9
 replace-into-requires : tie.Need-replace-into-requires
 replace-into-requires c κs = (omega arith, once-room (now (c .before .before .before .before .before .before .args .text)) (c .before .before .before .before .before .before .pre .0))
 
--- src/lib.rt:305:18
 slice-reshare-prefix-replace-into : tie.Need-slice-reshare-prefix-replace-into
 slice-reshare-prefix-replace-into c = wrote-fits (c .before .before .replace-into .ensures)
 
--- src/lib.rt:305:18
 slice-aggregate-replace-into-3 : tie.Need-slice-aggregate-replace-into-3
 slice-aggregate-replace-into-3 c = wrote-counts (c .before .before .before .replace-into .ensures)
 
--- src/lib.rt:305:27
 slice-aggregate-replace-into-4 : tie.Need-slice-aggregate-replace-into-4
 slice-aggregate-replace-into-4 c = search needs
 
--- src/lib.rt:305:34
 slice-aggregate-replace-into-5 : tie.Need-slice-aggregate-replace-into-5
 slice-aggregate-replace-into-5 c = search needs
 
--- src/lib.rt:305:5
 replace-into-requires-2 : tie.Need-replace-into-requires-2
 replace-into-requires-2 c κs = (omega arith, twice-room (now (c .before .before .before .before .before .before .before .before .before .before .before .before .before .args .text)) (c .before .before .before .before .before .before .replace-into .ensures) (c .before .before .before .before .before .before .before .before .before .before .before .before .before .pre .1))
 
--- src/lib.rt:299:1
 same-length : tie.Need-same-length
 same-length c = c .before .before .before .before .before .before .before .before .before .replace-into .kept .1 .1 .1 .0
 
--- src/lib.rt:299:1
 same-length-2 : tie.Need-same-length-2
 same-length-2 c = c .before .before .replace-into2 .kept .1 .1 .1 .0
 
--- src/lib.rt:299:1
 returns : tie.Need-returns
 returns c = twice-wrote (now (c .before .before .before .before .before .before .before .before .before .before .before .before .before .before .before .before .args .text)) (c .before .before .before .before .before .before .before .before .before .replace-into .ensures) (c .before .before .replace-into2 .ensures)
 

@@ -8,27 +8,21 @@ use borrow.Author.Needs.{needs}
 use Rattle.split.proofs.short.Statement.{statement}
 use Rattle.split.proofs.short.Tie as tie
 
--- src/lib.rt:402:23
 slice-aggregate-answer : tie.Need-slice-aggregate-answer
 slice-aggregate-answer c = search needs
 
--- src/lib.rt:402:31
 slice-aggregate-answer-2 : tie.Need-slice-aggregate-answer-2
 slice-aggregate-answer-2 c = search needs
 
--- src/lib.rt:402:39
 slice-aggregate-answer-3 : tie.Need-slice-aggregate-answer-3
 slice-aggregate-answer-3 c = search needs
 
--- src/lib.rt:402:5
 answer-requires : tie.Need-answer-requires
 answer-requires c κs = let p = c .before .before .before .before .before .before .pre in let t = now (c .before .before .before .before .before .before .args .text) in (omega (arith, p .0), (p .1, (tenfold t 409 (p .0) (omega arith) (sym (length-replicate {A = ℕ} 4096 0)), (tenfold-less t 409 (p .0) (omega arith) (sym (length-replicate {A = ℕ} 4096 0)), tenfold-less t 409 (p .0) (omega arith) (sym (length-replicate {A = ℕ} 4096 0))))))
 
--- src/lib.rt:394:1
 same-length : tie.Need-same-length
 same-length c = search needs
 
--- src/lib.rt:394:1
 returns : tie.Need-returns
 returns c = c .before .before .before .before .before .answer .ensures
 

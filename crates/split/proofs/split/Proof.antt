@@ -5,39 +5,30 @@ use borrow.Author.Needs.{needs}
 use Rattle.split.proofs.split.Statement.{statement}
 use Rattle.split.proofs.split.Tie as tie
 
--- src/lib.rt:422:9
 returns : tie.Need-returns
 returns c = writes-long (c .if1 .taken)
 
--- src/lib.rt:427:9
 in-domain-requires : tie.Need-in-domain-requires
 in-domain-requires c κs = search needs
 
--- src/lib.rt:428:9
 returns-2 : tie.Need-returns-2
 returns-2 c = writes-outside (c .before .before .if1 .left) (sym (c .before .in-domain .ensures) ∙ not-true _ (c .if2 .taken))
 
--- src/lib.rt:434:9
 short-requires : tie.Need-short-requires
 short-requires c κs = (c .before .if3 .taken, sym (c .before .before .before .in-domain .ensures) ∙ not-false _ (c .before .before .if2 .left))
 
--- src/lib.rt:434:9
 same-length : tie.Need-same-length
 same-length c = search needs
 
--- src/lib.rt:434:9
 returns-3 : tie.Need-returns-3
 returns-3 c = c .before .before .short .ensures
 
--- src/lib.rt:436:5
 long-requires : tie.Need-long-requires
 long-requires c κs = (c .before .before .before .before .if1 .left, sym (c .before .before .before .in-domain .ensures) ∙ not-false _ (c .before .before .if2 .left))
 
--- src/lib.rt:418:1
 same-length-2 : tie.Need-same-length-2
 same-length-2 c = search needs
 
--- src/lib.rt:418:1
 returns-4 : tie.Need-returns-4
 returns-4 c = c .before .before .long .ensures
 

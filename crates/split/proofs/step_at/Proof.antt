@@ -5,39 +5,30 @@ use borrow.Author.Needs.{needs}
 use Rattle.split.proofs.step_at.Statement.{statement}
 use Rattle.split.proofs.step_at.Tie as tie
 
--- src/lib.rt:256:9
 lead-end-requires : tie.Need-lead-end-requires
 lead-end-requires c κs = search needs
 
--- src/lib.rt:257:22
 sub-words-at : tie.Need-sub-words-at
 sub-words-at c = c .lead-end .ensures .within
 
--- src/lib.rt:257:22
 part-words-at-start : tie.Need-part-words-at-start
 part-words-at-start c = search needs
 
--- src/lib.rt:257:22
 part-words-at-end : tie.Need-part-words-at-end
 part-words-at-end c = search needs
 
--- src/lib.rt:257:9
 words-at-requires : tie.Need-words-at-requires
 words-at-requires c κs = let t = c .before .before .before .before .before in step-first (c .before .before .lead-end .ensures) (t .pre .0) (t .args .dst .now) (t .args .at) (t .pre .1)
 
--- src/lib.rt:258:19
 slice-aggregate-more-words-at : tie.Need-slice-aggregate-more-words-at
 slice-aggregate-more-words-at c = sym (length-take-le _ _ (c .before .before .before .before .before .before .lead-end .ensures .within))
 
--- src/lib.rt:258:5
 more-words-at-requires : tie.Need-more-words-at-requires
 more-words-at-requires c κs = let t = c .before .before .before .before .before .before .before .before .before .before in step-second (c .before .before .before .before .before .before .before .lead-end .ensures) (t .pre .0) (t .args .dst .now) (t .args .at) (t .pre .1) (c .before .before .before .before .words-at .ensures)
 
--- src/lib.rt:251:1
 same-length : tie.Need-same-length
 same-length c = c .before .before .more-words-at .kept .1 .0 ∙ c .before .before .before .before .before .before .before .words-at .kept .1 .0
 
--- src/lib.rt:251:1
 returns : tie.Need-returns
 returns c = let t = c .before .before .before .before .before .before .before .before .before .before .before .before .before in step-done (c .before .before .before .before .before .before .before .before .before .before .lead-end .ensures) (t .pre .0) (t .args .dst .now) (t .args .at) (t .pre .1) (c .before .before .before .before .before .before .before .words-at .ensures) (c .before .before .more-words-at .ensures)
 

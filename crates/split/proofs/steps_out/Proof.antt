@@ -6,43 +6,33 @@ use borrow.Author.Needs.{needs}
 use Rattle.split.proofs.steps_out.Statement.{statement}
 use Rattle.split.proofs.steps_out.Tie as tie
 
--- src/lib.rt:355:9
 fault-of-requires : tie.Need-fault-of-requires
 fault-of-requires c κs = search needs
 
--- src/lib.rt:357:26
 enum-known-fault : tie.Need-enum-known-fault
 enum-known-fault c = search needs
 
--- src/lib.rt:361:27
 enum-told : tie.Need-enum-told
 enum-told c = search needs
 
--- src/lib.rt:365:45
 enum-told-2 : tie.Need-enum-told-2
 enum-told-2 c = search needs
 
--- src/lib.rt:365:27
 lines-out-requires : tie.Need-lines-out-requires
 lines-out-requires c κs = let t = c .before .before .before .before .before .before .before .before in (sym (c .before .before .enum-told2 .given .1) ∙ c .before .before .before .before .fault-of .ensures, t .pre)
 
--- src/lib.rt:351:1
 returns : tie.Need-returns
 returns c = let t = c .before .before .before .before .before .before .before in lends-refusal (fault-modifiers (now (t .args .normal)) _ (sym (c .before .fault .given .1) ∙ c .before .before .before .fault-of .ensures))
 
--- src/lib.rt:351:1
 returns-2 : tie.Need-returns-2
 returns-2 c = let t = c .before .before .before .before .before .before in lends-refusal (fault-many (now (t .args .normal)) (sym (c .enum-told .given .1) ∙ c .before .before .fault-of .ensures))
 
--- src/lib.rt:351:1
 same-length : tie.Need-same-length
 same-length c = c .before .before .before .before .lines-out .kept .1 .0
 
--- src/lib.rt:351:1
 same-length-2 : tie.Need-same-length-2
 same-length-2 c = c .before .before .before .before .lines-out .kept .1 .1 .0
 
--- src/lib.rt:351:1
 returns-3 : tie.Need-returns-3
 returns-3 c = c .before .before .before .before .lines-out .ensures
 

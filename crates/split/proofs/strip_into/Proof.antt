@@ -7,55 +7,42 @@ use borrow.Author.Needs.{needs}
 use Rattle.split.proofs.strip_into.Statement.{statement}
 use Rattle.split.proofs.strip_into.Tie as tie
 
--- src/lib.rt:314:9
 trim-requires : tie.Need-trim-requires
 trim-requires c κs = search needs
 
--- src/lib.rt:315:9
 newlines-into-requires : tie.Need-newlines-into-requires
 newlines-into-requires c κs = let t = c .before .before .before .before .before .before in (trim-room (now (t .args .text)) (c .before .before .trim .ensures) (t .pre .0), trim-more-room (now (t .args .text)) (c .before .before .trim .ensures) (t .pre .1))
 
--- src/lib.rt:316:26
 slice-reshare-prefix-replace-into : tie.Need-slice-reshare-prefix-replace-into
 slice-reshare-prefix-replace-into c = wrote-fits (c .before .before .before .before .newlines-into .ensures)
 
--- src/lib.rt:316:26
 slice-aggregate-replace-into : tie.Need-slice-aggregate-replace-into
 slice-aggregate-replace-into c = wrote-counts (c .before .before .before .before .before .newlines-into .ensures)
 
--- src/lib.rt:316:35
 slice-aggregate-replace-into-2 : tie.Need-slice-aggregate-replace-into-2
 slice-aggregate-replace-into-2 c = search needs
 
--- src/lib.rt:316:43
 slice-aggregate-replace-into-3 : tie.Need-slice-aggregate-replace-into-3
 slice-aggregate-replace-into-3 c = search needs
 
--- src/lib.rt:316:9
 replace-into-requires : tie.Need-replace-into-requires
 replace-into-requires c κs = let t = c .before .before .before .before .before .before .before .before .before .before .before .before .before .before .before in (omega arith, folded-room (now (t .args .text)) (c .before .before .before .before .before .before .before .before .before .before .before .trim .ensures) (c .before .before .before .before .before .before .before .before .newlines-into .ensures) (t .pre .0) (c .before .before .before .before .before .before .before .before .newlines-into .kept .1 .0))
 
--- src/lib.rt:317:16
 slice-reshare-prefix-lines-into : tie.Need-slice-reshare-prefix-lines-into
 slice-reshare-prefix-lines-into c = wrote-fits (c .before .before .replace-into .ensures)
 
--- src/lib.rt:317:16
 slice-aggregate-lines-into : tie.Need-slice-aggregate-lines-into
 slice-aggregate-lines-into c = wrote-counts (c .before .before .before .replace-into .ensures)
 
--- src/lib.rt:317:5
 lines-into-requires : tie.Need-lines-into-requires
 lines-into-requires c κs = let t = c .before .before .before .before .before .before .before .before .before .before .before .before .before .before .before .before .before .before .before .before in stripped-room (now (t .args .text)) (c .before .before .before .before .before .before .before .before .before .before .before .before .before .before .before .before .trim .ensures) (c .before .before .before .before .before .before .before .before .before .before .before .before .before .newlines-into .ensures) (c .before .before .before .before .replace-into .ensures) (t .pre .1) (c .before .before .before .before .before .before .before .before .before .before .before .before .before .newlines-into .kept .1 .1 .0)
 
--- src/lib.rt:309:1
 same-length : tie.Need-same-length
 same-length c = c .before .before .before .before .before .before .before .replace-into .kept .1 .1 .1 .0 ∙ c .before .before .before .before .before .before .before .before .before .before .before .before .before .before .before .before .newlines-into .kept .1 .0
 
--- src/lib.rt:309:1
 same-length-2 : tie.Need-same-length-2
 same-length-2 c = c .before .before .lines-into .kept .1 .0 ∙ c .before .before .before .before .before .before .before .before .before .before .before .before .before .before .before .before .newlines-into .kept .1 .1 .0
 
--- src/lib.rt:309:1
 returns : tie.Need-returns
 returns c = let t = c .before .before .before .before .before .before .before .before .before .before .before .before .before .before .before .before .before .before .before .before .before .before .before in stripped-holds (now (t .args .text)) (c .before .before .before .before .before .before .before .before .before .before .before .before .before .before .before .before .before .before .before .trim .ensures) (c .before .before .before .before .before .before .before .before .before .before .before .before .before .before .before .before .newlines-into .ensures) (c .before .before .before .before .before .before .before .replace-into .ensures) (c .before .before .lines-into .ensures)
 

@@ -7,31 +7,24 @@ use borrow.Author.Needs.{needs}
 use Rattle.split.proofs.words_at.Statement.{statement}
 use Rattle.split.proofs.words_at.Tie as tie
 
--- src/lib.rt:234:31
 sub-squeeze-into : tie.Need-sub-squeeze-into
 sub-squeeze-into c = omega (arith, c .before .before .pre)
 
--- src/lib.rt:234:31
 part-squeeze-into-start : tie.Need-part-squeeze-into-start
 part-squeeze-into-start c = search needs
 
--- src/lib.rt:234:31
 part-squeeze-into-end : tie.Need-part-squeeze-into-end
 part-squeeze-into-end c = search needs
 
--- src/lib.rt:234:9
 squeeze-into-requires : tie.Need-squeeze-into-requires
 squeeze-into-requires c κs = let t = c .before .before .before in part-room (t .args .dst .now) (t .args .at) _ (t .pre)
 
--- src/lib.rt:235:5
 add-result : tie.Need-add-result
 add-result c = let t = c .before .before .before .before .before .before in let h = part-fits (t .args .dst .now) (t .args .at) _ (t .pre) (c .before .before .squeeze-into .ensures) in search needs
 
--- src/lib.rt:230:1
 same-length : tie.Need-same-length
 same-length c = let t = c .before .before .before .before .before .before in same-len-mid {X = ℕ} (t .args .at) (length (t .args .dst .now) - t .args .at) (t .args .dst .now) (c .before .before .squeeze-into .last .1 .0) (c .before .before .squeeze-into .kept .1 .0)
 
--- src/lib.rt:230:1
 returns : tie.Need-returns
 returns c = let t = c .before .before .before .before .before .before in part-wrote _ (t .args .dst .now) (t .args .at) _ _ (omega (arith, t .pre)) (c .before .before .squeeze-into .ensures)
 

@@ -2,7 +2,6 @@ use Rattle.table.proofs.Entering.{empty-is}
 use Rattle.table.proofs.empty.Statement.{statement}
 use Rattle.table.proofs.empty.Tie as tie
 
--- src/lib.rt:31:1
 returns : tie.Need-returns
 returns c = empty-is _
 

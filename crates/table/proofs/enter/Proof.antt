@@ -4,31 +4,24 @@ use borrow.Author.Needs.{needs}
 use Rattle.table.proofs.enter.Statement.{statement}
 use Rattle.table.proofs.enter.Tie as tie
 
--- src/lib.rt:164:9
 place-of-requires : tie.Need-place-of-requires
 place-of-requires c κs = search needs
 
--- src/lib.rt:165:8
 is-there-requires : tie.Need-is-there-requires
 is-there-requires c κs = search needs
 
--- src/lib.rt:168:20
 replaced-requires : tie.Need-replaced-requires
 replaced-requires c κs = let t = c .before .before in let s = t .before .before in (there-inside (s .pre .0) (s .pre .1) (t .place-of .ensures) (sym (c .before .is-there .ensures) ∙ c .if1 .taken), s .pre .0 .fits)
 
--- src/lib.rt:166:9
 returns : tie.Need-returns
 returns c = let t = c .before .before .before in let s = t .before .before in enters-there (s .pre .0) (s .pre .1) (t .place-of .ensures) (sym (c .before .before .is-there .ensures) ∙ c .before .if1 .taken) (c .replaced .ensures)
 
--- src/lib.rt:174:20
 inserted-requires : tie.Need-inserted-requires
 inserted-requires c κs = let t = c .before .before .before .before in let s = t .before .before in (place-within (s .pre .0) (s .pre .1) (t .place-of .ensures), (c .if2 .taken, s .pre .0 .size))
 
--- src/lib.rt:172:9
 returns-2 : tie.Need-returns-2
 returns-2 c = let t = c .before .before .before .before .before in let s = t .before .before in enters-new (s .pre .0) (s .pre .1) (t .place-of .ensures) (sym (c .before .before .before .before .is-there .ensures) ∙ c .before .before .before .if1 .left) (c .before .if2 .taken) (c .inserted .ensures)
 
--- src/lib.rt:159:1
 returns-3 : tie.Need-returns-3
 returns-3 c = let t = c .before .before .before .before in let s = t .before .before in enters-full (s .pre .0) (s .pre .1) (t .place-of .ensures) (sym (c .before .before .before .is-there .ensures) ∙ c .before .before .if1 .left) (c .if2 .left)
 

@@ -3,43 +3,33 @@ use borrow.Author.Needs.{needs}
 use Rattle.table.proofs.goes_at.Statement.{statement}
 use Rattle.table.proofs.goes_at.Tie as tie
 
--- src/lib.rt:82:8
 is-same-key-requires : tie.Need-is-same-key-requires
 is-same-key-requires c κs = search needs
 
--- src/lib.rt:83:9
 returns : tie.Need-returns
 returns c = rw (sym (c .before .is-same-key .ensures) ∙ c .if1 .taken)
 
--- src/lib.rt:89:15
 sub-is-before : tie.Need-sub-is-before
 sub-is-before c = search needs
 
--- src/lib.rt:89:15
 part-is-before-start : tie.Need-part-is-before-start
 part-is-before-start c = search needs
 
--- src/lib.rt:89:15
 part-is-before-end : tie.Need-part-is-before-end
 part-is-before-end c = search needs
 
--- src/lib.rt:89:29
 sub-is-before-2 : tie.Need-sub-is-before-2
 sub-is-before-2 c = search needs
 
--- src/lib.rt:89:29
 part-is-before-start-2 : tie.Need-part-is-before-start-2
 part-is-before-start-2 c = search needs
 
--- src/lib.rt:89:29
 part-is-before-end-2 : tie.Need-part-is-before-end-2
 part-is-before-end-2 c = search needs
 
--- src/lib.rt:89:5
 is-before-requires : tie.Need-is-before-requires
 is-before-requires c κs = search needs
 
--- src/lib.rt:77:1
 returns-2 : tie.Need-returns-2
 returns-2 c = rw (sym (c .before .before .before .before .is-same-key .ensures) ∙ c .before .before .before .if1 .left) (c .is-before .ensures)
 

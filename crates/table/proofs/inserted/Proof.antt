@@ -12,51 +12,39 @@ Inv-loop at n u₀ carried₀ j₀ u carried j = Shifts (u₀ .parts) n j₀ car
 abbrev μ-loop : tie.MeasureT-loop
 μ-loop at n u₀ carried₀ j₀ u carried j = n - j
 
--- src/lib.rt:147:5
 loop-holds : tie.Need-loop-holds Inv-loop μ-loop
 loop-holds c = shifts-none _ _ _ _ (c .pre .0)
 
--- src/lib.rt:148:17
 mul-x : tie.Need-mul-x Inv-loop μ-loop
 mul-x c = search needs
 
--- src/lib.rt:148:17
 element-copy-out-x : tie.Need-element-copy-out-x Inv-loop μ-loop
 element-copy-out-x c = omega (arith, c .before .before .pre .1 .0, c .loop-test .taken)
 
--- src/lib.rt:149:9
 mul-carried : tie.Need-mul-carried Inv-loop μ-loop
 mul-carried c = search needs
 
--- src/lib.rt:149:9
 element-set-from-carried : tie.Need-element-set-from-carried Inv-loop μ-loop
 element-set-from-carried c = omega (arith, c .before .before .before .pre .1 .0, c .before .loop-test .taken)
 
--- src/lib.rt:151:9
 add-j : tie.Need-add-j Inv-loop μ-loop
 add-j c = search needs
 
--- src/lib.rt:147:5
 loop-less : tie.Need-loop-less Inv-loop μ-loop
 loop-less c = search needs
 
--- src/lib.rt:147:5
 loop-again : tie.Need-loop-again Inv-loop μ-loop
 loop-again c = let t = c .before .before .before in let k : t .args .t .n < length (t .args .t .parts) = omega (arith, t .pre .1 .0, t .pre .1 .1) in shifts-more (c .before .before .loop .inv) k _ (c .before .loop-test .taken)
 
--- src/lib.rt:153:5
 mul-carried-2 : tie.Need-mul-carried-2 Inv-loop μ-loop
 mul-carried-2 c = search needs
 
--- src/lib.rt:153:5
 element-set-from-carried-2 : tie.Need-element-set-from-carried-2 Inv-loop μ-loop
 element-set-from-carried-2 c = c .before .before .pre .1 .0
 
--- src/lib.rt:154:11
 add-u : tie.Need-add-u Inv-loop μ-loop
 add-u c = search needs
 
--- src/lib.rt:137:1
 returns : tie.Need-returns Inv-loop μ-loop
 returns c = let t = c .before .before in shifts-inserted (c .before .loop .inv) (t .pre .1 .0) (t .pre .1 .1) (c .loop-test .left)
 

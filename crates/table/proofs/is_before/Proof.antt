@@ -11,47 +11,36 @@ Inv-loop a b i₀ i = Before a b i
 abbrev μ-loop : tie.MeasureT-loop
 μ-loop a b i₀ i = length a - i
 
--- src/lib.rt:51:5
 loop-holds : tie.Need-loop-holds Inv-loop μ-loop
 loop-holds c = before-none _ _
 
--- src/lib.rt:53:13
 returns : tie.Need-returns Inv-loop μ-loop
 returns c = let t = c .before .before in before-short (t .loop .inv) (c .before .loop-test .taken) (c .if1 .taken)
 
--- src/lib.rt:55:12
 shared-slice-read-if2 : tie.Need-shared-slice-read-if2 Inv-loop μ-loop
 shared-slice-read-if2 c = search needs
 
--- src/lib.rt:55:20
 shared-slice-read-if2-2 : tie.Need-shared-slice-read-if2-2 Inv-loop μ-loop
 shared-slice-read-if2-2 c = search needs
 
--- src/lib.rt:56:20
 shared-slice-read-result : tie.Need-shared-slice-read-result Inv-loop μ-loop
 shared-slice-read-result c = search needs
 
--- src/lib.rt:56:27
 shared-slice-read-result-2 : tie.Need-shared-slice-read-result-2 Inv-loop μ-loop
 shared-slice-read-result-2 c = search needs
 
--- src/lib.rt:56:13
 returns-2 : tie.Need-returns-2 Inv-loop μ-loop
 returns-2 c = let t = c .before .before .before .before .before in before-differs (t .before .before .loop .inv) (t .before .loop-test .taken) (t .if1 .left) (c .before .before .if2 .taken)
 
--- src/lib.rt:58:9
 add-i : tie.Need-add-i Inv-loop μ-loop
 add-i c = search needs
 
--- src/lib.rt:51:5
 loop-less : tie.Need-loop-less Inv-loop μ-loop
 loop-less c = search needs
 
--- src/lib.rt:51:5
 loop-again : tie.Need-loop-again Inv-loop μ-loop
 loop-again c = let t = c .before .before .before in before-more (t .before .before .loop .inv) (t .before .loop-test .taken) (t .if1 .left) (c .if2 .left)
 
--- src/lib.rt:47:1
 returns-3 : tie.Need-returns-3 Inv-loop μ-loop
 returns-3 c = before-end (c .before .loop .inv) (c .loop-test .left)
 

@@ -11,39 +11,30 @@ Inv-loop s p t i₀ i = Seeks s t p i
 abbrev μ-loop : tie.MeasureT-loop
 μ-loop s p t i₀ i = t .n - i
 
--- src/lib.rt:99:5
 loop-holds : tie.Need-loop-holds Inv-loop μ-loop
 loop-holds c = seeks-none (c .before .pre .0)
 
--- src/lib.rt:100:17
 mul-q : tie.Need-mul-q Inv-loop μ-loop
 mul-q c = search needs
 
--- src/lib.rt:100:17
 element-copy-out-q : tie.Need-element-copy-out-q Inv-loop μ-loop
 element-copy-out-q c = search needs
 
--- src/lib.rt:101:12
 goes-at-requires : tie.Need-goes-at-requires Inv-loop μ-loop
 goes-at-requires c κs = (c .before .before .before .before .pre .1, seeks-at (c .before .before .loop .inv) _ (c .before .loop-test .taken))
 
--- src/lib.rt:102:13
 returns : tie.Need-returns Inv-loop μ-loop
 returns c = let t = c .before .before .before in seeks-here (t .before .loop .inv) _ (t .loop-test .taken) (sym (c .before .goes-at .ensures) ∙ c .if1 .taken)
 
--- src/lib.rt:104:9
 add-i : tie.Need-add-i Inv-loop μ-loop
 add-i c = search needs
 
--- src/lib.rt:99:5
 loop-less : tie.Need-loop-less Inv-loop μ-loop
 loop-less c = search needs
 
--- src/lib.rt:99:5
 loop-again : tie.Need-loop-again Inv-loop μ-loop
 loop-again c = let t = c .before .before .before in seeks-more (t .before .loop .inv) _ (t .loop-test .taken) (sym (c .before .goes-at .ensures) ∙ c .if1 .left)
 
--- src/lib.rt:93:1
 returns-2 : tie.Need-returns-2 Inv-loop μ-loop
 returns-2 c = seeks-end (c .before .loop .inv) (c .loop-test .left)
 

@@ -12,35 +12,27 @@ Inv-loop s i₀ i = Blank s i
 abbrev μ-loop : tie.MeasureT-loop
 μ-loop s i₀ i = length s - i
 
--- src/lib.rt:30:5
 loop-holds : tie.Need-loop-holds Inv-loop μ-loop
 loop-holds c = blank-none _
 
--- src/lib.rt:31:21
 shared-slice-read-is-white : tie.Need-shared-slice-read-is-white Inv-loop μ-loop
 shared-slice-read-is-white c = search needs
 
--- src/lib.rt:31:12
 is-white-requires : tie.Need-is-white-requires Inv-loop μ-loop
 is-white-requires c κs = search needs
 
--- src/lib.rt:32:13
 add-i : tie.Need-add-i Inv-loop μ-loop
 add-i c = search needs
 
--- src/lib.rt:30:5
 loop-less : tie.Need-loop-less Inv-loop μ-loop
 loop-less c = search needs
 
--- src/lib.rt:30:5
 loop-again : tie.Need-loop-again Inv-loop μ-loop
 loop-again c = blank-white (c .before .before .before .before .loop .inv) (c .before .before .before .loop-test .taken) (sym (c .before .is-white .ensures) ∙ c .if1 .taken)
 
--- src/lib.rt:34:13
 returns : tie.Need-returns Inv-loop μ-loop
 returns c = blank-not (c .before .before .before .before .loop .inv) (c .before .before .before .loop-test .taken) (sym (c .before .is-white .ensures) ∙ c .if1 .left)
 
--- src/lib.rt:26:1
 returns-2 : tie.Need-returns-2 Inv-loop μ-loop
 returns-2 c = blank-end (c .before .loop .inv) (c .loop-test .left)
 

@@ -4,42 +4,33 @@ use borrow.Author.Needs.{needs}
 use Rattle.walk.proofs.is_of.Statement.{statement}
 use Rattle.walk.proofs.is_of.Tie as tie
 
--- src/lib.rt:55:24
 enum-told : tie.Need-enum-told
 enum-told c = search needs
 
--- src/lib.rt:56:24
 enum-told-2 : tie.Need-enum-told-2
 enum-told-2 c = search needs
 
--- src/lib.rt:56:24
 is-white-requires : tie.Need-is-white-requires
 is-white-requires c κs = search needs
 
--- src/lib.rt:57:24
 enum-told-3 : tie.Need-enum-told-3
 enum-told-3 c = search needs
 
--- src/lib.rt:57:24
 is-white-requires-2 : tie.Need-is-white-requires-2
 is-white-requires-2 c κs = search needs
 
 enum-told-4 : tie.Need-enum-told-4
 enum-told-4 c = search needs
 
--- src/lib.rt:51:1
 returns : tie.Need-returns
 returns c = rw (c .enum-told .given .1)
 
--- src/lib.rt:51:1
 returns-2 : tie.Need-returns-2
 returns-2 c = rw (c .before .enum-told2 .given .1) (c .is-white .ensures)
 
--- src/lib.rt:51:1
 returns-3 : tie.Need-returns-3
 returns-3 c = rw (c .before .enum-told3 .given .1) (ap not (c .is-white2 .ensures))
 
--- src/lib.rt:51:1
 returns-4 : tie.Need-returns-4
 returns-4 c = rw (c .enum-told4 .given .1)
 

@@ -12,39 +12,30 @@ Inv-loop a b i₀ i = Same a b i
 abbrev μ-loop : tie.MeasureT-loop
 μ-loop a b i₀ i = length a - i
 
--- src/lib.rt:107:9
 returns : tie.Need-returns Inv-loop μ-loop
 returns c = same-unlike _ _ (c .if1 .taken)
 
--- src/lib.rt:110:5
 loop-holds : tie.Need-loop-holds Inv-loop μ-loop
 loop-holds c = same-none _ _ (c .if1 .left)
 
--- src/lib.rt:111:12
 shared-slice-read-if2 : tie.Need-shared-slice-read-if2 Inv-loop μ-loop
 shared-slice-read-if2 c = search needs
 
--- src/lib.rt:111:20
 shared-slice-read-if2-2 : tie.Need-shared-slice-read-if2-2 Inv-loop μ-loop
 shared-slice-read-if2-2 c = omega (arith, c .before .before .before .loop .inv .like, c .before .before .loop-test .taken)
 
--- src/lib.rt:112:13
 returns-2 : tie.Need-returns-2 Inv-loop μ-loop
 returns-2 c = same-differs (c .before .before .before .before .loop .inv) (c .before .before .before .loop-test .taken) (c .if2 .taken)
 
--- src/lib.rt:114:9
 add-i : tie.Need-add-i Inv-loop μ-loop
 add-i c = search needs
 
--- src/lib.rt:110:5
 loop-less : tie.Need-loop-less Inv-loop μ-loop
 loop-less c = search needs
 
--- src/lib.rt:110:5
 loop-again : tie.Need-loop-again Inv-loop μ-loop
 loop-again c = same-more (c .before .before .before .before .loop .inv) (c .before .before .before .loop-test .taken) (c .if2 .left)
 
--- src/lib.rt:103:1
 returns-3 : tie.Need-returns-3 Inv-loop μ-loop
 returns-3 c = same-end (c .before .loop .inv) (c .loop-test .left)
 

@@ -13,47 +13,36 @@ Inv-loop s k₀ k = Leads s k
 abbrev μ-loop : tie.MeasureT-loop
 μ-loop s k₀ k = length s - k
 
--- src/lib.rt:137:5
 loop-holds : tie.Need-loop-holds Inv-loop μ-loop
 loop-holds c = leads-none _
 
--- src/lib.rt:138:13
 run-end-requires : tie.Need-run-end-requires Inv-loop μ-loop
 run-end-requires c κs = search needs
 
--- src/lib.rt:139:13
 run-end-requires-2 : tie.Need-run-end-requires-2 Inv-loop μ-loop
 run-end-requires-2 c κs = search needs
 
--- src/lib.rt:140:24
 sub-is-modifier : tie.Need-sub-is-modifier Inv-loop μ-loop
 sub-is-modifier c = search needs
 
--- src/lib.rt:140:24
 part-is-modifier-start : tie.Need-part-is-modifier-start Inv-loop μ-loop
 part-is-modifier-start c = search needs
 
--- src/lib.rt:140:24
 part-is-modifier-end : tie.Need-part-is-modifier-end Inv-loop μ-loop
 part-is-modifier-end c = search needs
 
--- src/lib.rt:140:12
 is-modifier-requires : tie.Need-is-modifier-requires Inv-loop μ-loop
 is-modifier-requires c κs = search needs
 
--- src/lib.rt:137:5
 loop-less : tie.Need-loop-less Inv-loop μ-loop
 loop-less c = let t = c .before .before .before in let h = leads-longer (t .before .before .before .loop .inv) (t .before .run-end .ensures) (t .run-end2 .ensures) (sym (c .before .is-modifier .ensures) ∙ c .if1 .taken) in omega (arith, t .before .run-end .ensures .ahead, t .run-end2 .ensures .within)
 
--- src/lib.rt:137:5
 loop-again : tie.Need-loop-again Inv-loop μ-loop
 loop-again c = let t = c .before .before .before in leads-more (t .before .before .before .loop .inv) (t .before .run-end .ensures) (t .run-end2 .ensures) (sym (c .before .is-modifier .ensures) ∙ c .if1 .taken)
 
--- src/lib.rt:143:13
 returns : tie.Need-returns Inv-loop μ-loop
 returns c = let t = c .before .before .before in leads-here (t .before .before .before .loop .inv) (t .before .run-end .ensures) (t .run-end2 .ensures) (sym (c .before .is-modifier .ensures) ∙ c .if1 .left)
 
--- src/lib.rt:133:1
 returns-2 : tie.Need-returns-2 Inv-loop μ-loop
 returns-2 c = leads-end (c .before .loop .inv) (c .loop-test .left)
 

@@ -13,51 +13,39 @@ Inv-loop normal i₀ i = Walks normal i₀ i
 abbrev μ-loop : tie.MeasureT-loop
 μ-loop normal i₀ i = length normal - i
 
--- src/lib.rt:60:5
 loop-holds : tie.Need-loop-holds Inv-loop μ-loop
 loop-holds c = walks-none _ _
 
--- src/lib.rt:61:13
 run-end-requires : tie.Need-run-end-requires Inv-loop μ-loop
 run-end-requires c κs = search needs
 
--- src/lib.rt:62:21
 sub-is-blank : tie.Need-sub-is-blank Inv-loop μ-loop
 sub-is-blank c = c .run-end .ensures .ahead
 
--- src/lib.rt:62:21
 part-is-blank-start : tie.Need-part-is-blank-start Inv-loop μ-loop
 part-is-blank-start c = search needs
 
--- src/lib.rt:62:21
 part-is-blank-end : tie.Need-part-is-blank-end Inv-loop μ-loop
 part-is-blank-end c = search needs
 
--- src/lib.rt:62:12
 is-blank-requires : tie.Need-is-blank-requires Inv-loop μ-loop
 is-blank-requires c κs = search needs
 
--- src/lib.rt:64:21
 add-i : tie.Need-add-i Inv-loop μ-loop
 add-i c = search needs
 
--- src/lib.rt:60:5
 loop-less : tie.Need-loop-less Inv-loop μ-loop
 loop-less c = let t = c .before .before .before .before in omega (arith, t .run-end .ensures .ahead, c .if2 .taken)
 
--- src/lib.rt:60:5
 loop-again : tie.Need-loop-again Inv-loop μ-loop
 loop-again c = let t = c .before .before .before .before in walks-over (t .before .before .loop .inv) (t .run-end .ensures) (c .if2 .taken) (sym (c .before .before .is-blank .ensures) ∙ c .before .if1 .taken)
 
--- src/lib.rt:66:17
 returns : tie.Need-returns Inv-loop μ-loop
 returns c = let t = c .before .before .before .before in walks-none-left (t .before .before .loop .inv) (t .run-end .ensures) (c .if2 .left) (sym (c .before .before .is-blank .ensures) ∙ c .before .if1 .taken)
 
--- src/lib.rt:69:13
 returns-2 : tie.Need-returns-2 Inv-loop μ-loop
 returns-2 c = let t = c .before .before .before in walks-here (t .before .before .loop .inv) (t .run-end .ensures) (sym (c .before .is-blank .ensures) ∙ c .if1 .left)
 
--- src/lib.rt:56:1
 returns-3 : tie.Need-returns-3 Inv-loop μ-loop
 returns-3 c = walks-end (c .before .loop .inv) (c .loop-test .left)
 
