@@ -71,7 +71,7 @@ module _ (s : Bytes) (n : ℕ) {k : ℕ} (l : n ≤ length s) (m : Lead (take n 
   front : words (take k s) ≡ leading (words (take n s))
   front = ap words (sym (take-take k n s (lead-within .0))) ∙ m .front
 
-  module _ (e : all modifier (words (take n s)) ≡ false) {t₀ : Parts} (z : Empty t₀) {r₁ : Entered} (p : EntersAll s t₀ (elementsFrom true (words (drop k (take n s)))) r₁) where
+  module _ (e : all modifier (words (take n s)) ≡ false) (t₀ : Parts) (z : Empty t₀) {r₁ : Entered} (p : EntersAll s t₀ (elementsFrom true (words (drop k (take n s)))) r₁) where
     start : listed s t₀ ≡ []
     unfolding Empty
     start = z s .0

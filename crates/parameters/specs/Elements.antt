@@ -38,28 +38,30 @@ pub record IsPart (s : Bytes) (from to : ℕ) (first : Bool) (p : Part) : Type 0
 abbrev pub linesOf : Bytes → Parts → Bytes
 linesOf s t = flatMap parameterLine (listed s t)
 
--- what entering parameters one after the other gives: the table with them, or that they have no room
-pub record EntersAll (s : Bytes) (t : Parts) (ps : List Parameter) (r : Entered) : Type 0 where
-  pub table : r .full ≡ false → listed s (r .table) ≡ enteredAll ps (listed s t)
+-- a table with all these parameters, or that they have no room
+pub record Gives (s : Bytes) (all : List Parameter) (r : Entered) : Type 0 where
+  pub table : r .full ≡ false → listed s (r .table) ≡ all
   pub good : r .full ≡ false → Good s (r .table)
-  pub no-room : r .full ≡ true → 32 < length (enteredAll ps (listed s t))
+  pub no-room : r .full ≡ true → 32 < length all
 
--- the table of a step's words, or that it has no room
-pub record Tabled (s : Bytes) (ws : Words) (r : Entered) : Type 0 where
-  pub table : r .full ≡ false → listed s (r .table) ≡ tableOf ws
-  pub good : r .full ≡ false → Good s (r .table)
-  pub no-room : r .full ≡ true → 32 < length (tableOf ws)
+-- what entering parameters one after the other gives
+abbrev pub EntersAll : Bytes → Parts → List Parameter → Entered → Type 0
+EntersAll s t ps r = Gives s (enteredAll ps (listed s t)) r
 
--- the reply that a table is written as
-abbrev written : Reply (List Parameter) → Reply Bytes
-written reply = andThen reply (λ table. answers (flatMap parameterLine table))
+-- what a step's words give
+abbrev pub Tabled : Bytes → Words → Entered → Type 0
+Tabled s ws r = Gives s (tableOf ws) r
+
+-- a reply's table, written
+abbrev inLines : Reply (List Parameter) → Reply Bytes
+inLines reply = andThen reply (λ table. answers (flatMap parameterLine table))
 
 -- for a step's words, for a text with a separator, and for any normalised text
 abbrev pub stepReply : Words → Reply Bytes
-stepReply ws = written (stepTable ws)
+stepReply ws = inLines (stepTable ws)
 
 abbrev pub nameReply : Bytes → Reply Bytes
 nameReply normalised = answers (flatMap parameterLine (name normalised ∷ []))
 
 abbrev pub textReply : Bytes → Reply Bytes
-textReply normalised = written (textTable normalised)
+textReply normalised = inLines (textTable normalised)

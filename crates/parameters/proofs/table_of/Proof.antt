@@ -17,13 +17,13 @@ enter-words-requires : tie.Need-enter-words-requires
 enter-words-requires c κs = let t = c .before .before .before .before in let l = spelt-fits (t .pre .0) in (t .pre .0, ((lead-within _ _ l (c .before .lead-end .ensures) .0, l), empty-good _ (c .empty .ensures)))
 
 returns : tie.Need-returns
-returns c = let t = c .before .before .before .before .before .before in tabled-full _ _ (spelt-fits (t .pre .0)) (c .before .before .before .lead-end .ensures) (t .pre .1) (c .before .before .empty .ensures) (c .before .enter-words .ensures) (c .if1 .taken)
+returns c = let t = c .before .before .before .before .before .before in tabled-full _ _ (spelt-fits (t .pre .0)) (c .before .before .before .lead-end .ensures) (t .pre .1) (c .before .before .empty .result) (c .before .before .empty .ensures) (c .before .enter-words .ensures) (c .if1 .taken)
 
 enter-words-requires-2 : tie.Need-enter-words-requires-2
 enter-words-requires-2 c κs = let t = c .before .before .before .before .before .before in (t .pre .0, ((omega arith, lead-within _ _ (spelt-fits (t .pre .0)) (c .before .before .before .lead-end .ensures) .1), c .before .enter-words .ensures .good (c .if1 .left)))
 
 returns-2 : tie.Need-returns-2
-returns-2 c = let t = c .before .before .before .before .before .before .before in tabled-both _ _ (spelt-fits (t .pre .0)) (c .before .before .before .before .lead-end .ensures) (t .pre .1) (c .before .before .before .empty .ensures) (c .before .before .enter-words .ensures) (c .before .if1 .left) (c .enter-words2 .ensures)
+returns-2 c = let t = c .before .before .before .before .before .before .before in tabled-both _ _ (spelt-fits (t .pre .0)) (c .before .before .before .before .lead-end .ensures) (t .pre .1) (c .before .before .before .empty .result) (c .before .before .before .empty .ensures) (c .before .before .enter-words .ensures) (c .before .if1 .left) (c .enter-words2 .ensures)
 
 pub table-of-spec : {M : Type 1} → statement M
 table-of-spec =

@@ -1,3 +1,4 @@
+use native.Mathlib.Omega.{arith}
 use mathlib.Core.Path.{sym, _∙_}
 use Rattle.table.proofs.Entering.{place-within, there-inside, enters-there, enters-new, enters-full}
 use borrow.Author.Needs.{needs}
@@ -17,10 +18,10 @@ returns : tie.Need-returns
 returns c = let t = c .before .before .before in let s = t .before .before in enters-there (s .pre .0) (s .pre .1) (t .place-of .ensures) (sym (c .before .before .is-there .ensures) ∙ c .before .if1 .taken) (c .replaced .ensures)
 
 inserted-requires : tie.Need-inserted-requires
-inserted-requires c κs = let t = c .before .before .before .before in let s = t .before .before in (place-within (s .pre .0) (s .pre .1) (t .place-of .ensures), (c .if2 .taken, s .pre .0 .size))
+inserted-requires c κs = let t = c .before .before .before .before in let s = t .before .before in (place-within (s .pre .0) (s .pre .1) (t .place-of .ensures), (omega (arith, c .if2 .taken), s .pre .0 .size))
 
 returns-2 : tie.Need-returns-2
-returns-2 c = let t = c .before .before .before .before .before in let s = t .before .before in enters-new (s .pre .0) (s .pre .1) (t .place-of .ensures) (sym (c .before .before .before .before .is-there .ensures) ∙ c .before .before .before .if1 .left) (c .before .if2 .taken) (c .inserted .ensures)
+returns-2 c = let t = c .before .before .before .before .before in let s = t .before .before in enters-new (s .pre .0) (s .pre .1) (t .place-of .ensures) (sym (c .before .before .before .before .is-there .ensures) ∙ c .before .before .before .if1 .left) (omega (arith, c .before .if2 .taken)) (c .inserted .ensures)
 
 returns-3 : tie.Need-returns-3
 returns-3 c = let t = c .before .before .before .before in let s = t .before .before in enters-full (s .pre .0) (s .pre .1) (t .place-of .ensures) (sym (c .before .before .before .is-there .ensures) ∙ c .before .before .if1 .left) (c .if2 .left)
