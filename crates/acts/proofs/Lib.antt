@@ -1,0 +1,6 @@
+pub mod Signs
+pub mod Rest
+pub mod Testing
+pub mod Turning
+pub mod Rolled
+pub mod Making
