@@ -4,3 +4,5 @@ pub mod Testing
 pub mod Turning
 pub mod Rolled
 pub mod Making
+pub mod Visiting
+pub mod Sounding

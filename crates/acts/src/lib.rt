@@ -13,6 +13,7 @@ ghost use Rattle.rules.specs.Lists.{all, any};
 ghost use Rattle.rules.specs.Decimal.{minus};
 ghost use Rattle.rules.specs.Record.{size, isDistinct, isRising, isPlaces, isRoll, isOrder, isAdapt, isArgs, operatorOf, arg, made, refusal18, listed, operator, args, isSet};
 ghost use Rattle.rules.specs.Act.{rolling, unrolling, forward, inverse, act, omitted};
+ghost use Rattle.acts.specs.Visits.{visited};
 ghost use Rattle.acts.specs.Doings.{Roll, Rolled, rolled, Does};
 ghost use Rattle.acts.specs.Tests.{isOf, ofSize, areFactors, isMarked, isWritten, badOf};
 
@@ -591,5 +592,16 @@ pub fn is_omitted(step: Step, direction: Direction) -> bool
     match direction {
         Direction::Forward => step.omit_fwd == 1,
         Direction::Inverse => step.omit_inv == 1,
+    }
+}
+
+// The step that comes after i others of n, in running order.
+pub fn visited_of(direction: Direction, i: usize, n: usize) -> usize
+    requires { ⌜ i < n ⌝ }
+    ensures { λ r. ⌜ (r ≡ visited direction i n) × (r < n) ⌝ }
+{
+    match direction {
+        Direction::Forward => i,
+        Direction::Inverse => n - 1 - i,
     }
 }

@@ -1,6 +1,7 @@
 -- Theorems about the definitions of preparing, check and run.
 pub mod Tests
 pub mod Depth
+pub mod Rolls
 pub mod Verdict
 pub mod Places
 pub mod Keeps

@@ -1,0 +1,51 @@
+-- The check one step after the other, as the code holds it.
+use mathlib.Core.Path.{_≡_}
+use Prim.Native.Nat.{ℕ, _+_, max}
+use mathlib.Core.Bool.{Bool, false, cond, not, _||_}
+use lib.ListN.{set, replicate}
+use lib.Dec.{ltb}
+use Rattle.rules.specs.Act.{Act}
+use Rattle.rules.specs.Columns.{tooFew}
+use Rattle.rules.specs.Check.{adapting, noPlace, four, plus}
+use Rattle.steplaws.specs.Depth.{grown}
+use Rattle.foretell.specs.declared.Judged.{Judged}
+use Rattle.foretell.specs.declared.Judged.the-variants.{Few, Many, Goes}
+use Rattle.foretell.specs.declared.Sofar.{Sofar}
+use Rattle.foretell.specs.Traces.{depth, Moved}
+use Rattle.rules.specs.declared.Foretold.{Foretold}
+use Rattle.rules.specs.declared.Verdict.the-variants.{Passes}
+
+-- too few columns, too many after the act, or so many
+unfoldable pub judged : Act → ℕ → Judged
+judged a depth = cond (tooFew a depth) Few (cond (ltb 64 (grown a depth)) Many (Goes (grown a depth)))
+
+-- before the first step
+pub record Begun (c : Sofar) : Type 0 where
+  pub exactly : c ≡ record {
+    traced = record { tuple = four (plus 1) (plus 2) (plus 3) (plus 4); columns = replicate 64 noPlace; top = 64 };
+    run = 0;
+    depths = replicate 64 0;
+    deepest = 0;
+    adapts = false;
+  }
+
+-- one step more
+pub record Went (a : Act) (depth : ℕ) (c r : Sofar) : Type 0 where
+  pub traced : Moved a (c .traced) (r .traced)
+  pub run : r .run ≡ c .run + 1
+  pub depths : r .depths ≡ set (c .depths) (c .run) depth
+  pub deepest : r .deepest ≡ max (c .deepest) depth
+  pub adapts : r .adapts ≡ (c .adapts || adapting a)
+
+-- what the last step leaves, if all passed
+unfoldable pub toldOf : Sofar → Foretold
+toldOf c =
+    record {
+      verdict = Passes;
+      run = c .run;
+      depths = c .depths;
+      deepest = c .deepest;
+      left = depth (c .traced);
+      told = not (c .adapts);
+      places = cond (not (c .adapts)) (c .traced .tuple) (replicate 4 noPlace);
+    }
