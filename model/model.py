@@ -907,7 +907,7 @@ def steps_output(t):
 # ----- Requests and their answers --------------------------------------------
 
 MOST_ROOM = 131072
-MOST_NUMBERS = MOST_DEPTH * MOST_TUPLES  # of STORE and of `zeros:K`
+MOST_NUMBERS = 4 * (MOST_TUPLES + 1)  # of a list and of STORE: the most tuples and one more
 MOST_SHOWN = 64
 STORE_BEFORE = -7.0
 NATURAL = re.compile(r"[0-9]{1,9}")

@@ -1,5 +1,5 @@
-"""What `compare` and `record` share: asking the Rust and the program `answers`, and what document 01 makes of the Rust's
-answer."""
+"""What `compare`, `record` and `foretold` share: asking the Rust, the program `answers` and the model, and what document 01
+makes of the Rust's answer."""
 
 import os
 import platform
@@ -12,16 +12,22 @@ HERE = os.path.dirname(os.path.abspath(__file__))
 TOP = os.path.dirname(HERE)
 ORACLE = os.path.join(TOP, "target/oracle/oracle")
 ANSWERS = os.path.join(TOP, "target/bin/answers")
+MODEL = os.path.join(TOP, "model/model.py")
 SUBSCRIPT = re.compile(rb"\xe2\x82[\x80-\x89]")
+
+TEXT_CALLS = ["normalise", "split", "parameters", "translate"]
+STEP_CALLS = ["prepare", "check", "run"]
+CALLS = TEXT_CALLS + STEP_CALLS
+
+# ----- asking --------------------------------------------------------------------------------------------------------
 
 
 def drawn(call, kind, **options):
-    """The texts of a list of `oracle/lists`, in hex."""
+    """The requests of a list of `oracle/lists`."""
     words = [os.path.join(HERE, "lists"), "--call", call, "--kind", kind]
     for name, value in options.items():
         words += ["--" + name, str(value)]
-    lines = subprocess.run(words, capture_output=True, text=True, check=True).stdout.split("\n")
-    return [line.split(" ")[2] for line in lines if line]
+    return subprocess.run(words, capture_output=True, text=True, check=True).stdout.split("\n")[:-1]
 
 
 def said(command, lines):
@@ -46,31 +52,192 @@ def answers_command():
             "--library-path", os.path.join(tools, "lib"), ANSWERS]
 
 
-def answers(lines):
-    return said(answers_command(), lines)
+def model_command():
+    return [sys.executable, MODEL]
 
 
-def wanted(call, text, room, told):
-    """What document 01 makes of what the Rust told, as a pattern: of 3 to 6 the Rust knows no place, and of 3 and 4 not
-    which."""
-    t = bytes.fromhex(text.replace("-", ""))
-    if len(t) > 4096:
-        return "refused 1 0"
-    if not SUBSCRIPT.sub(b"", t).isascii():
-        return "refused 2 0"
+def text_of(line):
+    """The text of a request, as bytes."""
+    fields = line.split(" ")
+    return bytes.fromhex(fields[3 if fields[0] == "run" else 2].replace("-", ""))
+
+
+def prepare_of(line):
+    """The request to prepare the same text."""
+    return "prepare 64 " + (text_of(line).hex() or "-")
+
+
+def told_of(lines):
+    """What the Rust says to each request, and for check and run what it makes of the text's steps."""
+    told = rust(lines)
+    steps = [line for line in lines if line.startswith(("check ", "run "))]
+    prepared = iter(rust([prepare_of(line) for line in steps]) if steps else [])
+    return [(one, next(prepared) if line.startswith(("check ", "run ")) else None) for line, one in zip(lines, told)]
+
+
+# ----- where document 01 and the Rust part (docs/DIFFERENCES.md), each as a test -------------------------------------
+
+MODIFIER = rb"(?:inv|omit_fwd|omit_inv)"
+PARTED = [
+    # a `>` or `<` that is followed, white space aside, by one of `: = , | < >`
+    re.compile(rb"[<>]\s*[:=,|<>]"),
+    # a step of a colon and a modifier whose last word ends in `=`, `,` or `$`
+    re.compile(rb"(?:^|[|<>])[:\s]*:[:\s]*" + MODIFIER + rb"\b[^|<>]*[=,$][:\s]*(?:[|<>]|$)"),
+]
+
+
+def normalises_apart(text):
+    """Whether it could matter how often the text is normalised: document 01 once, the crate twice."""
+    bare = re.sub(rb"#[^\n\r]*", b"", text)
+    inner = bare.strip().strip(b":").strip()
+    # a text that begins or ends in colons parted by white space, beside a separator
+    colons = inner.startswith(b":") or inner.endswith(b":")
+    return any(form.search(bare) for form in PARTED) or (colons and any(sign in bare for sign in b"|<>"))
+
+
+def unrolls_back(line, records):
+    """Whether an inverse unroll is asked for, at which the Rust panics."""
+    runs = [record for record in records if "o" not in record.split(":")[1]]
+    return line.split(" ")[1] == "inv" and any(record.startswith("stack.unroll:") for record in runs)
+
+
+def named_apart(text):
+    """Whether a step may be named `pipeline` or a modifier, from which the Rust never returns. The modifier can come to
+    `_name=` from the front of its step (`inv _name=|`), and `>` and `<` write one out (`>_name=`)."""
+    return b"pipeline" in text or (b"_name" in text and re.search(MODIFIER + rb"|[<>]", text) is not None)
+
+
+# ----- what document 01 makes of the Rust's answer -------------------------------------------------------------------
+
+# why an answer is not held against the Rust
+SHIM = "a shim's rule"  # 10, 11, 12: the Rust that decides them is not at hand
+LONE = "lone step"  # no separator: outside the domain
+APART = "normalising"  # the three ways to part
+UNROLL = "inverse unroll"
+NAMED = "name"
+
+
+class Wanted:
+    """A pattern for the whole answer, and why the Rust has no say where it has none; then `plain` is what it says all the
+    same, if anything."""
+
+    def __init__(self, pattern, why=None, plain=None):
+        self.pattern = pattern
+        self.why = why
+        self.plain = plain
+
+    def refuses(self):
+        return self.pattern.startswith("refused")
+
+    def agrees(self, answer):
+        return re.fullmatch(self.pattern, answer) is not None
+
+
+def refused(number, place):
+    return Wanted("refused %s %s" % (number, place))
+
+
+def wanted(line, told, prepared=None):
+    call, room = line.split(" ")[:2]
+    text = text_of(line)
+    if len(text) > 4096:
+        return refused(1, 0)
+    if not SUBSCRIPT.sub(b"", text).isascii():
+        return refused(2, 0)
+    if call in TEXT_CALLS:
+        return wanted_text(call, int(room), told)
+    if call == "prepare":
+        return wanted_prepare(int(room), told)
+    return wanted_steps(line, told, prepared)
+
+
+def wanted_text(call, room, told):
+    """Of 3 to 6 the Rust knows no place, and of 3 and 4 not which."""
     if told == "hang":
-        return "refused 6 0" if call == "parameters" else r"refused 6 [1-9]\d*"
+        return refused(6, 0) if call == "parameters" else refused(6, r"[1-9]\d*")
     if told == "err":
-        return r"refused [34] [1-9]\d*"
+        return refused("[34]", r"[1-9]\d*")
     if told == "panic":
-        return r"refused 5 [1-9]\d*"
-    out = told[3:].replace("-", "")
-    lines = bytes.fromhex(out).count(b"\n")
+        return refused(5, r"[1-9]\d*")
+    lines = bytes.fromhex(told[3:].replace("-", "")).count(b"\n")
     if call == "split" and lines > 64:
-        return "refused 8 0"
+        return refused(8, 0)
     if call == "parameters" and lines > 32:
-        return "refused 9 0"
-    return "refused 7 0" if len(out) // 2 > room else re.escape(told)
+        return refused(9, 0)
+    return refused(7, 0) if length(told) > room else Wanted(re.escape(told))
+
+
+def step_number(step):
+    """The number that refuses a step, by what the Rust says of it: LENGTH/KEYS/MOST/VERDICT; 0 for none."""
+    size, keys, most, verdict = step.split("/", 3)
+    holds = {1: int(size) > 4096, 6: verdict == "hang", 9: int(keys) > 32, 13: int(most) > 8, 14: verdict == "err",
+             **{number: verdict == "shim:%d" % number for number in (10, 11, 12)}}
+    return min((number for number in holds if holds[number]), default=0)
+
+
+def wanted_prepare(room, told):
+    if told == "hang":
+        return refused(6, r"[1-9]\d*")
+    steps = told.split(" ")[2:]
+    if len(steps) > 64:
+        return refused(8, 0)
+    for place, step in enumerate(steps, 1):
+        number = step_number(step)
+        if number:
+            answer = refused(number, place)
+            answer.why = SHIM if number in (10, 11, 12) else None
+            return answer
+    if len(steps) > room:
+        return refused(7, 0)
+    return Wanted(re.escape(" ".join(["ok", str(len(steps))] + [step.split("/", 3)[3] for step in steps])))
+
+
+def wanted_steps(line, told, prepared):
+    """Of check and run: where it could matter how often the text is normalised, the crate has no say."""
+    plain = wanted_of_crate(line, told, prepared)
+    return Wanted(".*", APART, plain) if normalises_apart(text_of(line)) else plain
+
+
+def wanted_of_crate(line, told, prepared):
+    """What preparing by document 01 gives, and then what the crate does."""
+    text, made = text_of(line), wanted_prepare(64, prepared)
+    if told == "lone":
+        return Wanted(".*", LONE)
+    if made.refuses():
+        if told == "hang" and made.pattern.startswith("refused 10 "):
+            return Wanted(made.pattern, NAMED) if named_apart(text) else Wanted("not 10")
+        # Where a size refuses, the Rust may answer; else it must not.
+        sized = re.match("refused (1|8|9|13) ", made.pattern)
+        return made if sized or not told.startswith("ok ") else Wanted("not refused")
+    records = made.pattern.replace("\\", "").split(" ")[2:]
+    if unrolls_back(line, records) and told == "panic":
+        return Wanted("(ok|passes|fails|refused 1[567]) .*", UNROLL)
+    if not told.startswith("ok "):
+        return Wanted("the Rust refuses")
+    return Wanted(re.escape(told[3:])) if line.startswith("check ") else wanted_run(line, told)
+
+
+def wanted_run(line, told):
+    _, _, store, _, numbers = line.split(" ")
+    many = int(numbers[len("zeros:"):]) if numbers.startswith("zeros:") else len(numbers.split(",")) if numbers != "-" else 0
+    if many % 4 or many > 4 * 65536:
+        return refused(15, 0)
+    count, left, after, columns, depths, *stomp = told.split(" ")[1:]
+    deepest = 0
+    for place, depth in (pair.split(":") for pair in depths.split(",") if pair != "-"):
+        if int(depth) > 64:
+            return refused(16, place)
+        deepest = max(deepest, int(depth))
+    if int(store) < deepest * (many // 4):
+        return refused(17, 0)
+    if stomp:  # the numbers rest on a shim's rule
+        return Wanted("ok %s %s .*" % (count, left), SHIM)
+    if many > 64:
+        return Wanted("ok %s %s - -" % (count, left))
+    row = [number for number in columns.split(",") if number != "-"]
+    row += ["0" * 16] * (deepest * (many // 4) - len(row))
+    row += ["c01c000000000000"] * (int(store) - len(row))
+    return Wanted("ok %s %s %s %s" % (count, left, after, ",".join(row) or "-"))
 
 
 def length(told):

@@ -1,23 +1,22 @@
-//! The oracle: the text calls of geodesy 0.15.0, asked by the protocol of the program `answers`.
+//! The oracle: geodesy 0.15.0, asked by the protocol of the program `answers`.
 //!
-//! It reads requests from standard input, one a line, and writes one line for each. The Rust that answers is
-//! `token/mod.rs` of the folder given to `oracle/build`, unchanged. README.md says what the answers mean.
+//! It reads requests from standard input, one a line, and writes one line for each. The Rust that answers is that of the
+//! folder given to `oracle/build`, unchanged: `token/mod.rs`, `op/mod.rs`, `op/raw_parameters.rs` and five files of
+//! `inner_op`. What those ask for and is not at hand stands in `shims`. README.md says what the answers mean.
 
 use std::io::{self, BufRead, BufReader, BufWriter, Write};
 use std::panic::{AssertUnwindSafe, catch_unwind};
 use std::sync::atomic::{AtomicBool, Ordering::Relaxed};
 
-/// Stands for the crate's own `Error` (its `src/lib.rs`), of which `token/mod.rs` makes this one case only. Nothing
-/// here reads the message: only accepted or refused is compared.
+mod authoring;
+mod inner_op;
+#[allow(dead_code)] // the crate's other modules use the rest of these two
+mod op;
+mod steps;
 #[allow(dead_code)]
-pub enum Error {
-    Unsupported(String),
-}
+mod token;
 
-#[allow(dead_code)] // the crate's other modules use the rest of it
-mod token {
-    include!(concat!(env!("GEODESY_SRC"), "/token/mod.rs"));
-}
+use authoring::Error;
 use token::{Tokenize, parse_proj};
 
 /// True exactly where `handle_prefix_modifiers` would never return from `step`. It gives back at once a text with a
@@ -29,80 +28,93 @@ fn turns_for_ever(step: &str) -> bool {
     !step.is_pipeline() && !words.is_empty() && words.iter().all(|word| modifiers.contains(word))
 }
 
-/// What becomes of a request.
-enum Answer {
-    Ok(String),
-    Err,
-    Hang,
-    NotUtf8,
-    What,
+/// Answers one request; none where it is no request. `foresee` is off only where `oracle/test` wants to see the Rust never
+/// return. The room, or the store, that `answers` is to lend says nothing to the Rust, which makes its own.
+fn answer(line: &[u8], foresee: bool) -> Option<String> {
+    let line = std::str::from_utf8(line).ok()?;
+    let fields: Vec<&str> = line.split(' ').collect();
+    match fields[..] {
+        [
+            call @ ("normalise" | "split" | "parameters" | "translate" | "prepare"),
+            room,
+            text,
+        ] => {
+            natural(room)?;
+            on_text(text, |text| told_of_text(call, text, foresee))
+        }
+        ["check", direction @ ("fwd" | "inv"), text] => {
+            on_text(text, |text| told(steps::check(direction, text, foresee)))
+        }
+        ["run", direction @ ("fwd" | "inv"), store, text, numbers] => {
+            natural(store)?;
+            let numbers = read_numbers(numbers)?;
+            on_text(text, |text| {
+                told(steps::run(direction, text, &numbers, foresee))
+            })
+        }
+        _ => None,
+    }
 }
 
-/// Answers one request. `foresee` is off only where `oracle/test` wants to see the Rust never return.
-fn answer(line: &[u8], foresee: bool) -> Answer {
-    let mut fields = line.split(|byte| *byte == b' ');
-    let (Some(call), Some(room), Some(text), None) =
-        (fields.next(), fields.next(), fields.next(), fields.next())
-    else {
-        return Answer::What;
-    };
-    // The room that `answers` is to lend says nothing to the Rust, which makes its own.
-    let known = matches!(call, b"normalise" | b"split" | b"parameters" | b"translate");
-    if !known || room.is_empty() || !room.iter().all(u8::is_ascii_digit) {
-        return Answer::What;
-    }
-    let Some(bytes) = unhex(text) else {
-        return Answer::What;
-    };
-    let Ok(text) = std::str::from_utf8(&bytes) else {
-        return Answer::NotUtf8;
-    };
+fn told_of_text(call: &str, text: &str, foresee: bool) -> String {
     match call {
-        b"normalise" => Answer::Ok(text.normalize()),
-        b"split" => {
-            // The pieces that `split_into_steps` hands to `handle_prefix_modifiers`, by its own first three calls.
-            // Those it drops before have no words.
-            if foresee
-                && text
-                    .remove_comments()
-                    .normalize()
-                    .split('|')
-                    .any(turns_for_ever)
-            {
-                return Answer::Hang;
-            }
-            Answer::Ok(
-                text.split_into_steps()
-                    .iter()
-                    .map(|step| format!("{step}\n"))
-                    .collect(),
-            )
+        "normalise" => ok(&text.normalize()),
+        "split" if foresee && steps::splitting_hangs(text) => "hang".to_string(),
+        "split" => {
+            let steps = text.split_into_steps();
+            ok(&steps
+                .iter()
+                .map(|step| format!("{step}\n"))
+                .collect::<String>())
         }
-        b"parameters" => {
-            // The one text that `split_into_parameters` hands to it.
-            if foresee && turns_for_ever(&text.normalize()) {
-                return Answer::Hang;
-            }
+        // The one text that `split_into_parameters` hands to `handle_prefix_modifiers`
+        "parameters" if foresee && turns_for_ever(&text.normalize()) => "hang".to_string(),
+        "parameters" => {
             let parameters = text.split_into_parameters();
-            Answer::Ok(
-                parameters
-                    .iter()
-                    .map(|(key, value)| format!("{key}={value}\n"))
-                    .collect(),
-            )
+            let line = |(key, value): (&String, &String)| format!("{key}={value}\n");
+            ok(&parameters.iter().map(line).collect::<String>())
         }
-        _ => match parse_proj(text) {
-            Ok(translated) => Answer::Ok(translated),
-            Err(_) => Answer::Err,
-        },
+        "translate" => parse_proj(text).map_or("err".to_string(), |translated| ok(&translated)),
+        _ => told(steps::prepare(text)),
     }
 }
 
-/// The bytes of a TEXT field: lowercase hex, `-` for none.
-fn unhex(field: &[u8]) -> Option<Vec<u8>> {
-    if field == b"-" {
+fn ok(text: &str) -> String {
+    format!("ok {}", hex(text))
+}
+
+fn told(answer: Result<String, steps::No>) -> String {
+    answer.map_or_else(|no| no.word(), |line| format!("ok {line}"))
+}
+
+/// What is told of a TEXT field: lowercase hex, `-` for none.
+fn on_text(field: &str, told: impl Fn(&str) -> String) -> Option<String> {
+    let bytes = if field == "-" {
+        Vec::new()
+    } else {
+        unhex(field)?
+    };
+    Some(std::str::from_utf8(&bytes).map_or("not-utf8".to_string(), told))
+}
+
+fn natural(field: &str) -> Option<()> {
+    (!field.is_empty() && field.bytes().all(|byte| byte.is_ascii_digit())).then_some(())
+}
+
+/// A NUMBERS field: `-` for none, `zeros:K`, or bit patterns joined by commas.
+fn read_numbers(field: &str) -> Option<Vec<f64>> {
+    if field == "-" {
         return Some(Vec::new());
     }
+    if let Some(many) = field.strip_prefix("zeros:") {
+        natural(many)?;
+        return Some(vec![0.0; many.parse().ok()?]);
+    }
+    let number = |bits: &str| Some(f64::from_be_bytes(unhex(bits)?.try_into().ok()?));
+    field.split(',').map(number).collect()
+}
+
+fn unhex(field: &str) -> Option<Vec<u8>> {
     if field.is_empty() || field.len() % 2 != 0 {
         return None;
     }
@@ -111,21 +123,21 @@ fn unhex(field: &[u8]) -> Option<Vec<u8>> {
         b'a'..=b'f' => Some(byte - b'a' + 10),
         _ => None,
     };
-    field
-        .chunks_exact(2)
+    let pairs = field.as_bytes().chunks_exact(2);
+    pairs
         .map(|pair| Some(digit(pair[0])? * 16 + digit(pair[1])?))
         .collect()
 }
 
-/// Appends a TEXT field.
-fn hex(text: &str, out: &mut Vec<u8>) {
+/// A TEXT field.
+fn hex(text: &str) -> String {
     if text.is_empty() {
-        out.push(b'-');
+        return "-".to_string();
     }
-    for byte in text.bytes() {
-        out.push(b"0123456789abcdef"[usize::from(byte >> 4)]);
-        out.push(b"0123456789abcdef"[usize::from(byte & 15)]);
-    }
+    let digit = |nibble: u8| char::from(b"0123456789abcdef"[usize::from(nibble)]);
+    text.bytes()
+        .flat_map(|byte| [digit(byte >> 4), digit(byte & 15)])
+        .collect()
 }
 
 /// On while a request is answered: a panic then is an answer, and nothing is printed about it.
@@ -152,7 +164,6 @@ fn main() -> io::Result<()> {
     let mut input = BufReader::with_capacity(1 << 16, io::stdin().lock());
     let mut output = BufWriter::with_capacity(1 << 16, io::stdout().lock());
     let mut line = Vec::new();
-    let mut reply = Vec::new();
     loop {
         // Whoever waits for an answer before asking again gets it now.
         if input.buffer().is_empty() {
@@ -170,20 +181,12 @@ fn main() -> io::Result<()> {
         let answered = catch_unwind(AssertUnwindSafe(|| answer(&line, foresee)));
         ANSWERING.store(false, Relaxed);
 
-        reply.clear();
-        match answered {
-            Ok(Answer::Ok(text)) => {
-                reply.extend_from_slice(b"ok ");
-                hex(&text, &mut reply);
-            }
-            Ok(Answer::Err) => reply.extend_from_slice(b"err"),
-            Ok(Answer::Hang) => reply.extend_from_slice(b"hang"),
-            Ok(Answer::NotUtf8) => reply.extend_from_slice(b"not-utf8"),
-            Ok(Answer::What) => reply.extend_from_slice(b"what"),
-            Err(_) => reply.extend_from_slice(b"panic"),
-        }
-        reply.push(b'\n');
-        output.write_all(&reply)?;
+        let reply = match answered {
+            Ok(Some(told)) => told,
+            Ok(None) => "what".to_string(),
+            Err(_) => "panic".to_string(),
+        };
+        writeln!(output, "{reply}")?;
     }
     output.flush()
 }
