@@ -8,6 +8,7 @@ pub mod Keeps
 pub mod Named
 pub mod Lengths
 pub mod Foretold
+pub mod Exactly
 pub mod Runs
 pub mod Walk
 pub mod Operators
