@@ -51,7 +51,7 @@ numbers-tuples (a ∷ b ∷ c ∷ d ∷ l) h = rw (numbers-tuples l (omega arith
 
 -- ---- the tuples and the columns
 
-stored-length : (i : ℕ) (v : List Float) (ts : List Coord) → length (stored i v ts) ≡ length ts
+pub stored-length : (i : ℕ) (v : List Float) (ts : List Coord) → length (stored i v ts) ≡ length ts
 unfolding stored
 stored-length i v [] = refl
 stored-length i [] (t ∷ ts) = refl

@@ -1,0 +1,5 @@
+pub mod Signs
+pub mod Firsts
+pub mod Loading
+pub mod Swapping
+pub mod Making

@@ -1,0 +1,27 @@
+use Rattle.coordinate.proofs.Loading.{load-tuple}
+use borrow.Author.Needs.{needs}
+use Rattle.coordinate.proofs.get_coord.Statement.{statement}
+use Rattle.coordinate.proofs.get_coord.Tie as tie
+
+returns : tie.Need-returns
+returns c =
+    let start = c .before .before .before .before in
+    load-tuple (start .args .xs .now) (start .args .i) (start .pre)
+
+pub get-coord-spec : {M : Type 1} → statement M
+get-coord-spec =
+    tie.close
+    (tie.spec
+    (λ c. search needs)
+    (λ c. search needs)
+    (λ c. search needs)
+    (λ c. search needs)
+    (λ c. search needs)
+    (λ c. search needs)
+    (λ c. search needs)
+    (λ c. search needs)
+    (λ c. search needs)
+    (λ c. search needs)
+    (λ c. search needs)
+    (λ c. search needs)
+    returns)

@@ -1,0 +1,6 @@
+pub mod Depths
+pub mod Choosing
+pub mod Stepping
+pub mod Planning
+pub mod Running
+pub mod Finishing

@@ -1,0 +1,62 @@
+-- A step of the table, omitted or not: from what the calls ensure of its act.
+use mathlib.Core.Path.{_≡_, refl, sym, ap, _∙_, subst}
+use Prim.Native.Nat.{ℕ, _*_, _/_, _≤_, max, min}
+use mathlib.Core.Bool.{Bool, true, false, cond}
+use mathlib.Core.List.{List}
+use native.Mathlib.Omega.{arith}
+use lib.ListN.{length, drop}
+use lib.Ieee.{Float}
+use Rattle.rules.specs.Act as rules
+use Rattle.rules.specs.Act.{act, omitted}
+use Rattle.rules.specs.Tuples.{acted, countsNone}
+use Rattle.rules.specs.declared.Step.{Step}
+use Rattle.rules.specs.declared.Direction.{Direction}
+use Rattle.steplaws.specs.Depth.{depthAfter}
+use Rattle.acts.specs.Doings.{doing, Does}
+use Rattle.acts.specs.declared.Doing.{Doing}
+use Rattle.columns.specs.Rows.{held}
+use Rattle.pipeline.specs.Plans.{depthStepped, stepped, countStepped, Stepped}
+use Rattle.pipeline.specs.Ways.{Acted}
+
+-- the act of a step is what its doing does
+pub own : {a : rules.Act} {r : Doing} → Does a r → Does (doing r) r
+own h = record { same = refl; slots = h .slots; rule = h .rule }
+
+module _ (d : Direction) (s : Step) (depth : ℕ) where
+  pub depth-omitted : omitted d s ≡ true → depth ≡ depthStepped d s depth
+  unfolding depthStepped
+  depth-omitted e = rw e
+
+  pub depth-run : {a : rules.Act} (r : ℕ) → omitted d s ≡ false → a ≡ act d s → r ≡ depthAfter a depth → r ≡ depthStepped d s depth
+  unfolding depthStepped
+  depth-run r e f h = rw e (h ∙ ap (λ (z : rules.Act). depthAfter z depth) f)
+
+  pub depth-is : {a : rules.Act} → omitted d s ≡ false → a ≡ act d s → depthAfter a depth ≡ depthStepped d s depth
+  depth-is {a} e f = depth-run (depthAfter a depth) e f refl
+
+  module _ (tuples count : ℕ) (b : count ≤ tuples) where
+    pub count-omitted : omitted d s ≡ true → count ≡ countStepped d s depth tuples count
+    unfolding countStepped
+    count-omitted e = rw e
+
+    pub count-run : {a : rules.Act} {r : Bool} → omitted d s ≡ false → a ≡ act d s → r ≡ countsNone a depth → cond r 0 count ≡ countStepped d s depth tuples count
+    unfolding countStepped
+    count-run {a} {r} e f h = rw (e, ← f, ← h) (go r)
+      where
+        go : (r : Bool) → cond r 0 count ≡ min count (cond r 0 tuples)
+        go true = omega arith
+        go false = omega arith
+
+  module _ (xs store : List Float) where
+    pub step-omitted : omitted d s ≡ true → Stepped d s depth xs store xs store
+    unfolding stepped depthStepped
+    step-omitted e = record { machine = rw e; beyond = refl }
+
+    pub step-run : {a : rules.Act} (xs′ store′ : List Float) → omitted d s ≡ false → a ≡ act d s → Acted a depth xs store xs′ store′ → Stepped d s depth xs store xs′ store′
+    unfolding stepped
+    step-run {a} xs′ store′ e f h =
+        let g = depth-is e f in
+        record {
+          machine = ap (held xs′ store′) (sym g) ∙ h .machine ∙ rw e (ap (λ (z : rules.Act). acted z (held xs store depth)) f);
+          beyond = subst (λ (z : ℕ). drop (max depth z * (length xs / 4)) store′ ≡ drop (max depth z * (length xs / 4)) store) g (h .beyond);
+        }

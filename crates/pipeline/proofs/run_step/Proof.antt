@@ -1,0 +1,36 @@
+use mathlib.Core.Path.{sym, _∙_, subst}
+use Prim.Native.Nat.{ℕ, _*_, _/_, _≤_}
+use lib.ListN.{length}
+use Rattle.pipeline.proofs.Stepping.{own, depth-is, step-omitted, step-run}
+use borrow.Author.Needs.{needs}
+use Rattle.pipeline.proofs.run_step.Statement.{statement}
+use Rattle.pipeline.proofs.run_step.Tie as tie
+
+returns : tie.Need-returns
+returns c =
+    let a = c .before .before .before .before .args in
+    step-omitted (a .direction) (a .s) (a .depth) (a .tuples .now) (a .columns .now) (sym (c .before .is-omitted .ensures) ∙ c .if1 .taken)
+
+run-act-requires : tie.Need-run-act-requires
+run-act-requires c κs =
+    let s = c .before .before .before .before .before .before .before in
+    let a = s .args in
+    let e = depth-is (a .direction) (a .s) (a .depth) (sym (c .before .before .before .before .is-omitted .ensures) ∙ c .before .before .before .if1 .left) (c .act-of .ensures .same) in
+    (s .pre .0, (own (c .act-of .ensures), (s .pre .1 .1 .0, subst (λ (z : ℕ). z * (length (a .tuples .now) / 4) ≤ length (a .columns .now)) (sym e) (s .pre .1 .1 .1))))
+
+returns-2 : tie.Need-returns-2
+returns-2 c =
+    let a = c .before .before .before .before .before .before .before .before .before .before .before .before .args in
+    step-run (a .direction) (a .s) (a .depth) (a .tuples .now) (a .columns .now) _ _ (sym (c .before .before .before .before .before .before .before .before .before .is-omitted .ensures) ∙ c .before .before .before .before .before .before .before .before .if1 .left) (c .before .before .before .before .before .act-of .ensures .same) (c .before .before .before .before .run-act .ensures)
+
+pub run-step-spec : {M : Type 1} → statement M
+run-step-spec =
+    tie.close
+    (tie.spec
+    (λ c κs. search needs)
+    returns
+    (λ c κs. c .before .before .before .before .before .before .pre .1 .0)
+    run-act-requires
+    (λ c. c .before .before .before .before .run-act .kept .0)
+    (λ c. c .before .before .before .before .run-act .kept .1 .0)
+    returns-2)

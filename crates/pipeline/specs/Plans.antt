@@ -1,0 +1,70 @@
+-- The depths of a run: what a pass without numbers tells of refusals 16 and 17.
+use mathlib.Core.Path.{_≡_}
+use Prim.Native.Nat.{ℕ, _*_, _/_, _≤_, max, min}
+use mathlib.Core.Bool.{cond}
+use mathlib.Core.Option.{Option, none, some}
+use mathlib.Core.List.{List, [], _∷_}
+use lib.ListN.{length, drop}
+use lib.Dec.{ltb}
+use lib.Ieee.{Float}
+use Rattle.rules.specs.Act.{act, Numbered, omitted}
+use Rattle.rules.specs.Tuples.{State, acted, countsNone}
+use Rattle.rules.specs.Columns.{after}
+use Rattle.rules.specs.Run.{start, count, Outcome}
+use Rattle.rules.specs.declared.Step.{Step}
+use Rattle.rules.specs.declared.Direction.{Direction}
+use Rattle.rules.specs.declared.Ran.{Ran}
+use Rattle.steplaws.specs.Depth.{depthAfter}
+use Rattle.columns.specs.Rows.{held}
+use Rattle.pipeline.specs.declared.Ended.{Ended}
+use Rattle.pipeline.specs.declared.Plan.{Plan}
+use Rattle.pipeline.specs.declared.Plan.the-variants.{Over, Deepest}
+
+-- ---- one step, which may be omitted
+
+unfoldable pub depthStepped : Direction → Step → ℕ → ℕ
+depthStepped d s depth = cond (omitted d s) depth (depthAfter (act d s) depth)
+
+unfoldable pub stepped : Direction → Step → State → State
+stepped d s m = cond (omitted d s) m (acted (act d s) m)
+
+-- the count after it, from the count before; `tuples` is their number
+unfoldable pub countStepped : Direction → Step → ℕ → ℕ → ℕ → ℕ
+countStepped d s depth tuples count = cond (omitted d s) count (min count (cond (countsNone (act d s) depth) 0 tuples))
+
+-- ---- the depths of a run that finds `depth` columns
+
+-- 16: the place of the first step after which there are more than 64
+unfoldable pub passesFrom : List Numbered → ℕ → Option ℕ
+passesFrom [] depth = none
+passesFrom (s ∷ l) depth =
+    let d = depthAfter (s .does) depth in
+    let rest = passesFrom l d in
+    cond (ltb 64 d) (some (s .place)) rest
+
+unfoldable pub deepestFrom : List Numbered → ℕ → ℕ
+deepestFrom [] depth = 0
+deepestFrom (s ∷ l) depth = max (depthAfter (s .does) depth) (deepestFrom l (depthAfter (s .does) depth))
+
+-- both, in the words of the code
+unfoldable pub planOf : Option ℕ → ℕ → Plan
+planOf (some place) deepest = Over place
+planOf none deepest = Deepest deepest
+
+-- ---- the run
+
+-- what a step of the table leaves in list and store: the machine, and the store untouched beyond
+pub record Stepped (d : Direction) (s : Step) (depth : ℕ) (xs store xs′ store′ : List Float) : Type 0 where
+  pub machine : held xs′ store′ (depthStepped d s depth) ≡ stepped d s (held xs store depth)
+  pub beyond : drop (max depth (depthStepped d s depth) * (length xs / 4)) store′ ≡ drop (max depth (depthStepped d s depth) * (length xs / 4)) store
+
+-- what a call answers and leaves is a given outcome
+pub record Gives (o : Outcome) (result : Ran) (xs store : List Float) : Type 0 where
+  pub exactly : _≡_ {A = Outcome} (record { answer = result; list = xs; store = store }) o
+
+-- what the steps of a run leave, `deepest` columns deep at the most: the machine, the count, and the store untouched beyond
+pub record Ends (l : List Numbered) (deepest : ℕ) (xs store : List Float) (result : Ended) (xs′ store′ : List Float) : Type 0 where
+  pub machine : held xs′ store′ (result .left) ≡ after acted l (start xs)
+  pub counted : result .count ≡ count l (start xs)
+  pub low : result .left ≤ deepest
+  pub beyond : drop (deepest * (length xs / 4)) store′ ≡ drop (deepest * (length xs / 4)) store

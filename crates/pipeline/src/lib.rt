@@ -1,0 +1,365 @@
+// The run of a step table over a list of tuples and a lent store of columns, both ways.
+use acts::Act;
+use acts::Bad;
+use acts::Doing;
+use acts::act_of;
+use acts::is_omitted;
+use acts::refusal18;
+use acts::visited_of;
+use columns::Move;
+use columns::move_all;
+use columns::zero_rest;
+use coordinate::adapt;
+use coordinate::axisswap;
+use rules::Direction;
+use rules::Ran;
+use rules::Step;
+use rules::Table;
+ghost use mathlib.Core.Path.{_≡_};
+ghost use mathlib.Core.Bool.{true, false};
+ghost use mathlib.Core.Option.{none};
+ghost use Prim.Native.Nat.{_*_, _≤_, _<_, _/_, max};
+ghost use lib.ListN.{length, take};
+ghost use Rattle.rules.specs.Record.{made, refusal18, listed};
+ghost use Rattle.rules.specs.Act.{act, running};
+ghost use Rattle.rules.specs.Tuples.{countsNone};
+ghost use Rattle.rules.specs.Run.{badList, finished, unless15, Runs};
+ghost use Rattle.steplaws.specs.Depth.{depthAfter};
+ghost use Rattle.acts.specs.Doings.{doing, Does};
+ghost use Rattle.pipeline.specs.Plans.{depthStepped, countStepped, passesFrom, deepestFrom, planOf, Stepped, Gives, Ends};
+ghost use Rattle.pipeline.specs.Ways.{Chosen, Acted, turns};
+
+// ---- one act
+
+// What the code does for an act at a depth.
+pub enum Way {
+    Moves(Move),
+    Orders { back: bool },
+    Adapts { back: bool },
+    Stays,
+}
+
+// A roll of n times, of which m are a full turn.
+fn turns_of(m: usize, n: usize) -> usize
+    ensures { λ r. ⌜ r ≡ turns m n ⌝ }
+{
+    if n < m { n } else { n - m }
+}
+
+// What the depth is after an act.
+fn depth_after(d: Doing, depth: usize) -> usize
+    requires { ⌜ depth ≤ 64 ⌝ }
+    requires { ⌜ d .n ≤ 8 ⌝ }
+    ensures { λ r. ⌜ r ≡ depthAfter (doing d) depth ⌝ }
+{
+    let n = d.n;
+    let act = d.act;
+    match act {
+        Act::Pushes => n + depth,
+        Act::Pops => {
+            if depth < n {
+                return 0;
+            }
+            depth - n
+        }
+        Act::PopsAll => {
+            if depth < n {
+                return depth;
+            }
+            depth - n
+        }
+        Act::Flips => depth,
+        Act::Rolls { m: _, n: _ } => depth,
+        Act::Swaps => depth,
+        Act::Drops => depth,
+        Act::Orders { back: _ } => depth,
+        Act::Adapts { back: _ } => depth,
+    }
+}
+
+// Does an act count none of the tuples?
+fn counts_none(d: Doing, depth: usize) -> bool
+    requires { ⌜ d .n ≤ 8 ⌝ }
+    ensures { λ r. ⌜ r ≡ countsNone (doing d) depth ⌝ }
+{
+    let n = d.n;
+    let act = d.act;
+    match act {
+        Act::Pushes => false,
+        Act::Pops => depth < n,
+        Act::PopsAll => depth < n,
+        Act::Flips => depth < n,
+        Act::Rolls { m: m, n: _ } => depth < m,
+        Act::Swaps => depth == 0,
+        Act::Drops => true,
+        Act::Orders { back: _ } => false,
+        Act::Adapts { back: _ } => false,
+    }
+}
+
+// What the code does for an act, d columns deep.
+fn way_of(d: Doing, depth: usize) -> Way
+    requires { ⌜ depth ≤ 64 ⌝ }
+    requires { ⌜ Does (doing d) d ⌝ }
+    ensures { λ r. ⌜ Chosen (doing d) (take (d .n) (d .args)) depth r ⌝ }
+{
+    let n = d.n;
+    let act = d.act;
+    match act {
+        Act::Pushes => Way::Moves(Move::Push),
+        Act::Pops => Way::Moves(Move::Pop),
+        Act::PopsAll => {
+            if depth < n {
+                return Way::Moves(Move::Stomp);
+            }
+            Way::Moves(Move::Pop)
+        }
+        Act::Flips => {
+            if depth < n {
+                return Way::Moves(Move::Stomp);
+            }
+            Way::Moves(Move::Flip)
+        }
+        Act::Rolls { m: w, n: r } => {
+            if depth < w {
+                return Way::Moves(Move::Stomp);
+            }
+            Way::Moves(Move::Roll {
+                m: w,
+                n: turns_of(w, r),
+            })
+        }
+        Act::Swaps => Way::Moves(Move::Swap),
+        Act::Drops => Way::Stays,
+        Act::Orders { back: back } => Way::Orders { back: back },
+        Act::Adapts { back: back } => Way::Adapts { back: back },
+    }
+}
+
+// An act on every tuple and the columns.
+fn run_act(tuples: &mut [f64], columns: &mut [f64], depth: usize, d: Doing)
+    requires { ⌜ depth ≤ 64 ⌝ }
+    requires { ⌜ Does (doing d) d ⌝ }
+    requires { ⌜ depth * (length (now tuples) / 4) ≤ length (now columns) ⌝ }
+    requires { ⌜ depthAfter (doing d) depth * (length (now tuples) / 4) ≤ length (now columns) ⌝ }
+    ensures { λ _. ⌜ Acted (doing d) depth (now (tuples .entry)) (now (columns .entry)) (now (tuples .exit)) (now (columns .exit)) ⌝ }
+{
+    let args = d.args;
+    let n = d.n;
+    let way = way_of(d, depth);
+    match way {
+        Way::Moves(mv) => move_all(tuples, columns, depth, mv, args, n),
+        Way::Orders { back: back } => axisswap(tuples, back, args, n),
+        Way::Adapts { back: back } => adapt(tuples, back, args),
+        Way::Stays => {}
+    }
+}
+
+// ---- one step of the table, which may be omitted
+
+// What the depth is after a step.
+fn step_depth(s: Step, direction: Direction, depth: usize) -> usize
+    requires { ⌜ depth ≤ 64 ⌝ }
+    requires { ⌜ made s ≡ true ⌝ }
+    ensures { λ r. ⌜ r ≡ depthStepped direction s depth ⌝ }
+{
+    if is_omitted(s, direction) {
+        return depth;
+    }
+    depth_after(act_of(s, direction), depth)
+}
+
+// What the count is after it.
+fn step_count(s: Step, direction: Direction, depth: usize, count: usize, tuples: usize) -> usize
+    requires { ⌜ made s ≡ true ⌝ }
+    requires { ⌜ count ≤ tuples ⌝ }
+    ensures { λ r. ⌜ (r ≡ countStepped direction s depth tuples count) × (r ≤ tuples) ⌝ }
+{
+    if is_omitted(s, direction) {
+        return count;
+    }
+    if counts_none(act_of(s, direction), depth) {
+        return 0;
+    }
+    count
+}
+
+// The step itself.
+fn run_step(tuples: &mut [f64], columns: &mut [f64], depth: usize, s: Step, direction: Direction)
+    requires { ⌜ depth ≤ 64 ⌝ }
+    requires { ⌜ made s ≡ true ⌝ }
+    requires { ⌜ depth * (length (now tuples) / 4) ≤ length (now columns) ⌝ }
+    requires { ⌜ depthStepped direction s depth * (length (now tuples) / 4) ≤ length (now columns) ⌝ }
+    ensures { λ _. ⌜ Stepped direction s depth (now (tuples .entry)) (now (columns .entry)) (now (tuples .exit)) (now (columns .exit)) ⌝ }
+{
+    if is_omitted(s, direction) {
+        return;
+    }
+    run_act(tuples, columns, depth, act_of(s, direction));
+}
+
+// ---- the depths of a run
+
+// What a pass over the steps tells without numbers: the place of the first step after which there are more than 64
+// columns, or how deep the run goes.
+pub enum Plan {
+    Over(usize),
+    Deepest(usize),
+}
+
+// The greater of two.
+fn max_of(a: usize, b: usize) -> usize
+    ensures { λ r. ⌜ r ≡ max a b ⌝ }
+{
+    if a < b { b } else { a }
+}
+
+// The depths of the whole run.
+fn plan_of(table: Table, direction: Direction) -> Plan
+    requires { ⌜ refusal18 (listed table) ≡ none ⌝ }
+    ensures { λ r. ⌜ r ≡ planOf (passesFrom (running direction (listed table)) 0) (deepestFrom (running direction (listed table)) 0) ⌝ }
+{
+    let n = table.n;
+    let mut depth = 0;
+    let mut deepest = 0;
+    let mut i = 0;
+    while i < n {
+        let k = visited_of(direction, i, n);
+        let s = table.steps[k];
+        depth = step_depth(s, direction, depth);
+        if 64 < depth {
+            return Plan::Over(k + 1);
+        }
+        deepest = max_of(deepest, depth);
+        i += 1;
+    }
+    Plan::Deepest(deepest)
+}
+
+// ---- the run
+
+// What the steps of a run count, and how many columns they leave.
+pub struct Ended {
+    pub count: usize,
+    pub left: usize,
+}
+
+// Every step that runs, one after the other, in running order.
+fn run_steps(
+    table: Table,
+    direction: Direction,
+    tuples: &mut [f64],
+    columns: &mut [f64],
+    deepest: usize,
+) -> Ended
+    requires { ⌜ refusal18 (listed table) ≡ none ⌝ }
+    requires { ⌜ passesFrom (running direction (listed table)) 0 ≡ none ⌝ }
+    requires { ⌜ deepest ≡ deepestFrom (running direction (listed table)) 0 ⌝ }
+    requires { ⌜ deepest * (length (now tuples) / 4) ≤ length (now columns) ⌝ }
+    ensures { λ r. ⌜ Ends (running direction (listed table)) deepest (now (tuples .entry)) (now (columns .entry)) r (now (tuples .exit)) (now (columns .exit)) ⌝ }
+{
+    let n = table.n;
+    let whole = tuples.len() / 4;
+    let mut count = whole;
+    let mut depth = 0;
+    let mut i = 0;
+    while i < n {
+        let k = visited_of(direction, i, n);
+        let s = table.steps[k];
+        count = step_count(s, direction, depth, count, whole);
+        let next = step_depth(s, direction, depth);
+        run_step(tuples, columns, depth, s, direction);
+        depth = next;
+        i += 1;
+    }
+    Ended {
+        count: count,
+        left: depth,
+    }
+}
+
+// 17, or the run, `deepest` columns deep.
+fn run_within(
+    table: Table,
+    direction: Direction,
+    tuples: &mut [f64],
+    columns: &mut [f64],
+    deepest: usize,
+) -> Ran
+    requires { ⌜ refusal18 (listed table) ≡ none ⌝ }
+    requires { ⌜ badList (now tuples) ≡ false ⌝ }
+    requires { ⌜ passesFrom (running direction (listed table)) 0 ≡ none ⌝ }
+    requires { ⌜ deepest ≡ deepestFrom (running direction (listed table)) 0 ⌝ }
+    ensures { λ r. ⌜ Gives (finished (running direction (listed table)) (now (tuples .entry)) (now (columns .entry)) (deepest * (length (now (tuples .entry)) / 4))) r (now (tuples .exit)) (now (columns .exit)) ⌝ }
+{
+    let n = tuples.len() / 4;
+    let used = deepest * n;
+    if columns.len() < used {
+        return Ran::Refused {
+            number: 17,
+            place: 0,
+        };
+    }
+    let end = run_steps(table, direction, tuples, columns, deepest);
+    zero_rest(columns, end.left * n, used);
+    Ran::Done {
+        count: end.count,
+        left: end.left,
+    }
+}
+
+// 16, or the rest of a run.
+fn run_planned(table: Table, direction: Direction, tuples: &mut [f64], columns: &mut [f64]) -> Ran
+    requires { ⌜ refusal18 (listed table) ≡ none ⌝ }
+    requires { ⌜ badList (now tuples) ≡ false ⌝ }
+    ensures { λ r. ⌜ Gives (unless15 false (running direction (listed table)) (now (tuples .entry)) (now (columns .entry))) r (now (tuples .exit)) (now (columns .exit)) ⌝ }
+{
+    let plan = plan_of(table, direction);
+    match plan {
+        Plan::Over(place) => Ran::Refused {
+            number: 16,
+            place: place,
+        },
+        Plan::Deepest(deepest) => run_within(table, direction, tuples, columns, deepest),
+    }
+}
+
+// 15: is the length of a list no multiple of 4, or over 65,536 tuples?
+fn is_bad_list(tuples: &[f64]) -> bool
+    ensures { λ r. ⌜ r ≡ badList (now (tuples .entry)) ⌝ }
+{
+    let n = tuples.len();
+    if n % 4 != 0 {
+        return true;
+    }
+    65536 < n / 4
+}
+
+// 15, or the rest of a run.
+fn run_made(table: Table, direction: Direction, tuples: &mut [f64], columns: &mut [f64]) -> Ran
+    requires { ⌜ refusal18 (listed table) ≡ none ⌝ }
+    ensures { λ r. ⌜ Gives (unless15 (badList (now (tuples .entry))) (running direction (listed table)) (now (tuples .entry)) (now (columns .entry))) r (now (tuples .exit)) (now (columns .exit)) ⌝ }
+{
+    if is_bad_list(tuples) {
+        return Ran::Refused {
+            number: 15,
+            place: 0,
+        };
+    }
+    run_planned(table, direction, tuples, columns)
+}
+
+// The run of a table over a list, four numbers per tuple, and a store of columns: the count and how many columns are left, or
+// the refusal.
+pub fn run(table: Table, direction: Direction, tuples: &mut [f64], columns: &mut [f64]) -> Ran
+    ensures { λ r. ⌜ Runs (direction) (listed (table)) (now (tuples .entry)) (now (columns .entry)) r (now (tuples .exit)) (now (columns .exit)) ⌝ }
+{
+    let bad = refusal18(table);
+    match bad {
+        Bad::At(place) => Ran::Refused {
+            number: 18,
+            place: place,
+        },
+        Bad::Nowhere => run_made(table, direction, tuples, columns),
+    }
+}
