@@ -101,7 +101,7 @@ fn enter_words(s: &[u8], t: Parts, from: usize, to: usize, n: usize, first: bool
 }
 
 // The table of a step's words, which stand in the first n bytes of s: those after the modifiers in front, then these.
-fn table_of(s: &[u8], n: usize) -> Entered
+pub fn table_of(s: &[u8], n: usize) -> Entered
     requires { ⌜ Spelt (now s) n ⌝ }
     requires { ⌜ all modifier (words (take n (now s))) ≡ false ⌝ }
     ensures { λ r. ⌜ Tabled (now (s .entry)) (words (take n (now (s .entry)))) r ⌝ }

@@ -136,7 +136,7 @@ fn more_words_at(src: &[u8], dst: &mut [u8], at: usize) -> usize
 }
 
 // Writes a step's text: the modifiers in front of its words stand behind them.
-fn step_at(step: &[u8], dst: &mut [u8], at: usize) -> usize
+pub fn step_at(step: &[u8], dst: &mut [u8], at: usize) -> usize
     requires { ⌜ all modifier (words (now step)) ≡ false ⌝ }
     requires { ⌜ at + length (stepText (words (now step))) ≤ length (now dst) ⌝ }
     ensures { λ r. ⌜ WroteAt (stepText (words (now (step .entry)))) (now (dst .entry)) at r (now (dst .exit)) ⌝ }
@@ -237,7 +237,7 @@ fn steps_out(normal: &[u8], out: &mut [u8], b: &mut [u8]) -> Written
 }
 
 // "strips comments, normalises": in the first bytes of a; b and c are room to work in.
-fn clean_into(text: &[u8], a: &mut [u8], b: &mut [u8], c: &mut [u8]) -> usize
+pub fn clean_into(text: &[u8], a: &mut [u8], b: &mut [u8], c: &mut [u8]) -> usize
     requires { ⌜ 10 * length (now text) ≤ length (now a) ⌝ }
     requires { ⌜ 10 * length (now text) ≤ length (now b) ⌝ }
     requires { ⌜ 10 * length (now text) < length (now c) ⌝ }
