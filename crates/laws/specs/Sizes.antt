@@ -250,7 +250,7 @@ steps-length t =
     let c = continued b in
     omega (arith, length-weight (normal (lined c)), lined-weight c, newline-weight b, newlines-weight a, trimmed-weight white t, weight-length t)
 
-unplussed-weight : (t : Bytes) → weight (unplussed t) ≤ weight t
+pub unplussed-weight : (t : Bytes) → weight (unplussed t) ≤ weight t
 unfolding unplussed ascii weight weightOf
 unplussed-weight t =
     let a = replace (ascii " +") (ascii " ") t in

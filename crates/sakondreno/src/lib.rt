@@ -6,6 +6,7 @@ ghost use Rattle.rules.specs.Refusal.{Promised};
 ghost use Rattle.rules.specs.Normal.{normalise};
 ghost use Rattle.rules.specs.Split.{split};
 ghost use Rattle.rules.specs.Parameters.{parameters};
+ghost use Rattle.rules.specs.Translate.{translate};
 ghost use Rattle.sakondreno.specs.Replies.{plain, replied};
 
 // What a text call answers: number 0 and the length of the answer, which stands at the front of the lent buffer; or the
@@ -56,4 +57,12 @@ pub extern "C" fn sakondreno_parameters(text: &[u8], out: &mut [u8]) -> Answer
     ensures { λ r. ⌜ Promised replied parameters (now (text .entry)) (now (out .entry)) r (now (out .exit)) ⌝ }
 {
     answered(parameters::parameters(text, out))
+}
+
+// Turns a PROJ text into a definition.
+#[no_mangle]
+pub extern "C" fn sakondreno_translate(text: &[u8], out: &mut [u8]) -> Answer
+    ensures { λ r. ⌜ Promised replied translate (now (text .entry)) (now (out .entry)) r (now (out .exit)) ⌝ }
+{
+    answered(proj::translate(text, out))
 }

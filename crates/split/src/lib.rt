@@ -106,7 +106,7 @@ fn lines_from(src: &[u8], dst: &mut [u8], at: usize) -> usize
 }
 
 // Writes the lines of src without their comments, each after a space.
-fn lines_into(src: &[u8], dst: &mut [u8]) -> usize
+pub fn lines_into(src: &[u8], dst: &mut [u8]) -> usize
     requires { ⌜ length (lined (now src)) ≤ length (now dst) ⌝ }
     ensures { λ r. ⌜ Wrote (lined (now (src .entry))) (now (dst .entry)) r (now (dst .exit)) ⌝ }
 {
@@ -180,7 +180,7 @@ fn lines_of(normal: &[u8], dst: &mut [u8]) -> usize
 }
 
 // Writes the text with its line ends made newlines; a is room to work in.
-fn newlines_into(text: &[u8], a: &mut [u8], b: &mut [u8]) -> usize
+pub fn newlines_into(text: &[u8], a: &mut [u8], b: &mut [u8]) -> usize
     requires { ⌜ weight (now text) ≤ length (now a) ⌝ }
     requires { ⌜ weight (now text) ≤ length (now b) ⌝ }
     ensures { λ r. ⌜ Wrote (newlines (now (text .entry))) (now (b .entry)) r (now (b .exit)) ⌝ }

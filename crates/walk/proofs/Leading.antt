@@ -160,7 +160,7 @@ unfolding all nonEmpty
 leads-none s = record { within = omega arith; modifiers = rw words-nil; whole = rw words-nil; edge = refl }
 
 -- the end of a word
-word-edge : {s : Bytes} {a e : ℕ} → Run (other white) s a e → inWord (drop e s) ≡ false
+pub word-edge : {s : Bytes} {a e : ℕ} → Run (other white) s a e → inWord (drop e s) ≡ false
 unfolding inWord
 word-edge {s} {a} {e} m = elim (decLt e (length s)) [ yes h ↦ inside h | no h ↦ outside (omega (arith, m .within)) ]
   where
@@ -171,13 +171,13 @@ word-edge {s} {a} {e} m = elim (decLt e (length s)) [ yes h ↦ inside h | no h 
     outside z = let l : length s ≤ e = omega arith in ap inWord (drop-of-length-le s l)
 
 -- a part that is not empty, as its first byte and the others
-part-some : (s : Bytes) (a e : ℕ) → a < e → e ≤ length s → part a e s ≡ getD s a 0 ∷ part (a + 1) e s
+pub part-some : (s : Bytes) (a e : ℕ) → a < e → e ≤ length s → part a e s ≡ getD s a 0 ∷ part (a + 1) e s
 part-some s a e h l =
     let k : e - a ≡ suc (e - (a + 1)) = omega arith in
     let g : a < length s = omega arith in
     ap (λ (n : ℕ). take n (drop a s)) k ∙ ap (take (suc (e - (a + 1)))) (drop-next s a g)
 
-part-join : (s : Bytes) (k a e : ℕ) → k ≤ a → a ≤ e → part k e s ≡ part k a s ++ part a e s
+pub part-join : (s : Bytes) (k a e : ℕ) → k ≤ a → a ≤ e → part k e s ≡ part k a s ++ part a e s
 part-join s k a e h l =
     let n : e - k ≡ (a - k) + (e - a) = omega arith in
     let d : k + (a - k) ≡ a = omega arith in
@@ -195,7 +195,7 @@ edge-words (y ∷ t) u v e x r z = words-append (y ∷ t) u (ap inWord z ∙ sym
 -- ---- the words from a place on: white space up to a, a word up to e
 
 module _ {s : Bytes} {k a e : ℕ} (p : Run white s k a) (q : Run (other white) s a e) where
-  one-word : a < e → words (part a e s) ≡ part a e s ∷ []
+  pub one-word : a < e → words (part a e s) ≡ part a e s ∷ []
   one-word h =
       let z = part-some s a e h (q .within) in
       ap words z ∙ words-word (getD s a 0) (part (a + 1) e s) (ap (all (other white)) (sym z) ∙ q .whole) ∙ ap (λ (w : Bytes). w ∷ []) (sym z)

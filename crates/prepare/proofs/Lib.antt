@@ -1,0 +1,4 @@
+pub mod Weighing
+pub mod Stepping
+pub mod Lending
+pub mod Promising

@@ -1,0 +1,3 @@
+pub mod Flawing
+pub mod Piping
+pub mod Answering

@@ -1,0 +1,86 @@
+-- Cleaning a PROJ text: that each text on the way has room, and that the last is the one that is meant.
+use mathlib.Core.Path.{_≡_, refl, sym, ap, _∙_}
+use mathlib.Core.List.{[], _∷_}
+use Prim.Native.Nat.{ℕ, _-_, _*_, _≤_, _<_}
+use native.Mathlib.Omega.{arith}
+use lib.ListN.{length, take, drop}
+use Rattle.rules.specs.Ascii.{ascii, is}
+use Rattle.rules.specs.Text.{Bytes, white, replace, trimStart, trimmed}
+use Rattle.rules.specs.Normal.{normal}
+use Rattle.rules.specs.Comments.{newlines, lined}
+use Rattle.rules.specs.Proj.{unplussed}
+use Rattle.laws.specs.Sizes.{weightOf, weight, length-weight, weight-length, replace-weight, newlines-weight, unplussed-weight, lined-longer, lined-trimmed}
+use Rattle.text.specs.Writing.{Wrote, Holds}
+use Rattle.text.specs.Places.{LeftFrom}
+use Rattle.text.proofs.Writing.{wrote-front, wrote-holds}
+use Rattle.walk.proofs.Leading.{part-from}
+use Rattle.projclean.specs.Cleaning.{spaced, unsigned, cleaned}
+
+-- ---- the signs
+
+-- without the `+` behind a space
+abbrev once : Bytes → Bytes
+once t = replace (32 ∷ 43 ∷ []) (32 ∷ []) t
+
+abbrev again : Bytes → Bytes
+again t = replace (10 ∷ 43 ∷ []) (32 ∷ []) t
+
+once-weight : (t : Bytes) → weight (once t) ≤ weight t
+unfolding weight weightOf
+once-weight t = replace-weight (32 ∷ 43 ∷ []) (32 ∷ []) t (omega arith) (omega arith)
+
+again-weight : (t : Bytes) → weight (again t) ≤ weight t
+unfolding weight weightOf
+again-weight t = replace-weight (10 ∷ 43 ∷ []) (32 ∷ []) t (omega arith) (omega arith)
+
+spaced-is : (t : Bytes) → spaced t ≡ again (once (newlines t))
+unfolding spaced ascii
+spaced-is t = refl
+
+module _ (t : Bytes) {b₀ b : Bytes} {n : ℕ} (w : Wrote (newlines t) b₀ n b) where
+  pub once-room : {x y : ℕ} → weight t ≤ x → y ≡ x → length (once (take n b)) ≤ y
+  once-room h e = rw (wrote-front w) (omega (arith, length-weight (once (newlines t)), once-weight (newlines t), newlines-weight t))
+
+  module _ {a₀ a : Bytes} {m : ℕ} (v : Wrote (once (take n b)) a₀ m a) where
+    twice : again (take m a) ≡ spaced t
+    twice = rw (wrote-front v, wrote-front w) (sym (spaced-is t))
+
+    pub again-room : {x y : ℕ} → weight t ≤ x → y ≡ x → length (again (take m a)) ≤ y
+    again-room h e =
+        rw (wrote-front v, wrote-front w)
+        (omega (arith, length-weight (again (once (newlines t))), again-weight (once (newlines t)), once-weight (newlines t), newlines-weight t))
+
+    pub again-holds : {c₀ c : Bytes} {r : ℕ} → Wrote (again (take m a)) c₀ r c → Holds (spaced t) r c
+    again-holds u = wrote-holds (rw twice at u)
+
+-- what is left of the trimmed text
+pub unsigned-is : (s : Bytes) {t : Bytes} {k : ℕ} → t ≡ trimmed white s → LeftFrom (is "+") t k → take (length t - k) (drop k t) ≡ unsigned s
+unfolding unsigned
+unsigned-is s {t} {k} e l = part-from t k ∙ l .part ∙ ap (trimStart (is "+")) e
+
+-- ---- the whole
+
+unplussed-so : (t : Bytes) → unsigned (spaced t) ≡ unplussed (newlines t)
+unfolding unsigned spaced unplussed
+unplussed-so t = refl
+
+pub space-room : (t : Bytes) {x : ℕ} → 10 * length t ≤ x → weight t ≤ x
+space-room t h = omega (arith, weight-length t)
+
+module _ (t : Bytes) {c : Bytes} {n : ℕ} (w : Holds (spaced t) n c) {u : Bytes} (e : u ≡ unsigned (take n c)) where
+  unplussed-is : u ≡ unplussed (newlines t)
+  unplussed-is = e ∙ ap unsigned (wrote-front w) ∙ unplussed-so t
+
+  weighs : weight (unplussed (newlines t)) ≤ 10 * length t
+  weighs = omega (arith, unplussed-weight (newlines t), newlines-weight t, weight-length t)
+
+  pub lines-room : {x : ℕ} → 10 * length t < x → length (lined u) ≤ x
+  lines-room h = rw unplussed-is (omega (arith, length-weight (lined (unplussed (newlines t))), lined-longer (unplussed (newlines t)), weighs))
+
+  module _ {b₀ b : Bytes} {m : ℕ} (v : Wrote (lined u) b₀ m b) where
+    pub normal-room : {x y : ℕ} → 10 * length t ≤ x → y ≡ x → weight (trimmed white (take m b)) ≤ y
+    normal-room h k = rw (wrote-front v, unplussed-is) (omega (arith, lined-trimmed (unplussed (newlines t)), weighs))
+
+    pub cleaned-holds : {a : Bytes} {r : ℕ} → Holds (normal (take m b)) r a → Holds (cleaned t) r a
+    unfolding cleaned
+    cleaned-holds z = rw (wrote-front v, unplussed-is) at z

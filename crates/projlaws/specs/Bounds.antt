@@ -1,0 +1,205 @@
+-- How long a step of the answer can be: roughly, but so that every number fits.
+use mathlib.Core.Path.{_≡_, refl, sym, ap, _∙_}
+use mathlib.Core.Bool.{Bool, true, false, cond, not, _&&_, _||_, xor}
+use mathlib.Core.List.{List, [], _∷_, _++_, map}
+use Prim.Native.Nat.{ℕ, zero, suc, _+_, _-_, _*_, _≤_}
+use native.Mathlib.Omega.{arith}
+use lib.ListN.{length, drop, length-append, length-drop}
+use Rattle.rules.specs.Ascii.{ascii}
+use Rattle.rules.specs.Lists.{any, all, kept, nonEmpty}
+use Rattle.rules.specs.Text.{Bytes, Words, white, same, starts, cut, words, afterEach, joinedBy, joined}
+use Rattle.rules.specs.Proj.{isProj, firstProj, inItsPlace, exchanged, hasKey, lastOf, withoutLast, composed, ellipsoid, scale, tidied}
+use Rattle.rules.specs.Translate.{isInv, notInv, atPosition1, Pipeline, withGlobals, exchangedMark, withoutInv, stepOf}
+use Rattle.laws.specs.Passes.{inWord, grow, words-cons}
+use Rattle.laws.specs.Separators.{same-is}
+use Rattle.projlaws.specs.Flowing.{flow, more}
+use Rattle.projlaws.specs.Step.{Global, step-text}
+
+-- the words, each with a byte more
+size : Words → ℕ
+size [] = 0
+size (w ∷ ws) = suc (length w + size ws)
+
+size-append : (ws us : Words) → size (ws ++ us) ≡ size ws + size us
+unfolding size
+size-append [] us = omega arith
+size-append (w ∷ ws) us = omega (arith, size-append ws us)
+
+-- ---- a text's words
+
+size-grow : (x n : ℕ) (b : Bool) (ws : Words) → size ws ≤ n + cond b 1 0 → size (grow x b ws) ≤ suc n + 1
+unfolding size grow
+size-grow x n true [] h = omega arith
+size-grow x n true (w ∷ ws) h = omega (arith, h)
+size-grow x n false ws h = omega (arith, h)
+
+one-or-none : (b : Bool) → cond b 1 0 ≤ 1
+one-or-none true = omega arith
+one-or-none false = omega arith
+
+words-size : (t : Bytes) → size (words t) ≤ length t + cond (inWord t) 1 0
+unfolding inWord
+words-size [] = unfold words kept cut nonEmpty size in omega arith
+words-size (x ∷ t) = rw (words-cons x t) (go (white x) (words-size t))
+  where
+    go : (b : Bool) → size (words t) ≤ length t + cond (inWord t) 1 0 → size (cond b (words t) (grow x (inWord t) (words t))) ≤ suc (length t) + cond (not b) 1 0
+    go true h = omega (arith, h, one-or-none (inWord t))
+    go false h = size-grow x (length t) (inWord t) (words t) h
+
+size-words : (t : Bytes) → size (words t) ≤ suc (length t)
+size-words t = omega (arith, words-size t, one-or-none (inWord t))
+
+-- ---- tidying
+
+size-place : (v : Bytes) (ws : Words) → size (inItsPlace v ws) + length (firstProj ws) ≤ size ws + length v
+unfolding size inItsPlace firstProj
+size-place v [] = omega arith
+size-place v (w ∷ ws) = go (isProj w) (size-place v ws)
+  where
+    go : (b : Bool) → size (inItsPlace v ws) + length (firstProj ws) ≤ size ws + length v → size (cond b (v ∷ ws) (w ∷ inItsPlace v ws)) + length (cond b w (firstProj ws)) ≤ suc (length w + size ws) + length v
+    go true h = unfold size in omega arith
+    go false h = unfold size in omega arith
+
+size-exchanged : (ws : Words) → size (exchanged ws) ≤ size ws
+unfolding exchanged
+size-exchanged [] = omega arith
+size-exchanged (w ∷ ws) = go (isProj w) (any isProj ws)
+  where
+    go : (b d : Bool) → size (cond b (drop 5 w ∷ ws) (cond d (drop 5 (firstProj ws) ∷ inItsPlace w ws) (w ∷ ws))) ≤ size (w ∷ ws)
+    go true d = unfold size in omega (arith, length-drop 5 w)
+    go false true = unfold size in omega (arith, length-drop 5 (firstProj ws), size-place w ws)
+    go false false = omega arith
+
+size-without : (key : Bytes) (ws : Words) → size (withoutLast key ws) ≤ size ws
+unfolding size withoutLast
+size-without key [] = omega arith
+size-without key (w ∷ ws) = go (hasKey key ws) (size-without key ws)
+  where
+    go : (b : Bool) → size (withoutLast key ws) ≤ size ws → size (cond b (w ∷ withoutLast key ws) ws) ≤ suc (length w + size ws)
+    go true h = unfold size in omega arith
+    go false h = omega arith
+
+size-last : (key : Bytes) (ws : Words) → length (lastOf key ws) ≤ size ws
+unfolding size lastOf
+size-last key [] = omega arith
+size-last key (w ∷ ws) = go (hasKey key ws) (size-last key ws)
+  where
+    go : (b : Bool) → length (lastOf key ws) ≤ size ws → length (cond b (lastOf key ws) w) ≤ suc (length w + size ws)
+    go true h = omega arith
+    go false h = omega arith
+
+size-ellps : (a r : Bytes) → size ((ascii "ellps=" ++ (drop 2 a ++ (ascii "," ++ drop 3 r))) ∷ []) ≤ length a + length r + 8
+unfolding size ascii
+size-ellps a r = omega (arith, length-append (drop 2 a) (44 ∷ drop 3 r), length-drop 2 a, length-drop 3 r)
+
+size-ellipsoid : (ws : Words) → size (ellipsoid ws) ≤ 3 * size ws + 8
+unfolding ellipsoid composed
+size-ellipsoid ws = go (not (hasKey (ascii "ellps=") ws) && (hasKey (ascii "a=") ws && hasKey (ascii "rf=") ws))
+  where
+    go : (b : Bool) → size (cond b (withoutLast (ascii "rf=") (withoutLast (ascii "a=") ws) ++ ((ascii "ellps=" ++ (drop 2 (lastOf (ascii "a=") ws) ++ (ascii "," ++ drop 3 (lastOf (ascii "rf=") ws)))) ∷ [])) ws) ≤ 3 * size ws + 8
+    go true =
+        omega (arith, size-append (withoutLast (ascii "rf=") (withoutLast (ascii "a=") ws)) ((ascii "ellps=" ++ (drop 2 (lastOf (ascii "a=") ws) ++ (ascii "," ++ drop 3 (lastOf (ascii "rf=") ws)))) ∷ []), size-ellps (lastOf (ascii "a=") ws) (lastOf (ascii "rf=") ws), size-last (ascii "a=") ws, size-last (ascii "rf=") ws, size-without (ascii "rf=") (withoutLast (ascii "a=") ws), size-without (ascii "a=") ws)
+    go false = omega arith
+
+size-scale : (ws : Words) → size (scale ws) ≤ size ws + 4
+unfolding size scale
+size-scale [] = omega arith
+size-scale (w ∷ ws) = go (starts (ascii "k=") w) (size-scale ws)
+  where
+    go : (b : Bool) → size (scale ws) ≤ size ws + 4 → size (cond b ((ascii "k_0=" ++ drop 2 w) ∷ ws) (w ∷ scale ws)) ≤ suc (length w + size ws) + 4
+    go true h = unfold size ascii in omega (arith, length-drop 2 w)
+    go false h = unfold size in omega arith
+
+size-tidied : (ws : Words) → size (tidied ws) ≤ 3 * size ws + 12
+unfolding tidied
+size-tidied ws = omega (arith, size-scale (ellipsoid (exchanged ws)), size-ellipsoid (exchanged ws), size-exchanged ws)
+
+-- ---- elements
+
+size-position : (v : Bytes) (ws : Words) → size (atPosition1 v ws) ≡ suc (length v) + size ws
+unfolding size atPosition1
+size-position v [] = omega arith
+size-position v (w ∷ ws) = omega arith
+
+size-globals : (p : Pipeline) (ws : Words) → size (withGlobals p ws) ≤ size ws + suc (length (p .globals))
+unfolding withGlobals
+size-globals p ws = go (nonEmpty (p .globals))
+  where
+    go : (b : Bool) → size (cond b (atPosition1 (p .globals) ws) ws) ≤ size ws + suc (length (p .globals))
+    go true = omega (arith, size-position (p .globals) ws)
+    go false = omega arith
+
+size-kept : (test : Bytes → Bool) (ws : Words) → size (kept test ws) ≤ size ws
+unfolding size kept
+size-kept test [] = omega arith
+size-kept test (w ∷ ws) = go (test w) (size-kept test ws)
+  where
+    go : (b : Bool) → size (kept test ws) ≤ size ws → size (cond b (w ∷ kept test ws) (kept test ws)) ≤ suc (length w + size ws)
+    go true h = unfold size in omega arith
+    go false h = omega arith
+
+-- a mark is exchanged for one of the same length
+mark-length : (w : Bytes) → length (exchangedMark w) ≡ length w
+unfolding exchangedMark
+mark-length w = go (same w (ascii "omit_fwd")) refl (same w (ascii "omit_inv")) refl
+  where
+    go : (a : Bool) → same w (ascii "omit_fwd") ≡ a → (b : Bool) → same w (ascii "omit_inv") ≡ b → length (cond a (ascii "omit_inv") (cond b (ascii "omit_fwd") w)) ≡ length w
+    go true e b f = unfold ascii in sym (ap length (same-is w (ascii "omit_fwd") e))
+    go false e true f = unfold ascii in sym (ap length (same-is w (ascii "omit_inv") f))
+    go false e false f = refl
+
+size-marks : (ws : Words) → size (map exchangedMark ws) ≡ size ws
+unfolding size
+size-marks [] = refl
+size-marks (w ∷ ws) = omega (arith, mark-length w, size-marks ws)
+
+size-flow : (owed : Bool) (ws : Words) → size (flow owed ws) ≤ size ws + 4
+unfolding flow withoutInv
+size-flow owed ws = go owed
+  where
+    go : (b : Bool) → size (cond b (atPosition1 (ascii "inv") (map exchangedMark (kept notInv ws))) (map exchangedMark (kept notInv ws))) ≤ size ws + 4
+    go true = unfold ascii in omega (arith, size-position (ascii "inv") (map exchangedMark (kept notInv ws)), size-marks (kept notInv ws), size-kept notInv ws)
+    go false = omega (arith, size-marks (kept notInv ws), size-kept notInv ws)
+
+after-size : (ws : Words) → length (afterEach (32 ∷ []) ws) ≡ size ws
+unfolding size afterEach
+after-size [] = refl
+after-size (w ∷ ws) = omega (arith, length-append w (afterEach (32 ∷ []) ws), after-size ws)
+
+joined-size : (ws : Words) → length (joined ws) ≤ size ws
+unfolding size joined joinedBy
+joined-size [] = omega arith
+joined-size (w ∷ ws) = omega (arith, length-append w (afterEach (32 ∷ []) ws), after-size ws)
+
+more-size : (ws : Words) → length (more false ws) ≤ size ws
+unfolding more
+more-size ws = omega (arith, joined-size (kept nonEmpty ws), size-kept nonEmpty ws)
+
+-- a step's text
+pub step-length : (p : Pipeline) (t : Bytes) → Global p → length (stepOf p (words t)) ≤ 3 * length t + length (p .globals) + 20
+step-length p t g =
+    let owed = xor (any isInv (exchanged (words t))) (p .inverted) in
+    let us = withGlobals p (tidied (words t)) in
+    omega (arith, ap length (step-text p t g), more-size (flow owed us), size-flow owed us, size-globals p (tidied (words t)), size-tidied (words t), size-words t)
+
+-- ---- a pipeline's globals
+
+-- the words of a step that is the pipeline's, but the first and `inv`
+unfoldable pub globalsOf : Words → Bytes
+globalsOf ws = joined (kept notInv (drop 1 (exchanged ws)))
+
+size-drop : (ws : Words) → size (drop 1 ws) ≤ size ws
+unfolding size
+size-drop [] = omega arith
+size-drop (w ∷ ws) = omega arith
+
+joined-less : (ws : Words) → length (joined ws) ≤ size ws - 1
+unfolding size joined joinedBy
+joined-less [] = omega arith
+joined-less (w ∷ ws) = omega (arith, length-append w (afterEach (32 ∷ []) ws), after-size ws)
+
+-- they are no longer than the step
+pub globals-length : (t : Bytes) → length (globalsOf (words t)) ≤ length t
+unfolding globalsOf
+globals-length t =
+    omega (arith, joined-less (kept notInv (drop 1 (exchanged (words t)))), size-kept notInv (drop 1 (exchanged (words t))), size-drop (exchanged (words t)), size-exchanged (words t), size-words t)

@@ -1,0 +1,104 @@
+-- Laws of tests and of keys that the others share.
+use mathlib.Core.Path.{_≡_, refl, sym, ap, _∙_}
+use mathlib.Core.Bool.{Bool, true, false, cond, not, _&&_, _||_, false≢true, true≢false}
+use mathlib.Core.List.{List, [], _∷_, _++_}
+use Prim.Native.Nat.{ℕ, zero, suc, _+_, _≤_, _<_}
+use native.Mathlib.Omega.{arith}
+use borrow.Author.Tests.{eqb-true}
+use lib.ListN.{length, drop}
+use lib.Dec.{eqb}
+use Rattle.rules.specs.Lists.{any, all, kept, nonEmpty}
+use Rattle.rules.specs.Text.{Bytes, starts}
+use Rattle.laws.specs.Separators.{and-left, and-right}
+
+pub or-no : (a : Bool) → (a || false) ≡ a
+or-no true = refl
+or-no false = refl
+
+pub or-yes : (a : Bool) → (a || true) ≡ true
+or-yes true = refl
+or-yes false = refl
+
+pub or-assoc : (a b c : Bool) → (a || (b || c)) ≡ ((a || b) || c)
+or-assoc true b c = refl
+or-assoc false b c = refl
+
+pub and-yes : (a : Bool) → (a && true) ≡ a
+and-yes true = refl
+and-yes false = refl
+
+pub and-no : (a : Bool) → (a && false) ≡ false
+and-no true = refl
+and-no false = refl
+
+pub and-assoc : (a b c : Bool) → (a && (b && c)) ≡ ((a && b) && c)
+and-assoc true b c = refl
+and-assoc false b c = refl
+
+module _ {A : Type 0} (test : A → Bool) where
+  pub any-append : (l k : List A) → any test (l ++ k) ≡ (any test l || any test k)
+  unfolding any
+  any-append [] k = refl
+  any-append (x ∷ l) k = ap (λ (b : Bool). test x || b) (any-append l k) ∙ or-assoc (test x) (any test l) (any test k)
+
+  pub all-append : (l k : List A) → all test (l ++ k) ≡ (all test l && all test k)
+  unfolding all
+  all-append [] k = refl
+  all-append (x ∷ l) k = ap (λ (b : Bool). test x && b) (all-append l k) ∙ and-assoc (test x) (all test l) (all test k)
+
+  pub kept-append : (l k : List A) → kept test (l ++ k) ≡ kept test l ++ kept test k
+  unfolding kept
+  kept-append [] k = refl
+  kept-append (x ∷ l) k = go (test x) (kept-append l k)
+    where
+      go : (b : Bool) → kept test (l ++ k) ≡ kept test l ++ kept test k → cond b (x ∷ kept test (l ++ k)) (kept test (l ++ k)) ≡ cond b (x ∷ kept test l) (kept test l) ++ kept test k
+      go true h = ap (λ (r : List A). x ∷ r) h
+      go false h = h
+
+-- a word that begins with one key does not begin with another whose first byte is another
+pub starts-other : (p q : ℕ) (ps qs w : Bytes) → starts (p ∷ ps) w ≡ true → eqb p q ≡ false → starts (q ∷ qs) w ≡ false
+unfolding starts
+starts-other p q ps qs [] e n = refl
+starts-other p q ps qs (x ∷ w) e n =
+    let z : x ≡ p = eqb-true x p (and-left (eqb x p) (starts ps w) e) in
+    rw (z, n)
+
+-- a word that begins with a key is as long as it
+pub starts-long : (key w : Bytes) → starts key w ≡ true → length key ≤ length w
+unfolding starts
+starts-long [] w e = omega arith
+starts-long (p ∷ key) [] e = absurd (false≢true e)
+starts-long (p ∷ key) (x ∷ w) e = omega (arith, starts-long key w (and-right (eqb x p) (starts key w) e))
+
+pub both : {a b : Bool} → a ≡ true → b ≡ true → (a && b) ≡ true
+both e f = rw (e, f)
+
+module _ {A : Type 0} (test : A → Bool) where
+  pub all-kept : (which : A → Bool) (l : List A) → all test l ≡ true → all test (kept which l) ≡ true
+  unfolding all kept
+  all-kept which [] e = refl
+  all-kept which (x ∷ l) e = go (which x) (all-kept which l (and-right (test x) (all test l) e))
+    where
+      go : (b : Bool) → all test (kept which l) ≡ true → all test (cond b (x ∷ kept which l) (kept which l)) ≡ true
+      go true h = both (and-left (test x) (all test l) e) h
+      go false h = h
+
+  pub all-drop : (n : ℕ) (l : List A) → all test l ≡ true → all test (drop n l) ≡ true
+  unfolding all
+  all-drop zero l e = e
+  all-drop (suc n) [] e = refl
+  all-drop (suc n) (x ∷ l) e = all-drop n l (and-right (test x) (all test l) e)
+
+  pub all-each : (other : A → Bool) → ((x : A) → test x ≡ true → other x ≡ true) → (l : List A) → all test l ≡ true → all other l ≡ true
+  unfolding all
+  all-each other f [] e = refl
+  all-each other f (x ∷ l) e = both (f x (and-left (test x) (all test l) e)) (all-each other f l (and-right (test x) (all test l) e))
+
+  pub kept-all : (l : List A) → all test (kept test l) ≡ true
+  unfolding all kept
+  kept-all [] = refl
+  kept-all (x ∷ l) = go (test x) refl (kept-all l)
+    where
+      go : (b : Bool) → test x ≡ b → all test (kept test l) ≡ true → all test (cond b (x ∷ kept test l) (kept test l)) ≡ true
+      go true e h = both e h
+      go false e h = h

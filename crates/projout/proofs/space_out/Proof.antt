@@ -1,0 +1,22 @@
+use Rattle.projout.proofs.Putting.{spot-as, puts-as, puts-nothing, space-yes, space-no}
+use native.Mathlib.Omega.{arith}
+use denote.Ref.{now}
+use mathlib.Core.Path.{refl, sym, _∙_}
+use borrow.Author.Needs.{needs}
+use Rattle.projout.proofs.space_out.Statement.{statement}
+use Rattle.projout.proofs.space_out.Tie as tie
+
+byte-out-requires : tie.Need-byte-out-requires
+byte-out-requires c κs = spot-as (space-yes (c .before .if1 .taken)) (c .before .before .before .pre)
+
+same-length : tie.Need-same-length
+same-length c = search needs
+
+returns : tie.Need-returns
+returns c = puts-as (sym (space-yes (c .before .before .before .before .if1 .taken))) (c .before .before .byte-out .ensures)
+
+returns-2 : tie.Need-returns-2
+returns-2 c = puts-as (sym (space-no (c .if1 .left))) puts-nothing
+
+pub space-out-spec : {M : Type 1} → statement M
+space-out-spec = tie.close (tie.spec byte-out-requires same-length returns returns-2)

@@ -1,0 +1,4 @@
+pub mod Penning
+pub mod Planning
+pub mod Telling
+pub mod Gathering

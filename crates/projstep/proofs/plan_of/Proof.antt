@@ -1,0 +1,67 @@
+use Rattle.projstep.proofs.Planning.{plan-named, plan-no-a, plan-no-rf, plan-composed, a-long, rf-long}
+use Rattle.rules.specs.Ascii.{ascii}
+use native.Mathlib.Omega.{arith}
+use denote.Ref.{now}
+use mathlib.Core.Path.{refl, sym, _∙_}
+use borrow.Author.Needs.{needs}
+use Rattle.projstep.proofs.plan_of.Statement.{statement}
+use Rattle.projstep.proofs.plan_of.Tie as tie
+
+slice-aggregate-key-of : tie.Need-slice-aggregate-key-of
+slice-aggregate-key-of c = search needs
+
+key-of-requires : tie.Need-key-of-requires
+key-of-requires c κs = c .before .before .pre
+
+returns : tie.Need-returns
+unfolding ascii
+returns c = plan-named (c .before .before .key-of .ensures) (c .if1 .taken)
+
+slice-aggregate-key-of-2 : tie.Need-slice-aggregate-key-of-2
+slice-aggregate-key-of-2 c = search needs
+
+key-of-requires-2 : tie.Need-key-of-requires-2
+key-of-requires-2 c κs = c .before .before .before .before .before .before .pre
+
+returns-2 : tie.Need-returns-2
+unfolding ascii
+returns-2 c = plan-no-a (c .before .before .before .before .before .before .key-of .ensures) (c .before .before .before .before .if1 .left) (c .before .before .key-of2 .ensures) (c .if2 .taken)
+
+slice-aggregate-key-of-3 : tie.Need-slice-aggregate-key-of-3
+slice-aggregate-key-of-3 c = search needs
+
+key-of-requires-3 : tie.Need-key-of-requires-3
+key-of-requires-3 c κs = c .before .before .before .before .before .before .before .before .before .before .pre
+
+returns-3 : tie.Need-returns-3
+unfolding ascii
+returns-3 c = plan-no-rf (c .before .before .before .before .before .before .before .before .before .before .key-of .ensures) (c .before .before .before .before .before .before .before .before .if1 .left) (c .before .before .before .before .before .before .key-of2 .ensures) (c .before .before .before .before .if2 .left) (c .before .before .key-of3 .ensures) (c .if3 .taken)
+
+add-t17 : tie.Need-add-t17
+unfolding ascii
+add-t17 c = omega (arith, a-long (c .before .before .before .before .before .before .before .before .before .before .before .key-of .ensures) (c .before .before .before .before .before .before .before .before .before .if1 .left) (c .before .before .before .before .before .before .before .key-of2 .ensures) (c .before .before .before .before .before .if2 .left) (c .before .before .before .key-of3 .ensures) (c .before .if3 .left), c .before .before .before .before .before .before .before .key-of2 .ensures .within)
+
+add-t18 : tie.Need-add-t18
+unfolding ascii
+add-t18 c = omega (arith, rf-long (c .before .before .before .before .before .before .before .before .before .before .before .before .key-of .ensures) (c .before .before .before .before .before .before .before .before .before .before .if1 .left) (c .before .before .before .before .before .before .before .before .key-of2 .ensures) (c .before .before .before .before .before .before .if2 .left) (c .before .before .before .before .key-of3 .ensures) (c .before .before .if3 .left), c .before .before .before .before .key-of3 .ensures .within)
+
+returns-4 : tie.Need-returns-4
+unfolding ascii
+returns-4 c = plan-composed (c .before .before .before .before .before .before .before .before .before .before .before .before .key-of .ensures) (c .before .before .before .before .before .before .before .before .before .before .if1 .left) (c .before .before .before .before .before .before .before .before .key-of2 .ensures) (c .before .before .before .before .before .before .if2 .left) (c .before .before .before .before .key-of3 .ensures) (c .before .before .if3 .left)
+
+pub plan-of-spec : {M : Type 1} → statement M
+plan-of-spec =
+    tie.close
+    (tie.spec
+    slice-aggregate-key-of
+    key-of-requires
+    returns
+    slice-aggregate-key-of-2
+    key-of-requires-2
+    returns-2
+    slice-aggregate-key-of-3
+    key-of-requires-3
+    returns-3
+    add-t17
+    add-t18
+    returns-4)

@@ -1,0 +1,462 @@
+// A step of the answer: written word by word from the words of a PROJ step, or only counted. The Rust is `tidy_proj`, and
+// what `parse_proj` does to each step, of src/token/mod.rs.
+use pen::add;
+use pen::word;
+use projwords::Element;
+use projwords::Head;
+use projwords::has_key;
+use projwords::head_of;
+use projwords::is_inv;
+use projwords::key_of;
+use projwords::marks_of;
+use projwords::next_element;
+use walk::is_same;
+ghost use mathlib.Core.Path.{_≡_};
+ghost use mathlib.Core.Bool.{true, false, xor};
+ghost use mathlib.Core.List.{[], _∷_, _++_};
+ghost use Prim.Native.Nat.{_≤_};
+ghost use lib.ListN.{length};
+ghost use Rattle.rules.specs.Ascii.{ascii};
+ghost use Rattle.rules.specs.Lists.{nonEmpty};
+ghost use Rattle.rules.specs.Text.{words};
+ghost use Rattle.rules.specs.Proj.{tidied};
+ghost use Rattle.rules.specs.Translate.{exchangedMark, stepOf};
+ghost use Rattle.text.specs.Writing.{Wrote};
+ghost use Rattle.pen.specs.Adding.{Room, Adds};
+ghost use Rattle.projlaws.specs.Tidying.{ellpsOf, ownWord};
+ghost use Rattle.projlaws.specs.Step.{Global};
+ghost use Rattle.projlaws.specs.Bounds.{globalsOf};
+ghost use Rattle.projwords.specs.Heads.{IsHead};
+ghost use Rattle.projstep.specs.Pens.{Fits, RoomFor, RoomForAll, Emits, Pens, PensAll, owing, inserted, closing};
+ghost use Rattle.projstep.specs.Plans.{IsFate, IsPlan, globalled, pipelineOf};
+
+// Where the text has come to, whether a word has been written, and whether an `inv` is owed after the first element.
+pub struct Pen {
+    pub o: usize,
+    pub begun: bool,
+    pub owed: bool,
+}
+
+// What comes of a word: it is left out, or is the scale; and what is still to come.
+pub struct Fate {
+    pub skip: bool,
+    pub scale: bool,
+    pub a: usize,
+    pub rf: usize,
+    pub still: bool,
+}
+
+// Whether the ellipsoid is composed; if so, how many words begin with `a=` and with `rf=`, and the last values of both.
+pub struct Plan {
+    pub composed: bool,
+    pub a: usize,
+    pub rf: usize,
+    pub start: usize,
+    pub stop: usize,
+    pub from: usize,
+    pub to: usize,
+}
+
+// Adds an element that is not `inv`. "Omit marks are exchanged."
+fn plain(x: &[u8], out: &mut [u8], pen: Pen, write: bool) -> Pen
+    requires { ⌜ Fits write (exchangedMark (now x) ∷ []) pen (now out) ⌝ }
+    ensures { λ r. ⌜ Emits write (exchangedMark (now (x .entry)) ∷ []) pen (pen .owed) (now (out .entry)) r (now (out .exit)) ⌝ }
+{
+    if x.len() == 0 {
+        return pen;
+    }
+    if is_same(x, b"omit_fwd") {
+        let o = word(b"", b"omit_inv", out, pen.o, pen.begun, write);
+        return Pen {
+            o: o,
+            begun: true,
+            owed: pen.owed,
+        };
+    }
+    if is_same(x, b"omit_inv") {
+        let o = word(b"", b"omit_fwd", out, pen.o, pen.begun, write);
+        return Pen {
+            o: o,
+            begun: true,
+            owed: pen.owed,
+        };
+    }
+    let o = word(b"", x, out, pen.o, pen.begun, write);
+    Pen {
+        o: o,
+        begun: true,
+        owed: pen.owed,
+    }
+}
+
+// Adds the `inv` that is owed.
+fn settle(out: &mut [u8], pen: Pen, write: bool) -> Pen
+    requires { ⌜ Fits write (owing (pen .owed)) pen (now out) ⌝ }
+    ensures { λ r. ⌜ Emits write (owing (pen .owed)) pen false (now (out .entry)) r (now (out .exit)) ⌝ }
+{
+    if pen.owed {
+        let o = word(b"", b"inv", out, pen.o, pen.begun, write);
+        return Pen {
+            o: o,
+            begun: true,
+            owed: false,
+        };
+    }
+    pen
+}
+
+// Adds an element, and after the first the `inv` that is owed.
+pub fn element(x: &[u8], out: &mut [u8], pen: Pen, write: bool) -> Pen
+    requires { ⌜ RoomFor write (now x ∷ []) pen (now out) ⌝ }
+    ensures { λ r. ⌜ Pens write (now (x .entry) ∷ []) pen (now (out .entry)) r (now (out .exit)) ⌝ }
+{
+    if is_inv(x) {
+        return pen;
+    }
+    let p = plain(x, out, pen, write);
+    settle(out, p, write)
+}
+
+// Adds the scale, "`k_0=`", with its value.
+fn scaled(x: &[u8], out: &mut [u8], pen: Pen, write: bool) -> Pen
+    requires { ⌜ RoomFor write ((ascii "k_0=" ++ now x) ∷ []) pen (now out) ⌝ }
+    ensures { λ r. ⌜ Pens write ((ascii "k_0=" ++ now (x .entry)) ∷ []) pen (now (out .entry)) r (now (out .exit)) ⌝ }
+{
+    let o = word(b"k_0=", x, out, pen.o, pen.begun, write);
+    let p = Pen {
+        o: o,
+        begun: true,
+        owed: pen.owed,
+    };
+    settle(out, p, write)
+}
+
+// Adds "a final `ellps=a,rf`".
+fn ellps(a: &[u8], rf: &[u8], out: &mut [u8], pen: Pen, write: bool) -> Pen
+    requires { ⌜ RoomFor write (ellpsOf (now a) (now rf) ∷ []) pen (now out) ⌝ }
+    ensures { λ r. ⌜ Pens write (ellpsOf (now (a .entry)) (now (rf .entry)) ∷ []) pen (now (out .entry)) r (now (out .exit)) ⌝ }
+{
+    let e = word(b"ellps=", a, out, pen.o, pen.begun, write);
+    let f = add(b",", out, e, write);
+    let o = add(rf, out, f, write);
+    let p = Pen {
+        o: o,
+        begun: true,
+        owed: pen.owed,
+    };
+    settle(out, p, write)
+}
+
+// Adds the globals after the first element: "as one element at position 1".
+fn insert(fresh: bool, g: &[u8], out: &mut [u8], pen: Pen, write: bool) -> Pen
+    requires { ⌜ RoomFor write (inserted fresh (now g)) pen (now out) ⌝ }
+    ensures { λ r. ⌜ Pens write (inserted fresh (now (g .entry))) pen (now (out .entry)) r (now (out .exit)) ⌝ }
+{
+    if fresh {
+        if 0 < g.len() {
+            return element(g, out, pen, write);
+        }
+        return pen;
+    }
+    pen
+}
+
+// Adds a word of the step's own, or the scale, and after the first the globals.
+fn own(x: &[u8], scale: bool, fresh: bool, g: &[u8], out: &mut [u8], pen: Pen, write: bool) -> Pen
+    requires { ⌜ (scale ≡ true → 2 ≤ length (now x)) ⌝ }
+    requires { ⌜ RoomFor write (ownWord scale (now x) ∷ inserted fresh (now g)) pen (now out) ⌝ }
+    ensures { λ r. ⌜ Pens write (ownWord scale (now (x .entry)) ∷ inserted fresh (now (g .entry))) pen (now (out .entry)) r (now (out .exit)) ⌝ }
+{
+    if scale {
+        let p = scaled(&x[2..], out, pen, write);
+        return insert(fresh, g, out, p, write);
+    }
+    let p = element(x, out, pen, write);
+    insert(fresh, g, out, p, write)
+}
+
+// Adds what comes last: the composed ellipsoid, and an `inv` that is still owed.
+fn finish(
+    composed: bool,
+    a: &[u8],
+    rf: &[u8],
+    fresh: bool,
+    g: &[u8],
+    out: &mut [u8],
+    pen: Pen,
+    write: bool,
+) -> usize
+    requires { ⌜ RoomForAll write (closing composed (now a) (now rf) fresh (now g)) pen (now out) ⌝ }
+    ensures { λ r. ⌜ PensAll write (closing composed (now (a .entry)) (now (rf .entry)) fresh (now (g .entry))) pen (now (out .entry)) r (now (out .exit)) ⌝ }
+{
+    if composed {
+        let p = ellps(a, rf, out, pen, write);
+        let q = insert(fresh, g, out, p, write);
+        let last = settle(out, q, write);
+        return last.o;
+    }
+    let last = settle(out, pen, write);
+    last.o
+}
+
+// What comes of the next word.
+fn fate_of(x: &[u8], a: usize, rf: usize, still: bool) -> Fate
+    ensures { λ r. ⌜ IsFate (now (x .entry)) a rf still r ⌝ }
+{
+    if has_key(x, b"a=") {
+        if a == 1 {
+            return Fate {
+                skip: true,
+                scale: false,
+                a: 0,
+                rf: rf,
+                still: still,
+            };
+        }
+        if 1 < a {
+            return Fate {
+                skip: false,
+                scale: false,
+                a: a - 1,
+                rf: rf,
+                still: still,
+            };
+        }
+        return Fate {
+            skip: false,
+            scale: false,
+            a: a,
+            rf: rf,
+            still: still,
+        };
+    }
+    if has_key(x, b"rf=") {
+        if rf == 1 {
+            return Fate {
+                skip: true,
+                scale: false,
+                a: a,
+                rf: 0,
+                still: still,
+            };
+        }
+        if 1 < rf {
+            return Fate {
+                skip: false,
+                scale: false,
+                a: a,
+                rf: rf - 1,
+                still: still,
+            };
+        }
+        return Fate {
+            skip: false,
+            scale: false,
+            a: a,
+            rf: rf,
+            still: still,
+        };
+    }
+    if still {
+        if has_key(x, b"k=") {
+            return Fate {
+                skip: false,
+                scale: true,
+                a: a,
+                rf: rf,
+                still: false,
+            };
+        }
+        return Fate {
+            skip: false,
+            scale: false,
+            a: a,
+            rf: rf,
+            still: still,
+        };
+    }
+    Fate {
+        skip: false,
+        scale: false,
+        a: a,
+        rf: rf,
+        still: still,
+    }
+}
+
+// "With no `ellps=`, the last `a=` and last `rf=` become a final `ellps=a,rf`."
+fn plan_of(s: &[u8], head: Head) -> Plan
+    requires { ⌜ IsHead (now s) head ⌝ }
+    ensures { λ r. ⌜ IsPlan (now (s .entry)) r ⌝ }
+{
+    let none = Plan {
+        composed: false,
+        a: 0,
+        rf: 0,
+        start: 0,
+        stop: 0,
+        from: 0,
+        to: 0,
+    };
+    let named = key_of(s, head, b"ellps=");
+    if 0 < named.n {
+        return none;
+    }
+    let a = key_of(s, head, b"a=");
+    if a.n == 0 {
+        return none;
+    }
+    let rf = key_of(s, head, b"rf=");
+    if rf.n == 0 {
+        return none;
+    }
+    Plan {
+        composed: true,
+        a: a.n,
+        rf: rf.n,
+        start: a.from + 2,
+        stop: a.to,
+        from: rf.from + 3,
+        to: rf.to,
+    }
+}
+
+// Adds the elements of a step's answer from the pen on.
+fn elements_out(
+    s: &[u8],
+    head: Head,
+    plan: Plan,
+    g: &[u8],
+    pen: Pen,
+    out: &mut [u8],
+    write: bool,
+) -> usize
+    requires { ⌜ IsHead (now s) head ⌝ }
+    requires { ⌜ IsPlan (now s) plan ⌝ }
+    requires { ⌜ RoomForAll write (globalled true (now g) (tidied (words (now s)))) pen (now out) ⌝ }
+    ensures { λ r. ⌜ PensAll write (globalled true (now (g .entry)) (tidied (words (now (s .entry))))) pen (now (out .entry)) r (now (out .exit)) ⌝ }
+{
+    let composed = plan.composed;
+    let start = plan.start;
+    let stop = plan.stop;
+    let first = plan.from;
+    let last = plan.to;
+    let mut p = pen;
+    let mut a = plan.a;
+    let mut rf = plan.rf;
+    let mut still = true;
+    let mut fresh = true;
+    let mut stage = 0;
+    let mut k = 0;
+    loop {
+        let found = next_element(s, head, stage, k);
+        match found {
+            Element::End => {
+                return finish(
+                    composed,
+                    &s[start..stop],
+                    &s[first..last],
+                    fresh,
+                    g,
+                    out,
+                    p,
+                    write,
+                );
+            }
+            Element::At {
+                from,
+                to,
+                then,
+                stage: next,
+            } => {
+                let f = fate_of(&s[from..to], a, rf, still);
+                if f.skip {
+                    a = f.a;
+                    rf = f.rf;
+                    still = f.still;
+                    stage = next;
+                    k = then;
+                } else {
+                    p = own(&s[from..to], f.scale, fresh, g, out, p, write);
+                    fresh = false;
+                    a = f.a;
+                    rf = f.rf;
+                    still = f.still;
+                    stage = next;
+                    k = then;
+                }
+            }
+        }
+    }
+}
+
+// Writes the globals: the words of the pipeline's own step but the first and `inv`, with one space between.
+pub fn globals_into(s: &[u8], head: Head, dst: &mut [u8]) -> usize
+    requires { ⌜ IsHead (now s) head ⌝ }
+    requires { ⌜ length (now s) ≤ length (now dst) ⌝ }
+    ensures { λ r. ⌜ Wrote (globalsOf (words (now (s .entry)))) (now (dst .entry)) r (now (dst .exit)) ⌝ }
+{
+    let mut o = 0;
+    let mut begun = false;
+    let mut stage = head.stage;
+    let mut k = head.stop;
+    loop {
+        let found = next_element(s, head, stage, k);
+        match found {
+            Element::End => {
+                return o;
+            }
+            Element::At {
+                from,
+                to,
+                then,
+                stage: next,
+            } => {
+                if is_inv(&s[from..to]) {
+                    stage = next;
+                    k = then;
+                } else {
+                    o = word(b"", &s[from..to], dst, o, begun, true);
+                    begun = true;
+                    stage = next;
+                    k = then;
+                }
+            }
+        }
+    }
+}
+
+// Is just one of them true?
+fn differ(a: bool, b: bool) -> bool
+    ensures { λ r. ⌜ r ≡ xor a b ⌝ }
+{
+    if a {
+        return !b;
+    }
+    b
+}
+
+// Adds the text of a step of the answer from `at` on, with the pipeline's globals, or counts it.
+pub fn step_text(
+    s: &[u8],
+    g: &[u8],
+    inverted: bool,
+    out: &mut [u8],
+    at: usize,
+    write: bool,
+) -> usize
+    requires { ⌜ nonEmpty (words (now s)) ≡ true ⌝ }
+    requires { ⌜ Global (pipelineOf (now g) inverted) ⌝ }
+    requires { ⌜ Room write (stepOf (pipelineOf (now g) inverted) (words (now s))) at (now out) ⌝ }
+    ensures { λ r. ⌜ Adds write (stepOf (pipelineOf (now (g .entry)) inverted) (words (now (s .entry)))) (now (out .entry)) at r (now (out .exit)) ⌝ }
+{
+    let head = head_of(s);
+    let marks = marks_of(s, head);
+    let plan = plan_of(s, head);
+    let pen = Pen {
+        o: at,
+        begun: false,
+        owed: differ(marks.inv, inverted),
+    };
+    elements_out(s, head, plan, g, pen, out, write)
+}

@@ -1,0 +1,38 @@
+use mathlib.Core.Path.{sym, _∙_}
+use Rattle.projwalk.proofs.Piecing.{begins-noise, begins-word, begins-alone}
+use borrow.Author.Needs.{needs}
+use Rattle.projwalk.proofs.unnoised.Statement.{statement}
+use Rattle.projwalk.proofs.unnoised.Tie as tie
+
+sub-is-step : tie.Need-sub-is-step
+sub-is-step c = search needs
+
+part-is-step-start : tie.Need-part-is-step-start
+part-is-step-start c = search needs
+
+part-is-step-end : tie.Need-part-is-step-end
+part-is-step-end c = search needs
+
+is-step-requires : tie.Need-is-step-requires
+is-step-requires c κs = search needs
+
+returns : tie.Need-returns
+returns c = begins-noise _ (c .before .before .before .before .before .args .from) (c .before .before .before .before .before .args .to) (c .before .before .before .before .before .args .end) (c .before .before .before .if1 .taken) (sym (c .before .is-step .ensures) ∙ c .if2 .taken)
+
+returns-2 : tie.Need-returns-2
+returns-2 c = begins-word _ (c .before .before .before .before .before .args .from) (c .before .before .before .before .before .args .to) (c .before .before .before .before .before .args .end) (c .before .before .before .if1 .taken) (sym (c .before .is-step .ensures) ∙ c .if2 .left)
+
+returns-3 : tie.Need-returns-3
+returns-3 c = begins-alone _ (c .before .before .args .from) (c .before .before .args .to) (c .before .before .args .end) (c .if1 .left)
+
+pub unnoised-spec : {M : Type 1} → statement M
+unnoised-spec =
+    tie.close
+    (tie.spec
+    sub-is-step
+    part-is-step-start
+    part-is-step-end
+    is-step-requires
+    returns
+    returns-2
+    returns-3)

@@ -1,0 +1,193 @@
+-- What the exchanged words of a step say: the loops over them, and their laws.
+use mathlib.Core.Path.{_≡_, refl, sym, ap, _∙_}
+use mathlib.Core.Bool.{Bool, true, false, cond, _&&_, _||_}
+use mathlib.Core.List.{[], _∷_}
+use Prim.Native.Nat.{ℕ, zero, suc, _+_, _≤_, _<_}
+use native.Mathlib.Omega.{arith}
+use lib.ListN.{length, drop}
+use Rattle.rules.specs.Lists.{any, all, nonEmpty}
+use Rattle.rules.specs.Text.{Bytes, Words, white, same, starts, words}
+use Rattle.rules.specs.Ascii.{ascii}
+use Rattle.rules.specs.Proj.{isProj, firstProj, inItsPlace, exchanged}
+use Rattle.rules.specs.Translate.{isInv}
+use Rattle.rules.specs.Reader.{part}
+use Rattle.laws.specs.Passes.{inWord, grow, words-cons}
+use Rattle.walk.proofs.Leading.{words-nil}
+use Rattle.laws.specs.Separators.{same-is}
+use Rattle.projlaws.specs.Tests.{or-no, or-yes, or-assoc, and-yes, and-no, and-assoc}
+use Rattle.projlaws.specs.Tidying.{countOf, lastFrom}
+use Rattle.projwords.specs.Heads.{elements, IsHead, IsElement}
+use Rattle.projwords.specs.Facts.{Marked, IsMarks, IsKey}
+use Rattle.projwords.specs.declared.Head.{Head}
+use Rattle.projwords.specs.declared.Marks.{Marks}
+
+-- ---- one word more
+
+inv-some : (w : Bytes) → isInv w ≡ true → nonEmpty w ≡ true
+unfolding isInv ascii nonEmpty
+inv-some w e = ap nonEmpty (same-is w (ascii "inv") e)
+
+long-some : (w : Bytes) → 0 < length w → nonEmpty w ≡ true
+unfolding nonEmpty
+long-some [] h = absurd (never h)
+  where
+    never : _<_ 0 zero → ⊥
+    never h = omega arith
+long-some (x ∷ w) h = refl
+
+short-none : (w : Bytes) → length w ≤ 0 → nonEmpty w ≡ false
+unfolding nonEmpty
+short-none [] h = refl
+short-none (x ∷ w) h = absurd (never h)
+  where
+    never : suc (length w) ≤ 0 → ⊥
+    never h = omega arith
+
+module _ {w : Bytes} {m : Marks} where
+  pub marked-inv : isInv w ≡ true → Marked w m (record { inv = true; only = m .only; some = true })
+  marked-inv e = record { inv = rw e (sym (or-yes (m .inv))); only = rw e (sym (and-yes (m .only))); some = rw (inv-some w e) (sym (or-yes (m .some))) }
+
+  pub marked-word : isInv w ≡ false → 0 < length w → Marked w m (record { inv = m .inv; only = false; some = true })
+  marked-word e h = record { inv = rw e (sym (or-no (m .inv))); only = rw e (sym (and-no (m .only))); some = rw (long-some w h) (sym (or-yes (m .some))) }
+
+  pub marked-empty : isInv w ≡ false → length w ≤ 0 → Marked w m (record { inv = m .inv; only = false; some = m .some })
+  marked-empty e h = record { inv = rw e (sym (or-no (m .inv))); only = rw e (sym (and-no (m .only))); some = rw (short-none w h) (sym (or-no (m .some))) }
+
+-- ---- all words
+
+-- the marks of the words that the walk has passed
+pub record Marking (s : Bytes) (h : Head) (stage k : ℕ) (m : Marks) : Type 0 where
+  pub head : IsHead s h
+  pub within : k ≤ length s
+  pub inv : any isInv (exchanged (words s)) ≡ (m .inv || any isInv (elements s h stage k))
+  pub only : all isInv (exchanged (words s)) ≡ (m .only && all isInv (elements s h stage k))
+  pub some : any nonEmpty (exchanged (words s)) ≡ (m .some || any nonEmpty (elements s h stage k))
+
+pub marking-start : {s : Bytes} {h : Head} → IsHead s h → Marking s h 0 0 (record { inv = false; only = true; some = false })
+unfolding elements
+marking-start m = record { head = m; within = omega arith; inv = refl; only = refl; some = refl }
+
+module _ {s : Bytes} {h : Head} {stage k : ℕ} {m : Marks} (i : Marking s h stage k m) where
+  pub marking-end : elements s h stage k ≡ [] → IsMarks (exchanged (words s)) m
+  unfolding any all
+  marking-end e = record {
+    inv = sym (or-no (m .inv)) ∙ sym (i .inv ∙ ap (λ (ws : Words). m .inv || any isInv ws) e);
+    only = sym (and-yes (m .only)) ∙ sym (i .only ∙ ap (λ (ws : Words). m .only && all isInv ws) e);
+    some = sym (or-no (m .some)) ∙ sym (i .some ∙ ap (λ (ws : Words). m .some || any nonEmpty ws) e);
+  }
+
+  pub marking-next : {from to then next : ℕ} {r : Marks} → IsElement s h stage k from to then next → Marked (part from to s) m r → Marking s h next then r
+  unfolding any all
+  marking-next {from} {to} {then} {next} {r} e w =
+      let x = part from to s in
+      let ws = elements s h next then in
+      record {
+        head = i .head;
+        within = e .onward;
+        inv = i .inv ∙ rw (e .here, w .inv) (or-assoc (m .inv) (isInv x) (any isInv ws));
+        only = i .only ∙ rw (e .here, w .only) (and-assoc (m .only) (isInv x) (all isInv ws));
+        some = i .some ∙ rw (e .here, w .some) (or-assoc (m .some) (nonEmpty x) (any nonEmpty ws));
+      }
+
+-- the walk ends
+pub element-less : {s : Bytes} {h : Head} {stage k from to then next : ℕ} → IsElement s h stage k from to then next
+    → length (elements s h next then) < length (elements s h stage k)
+element-less {s} {h} {stage} {k} {from} {to} {then} {next} e = omega (arith, ap length (e .here))
+
+-- ---- how many words there are
+
+grow-few : (x : ℕ) (b : Bool) (ws : Words) → length (grow x b ws) ≤ suc (length ws)
+unfolding grow
+grow-few x true [] = omega arith
+grow-few x true (w ∷ ws) = omega arith
+grow-few x false ws = omega arith
+
+words-few : (t : Bytes) → length (words t) ≤ length t
+words-few [] = rw words-nil (omega arith)
+words-few (x ∷ t) = rw (words-cons x t) (go (white x) (words-few t))
+  where
+    go : (b : Bool) → length (words t) ≤ length t → length (cond b (words t) (grow x (inWord t) (words t))) ≤ suc (length t)
+    go true h = omega arith
+    go false h = omega (arith, grow-few x (inWord t) (words t))
+
+place-few : (v : Bytes) (ws : Words) → length (inItsPlace v ws) ≡ length ws
+unfolding inItsPlace
+place-few v [] = refl
+place-few v (w ∷ ws) = go (isProj w) (place-few v ws)
+  where
+    go : (b : Bool) → length (inItsPlace v ws) ≡ length ws → length (cond b (v ∷ ws) (w ∷ inItsPlace v ws)) ≡ suc (length ws)
+    go true h = refl
+    go false h = ap suc h
+
+exchanged-few : (ws : Words) → length (exchanged ws) ≡ length ws
+unfolding exchanged
+exchanged-few [] = refl
+exchanged-few (w ∷ ws) = go (isProj w) (any isProj ws)
+  where
+    go : (b d : Bool) → length (cond b (drop 5 w ∷ ws) (cond d (drop 5 (firstProj ws) ∷ inItsPlace w ws) (w ∷ ws))) ≡ suc (length ws)
+    go true d = refl
+    go false true = ap suc (place-few w ws)
+    go false false = refl
+
+-- ---- keys
+
+-- the words that the walk has passed, n of which begin with the key, the last of them from a to e
+pub record Keying (s : Bytes) (h : Head) (key : Bytes) (n a e stage k : ℕ) : Type 0 where
+  pub head : IsHead s h
+  pub within : k ≤ length s
+  pub ahead : a ≤ e
+  pub inside : e ≤ length s
+  pub few : n + length (elements s h stage k) ≤ length (exchanged (words s))
+  pub count : countOf key (exchanged (words s)) ≡ n + countOf key (elements s h stage k)
+  pub last : lastFrom key [] (exchanged (words s)) ≡ lastFrom key (part a e s) (elements s h stage k)
+
+pub keying-start : {s : Bytes} {h : Head} (key : Bytes) → IsHead s h → Keying s h key 0 0 0 0 0
+unfolding elements
+keying-start key m = record {
+  head = m;
+  within = omega arith;
+  ahead = omega arith;
+  inside = omega arith;
+  few = omega arith;
+  count = omega arith;
+  last = refl;
+}
+
+module _ {s : Bytes} {h : Head} {key : Bytes} {n a e stage k : ℕ} (i : Keying s h key n a e stage k) where
+  pub keying-end : elements s h stage k ≡ [] → IsKey s key (record { n = n; from = a; to = e })
+  unfolding countOf lastFrom
+  keying-end z = record {
+    ahead = i .ahead;
+    within = i .inside;
+    count = let c : countOf key (elements s h stage k) ≡ 0 = ap (countOf key) z in omega (arith, i .count, c);
+    last = sym (i .last ∙ ap (lastFrom key (part a e s)) z);
+  }
+
+  module _ {from to then next : ℕ} (w : IsElement s h stage k from to then next) where
+    -- there are not too many words to count
+    pub keying-few : n < length s
+    keying-few = omega (arith, i .few, ap length (w .here), exchanged-few (words s), words-few s)
+
+    pub keying-more : starts key (part from to s) ≡ true → Keying s h key (n + 1) from to next then
+    unfolding countOf lastFrom
+    keying-more z = record {
+      head = i .head;
+      within = w .onward;
+      ahead = w .ahead;
+      inside = w .within;
+      few = omega (arith, i .few, ap length (w .here));
+      count = let c : countOf key (elements s h stage k) ≡ suc (countOf key (elements s h next then)) = ap (countOf key) (w .here) ∙ rw z in omega (arith, i .count, c);
+      last = i .last ∙ ap (lastFrom key (part a e s)) (w .here) ∙ ap (λ (b : Bool). lastFrom key (cond b (part from to s) (part a e s)) (elements s h next then)) z;
+    }
+
+    pub keying-next : starts key (part from to s) ≡ false → Keying s h key n a e next then
+    unfolding countOf lastFrom
+    keying-next z = record {
+      head = i .head;
+      within = w .onward;
+      ahead = i .ahead;
+      inside = i .inside;
+      few = omega (arith, i .few, ap length (w .here));
+      count = let c : countOf key (elements s h stage k) ≡ countOf key (elements s h next then) = ap (countOf key) (w .here) ∙ rw z in omega (arith, i .count, c);
+      last = i .last ∙ ap (lastFrom key (part a e s)) (w .here) ∙ ap (λ (b : Bool). lastFrom key (cond b (part from to s) (part a e s)) (elements s h next then)) z;
+    }
