@@ -1,12 +1,18 @@
 // Requests: which one a line is, and its answer. A text request that is new is a variant of `TextCall`, its word in
-// `asked` and its call in `call`; any other request is a variant of `Request`, its word, and its arm in `answer`.
+// `asked_text` and its call in `call`; any other request is a variant of `Request`, its word, and its arm in `answer`.
 ghost use Prim.Native.Nat.{_≤_};
 ghost use lib.ListN.{length};
-ghost use Rattle.answering.specs.Storage.{Filled, Storage};
+ghost use Rattle.answering.specs.Storage.{Filled, Rows, Storage};
+use crate::checks::answer_check;
+use crate::out::end_line;
 use crate::out::say;
-use crate::out::say_number;
+use crate::out::say_refusal;
 use crate::out::say_text;
+use crate::out::say_what;
+use crate::records::answer_prepare;
+use crate::runs::answer_run;
 use parameters::parameters;
+use proj::translate;
 use rules::Written;
 use split::split;
 use token::normalise;
@@ -24,6 +30,9 @@ const GUARD: usize = 16;
 
 enum Request {
     Text(TextCall),
+    Prepare,
+    Check,
+    Run,
     Nothing,
 }
 
@@ -32,10 +41,25 @@ enum TextCall {
     Normalise,
     Split,
     Parameters,
+    Translate,
 }
 
 // Which request a line's first field names.
 fn asked(word: &[u8]) -> Request {
+    if wire::same(word, b"prepare") {
+        return Request::Prepare;
+    }
+    if wire::same(word, b"check") {
+        return Request::Check;
+    }
+    if wire::same(word, b"run") {
+        return Request::Run;
+    }
+    asked_text(word)
+}
+
+// Which of those on a text.
+fn asked_text(word: &[u8]) -> Request {
     if wire::same(word, b"normalise") {
         return Request::Text(TextCall::Normalise);
     }
@@ -44,6 +68,9 @@ fn asked(word: &[u8]) -> Request {
     }
     if wire::same(word, b"parameters") {
         return Request::Text(TextCall::Parameters);
+    }
+    if wire::same(word, b"translate") {
+        return Request::Text(TextCall::Translate);
     }
     Request::Nothing
 }
@@ -54,25 +81,31 @@ fn call(which: TextCall, text: &[u8], lent: &mut [u8]) -> Written {
         TextCall::Normalise => normalise(text, lent),
         TextCall::Split => split(text, lent),
         TextCall::Parameters => parameters(text, lent),
+        TextCall::Translate => translate(text, lent),
     }
 }
 
 // Answers a line, which stands here without its newline.
-pub fn answer(line: &[u8], text: &mut [u8], lent: &mut [u8], out: &mut [u8], at: usize) -> usize
+pub fn answer(
+    line: &[u8],
+    text: &mut [u8],
+    lent: &mut [u8],
+    list: &mut [f64],
+    store: &mut [f64],
+    out: &mut [u8],
+    at: usize,
+) -> usize
     requires { ⌜ Storage (now lent) (now out) at ⌝ }
+    requires { ⌜ Rows (now list) (now store) ⌝ }
     ensures { λ r. ⌜ Filled (now (out .exit)) r ⌝ }
 {
     match asked(wire::field(line, 0)) {
         Request::Text(which) => answer_text(which, line, text, lent, out, at),
+        Request::Prepare => answer_prepare(line, text, out, at),
+        Request::Check => answer_check(line, text, out, at),
+        Request::Run => answer_run(line, text, list, store, out, at),
         Request::Nothing => say_what(out, at),
     }
-}
-
-fn say_what(out: &mut [u8], at: usize) -> usize
-    requires { ⌜ Filled (now out) at ⌝ }
-    ensures { λ r. ⌜ Filled (now (out .exit)) r ⌝ }
-{
-    say(b"what\n", out, at)
 }
 
 // `CALL ROOM TEXT`.
@@ -112,9 +145,11 @@ fn lend(
     requires { ⌜ room ≤ 131072 ⌝ }
     ensures { λ r. ⌜ Filled (now (out .exit)) r ⌝ }
 {
-    match call(which, text, &mut lent[..room]) {
+    match call(which, text, &mut lent[0..room]) {
         Written::Wrote(n) => say_written(n, room, lent, out, at),
-        Written::Refused { number, place } => say_refused(number, place, room, lent, out, at),
+        Written::Refused { number, place } => {
+            say_refusal(number, place, is_kept(lent, 0, room), out, at)
+        }
     }
 }
 
@@ -131,37 +166,6 @@ fn say_written(n: usize, room: usize, lent: &mut [u8], out: &mut [u8], at: usize
     let begun = say(b"ok ", out, at);
     let told = say_text(&lent[..n], out, begun);
     end_line(is_kept(lent, n, room), out, told)
-}
-
-// `refused N PLACE`.
-fn say_refused(
-    number: u8,
-    place: usize,
-    room: usize,
-    lent: &mut [u8],
-    out: &mut [u8],
-    at: usize,
-) -> usize
-    requires { ⌜ Storage (now lent) (now out) at ⌝ }
-    requires { ⌜ room ≤ 131072 ⌝ }
-    ensures { λ r. ⌜ Filled (now (out .exit)) r ⌝ }
-{
-    let begun = say(b"refused ", out, at);
-    let numbered = say_number(number as u64, out, begun);
-    let parted = say(b" ", out, numbered);
-    let told = say_number(place as u64, out, parted);
-    end_line(is_kept(lent, 0, room), out, told)
-}
-
-// Ends a line, with ` spoilt` where lent storage was not kept.
-fn end_line(kept: bool, out: &mut [u8], at: usize) -> usize
-    requires { ⌜ Filled (now out) at ⌝ }
-    ensures { λ r. ⌜ Filled (now (out .exit)) r ⌝ }
-{
-    if kept {
-        return say(b"\n", out, at);
-    }
-    say(b" spoilt\n", out, at)
 }
 
 // Is each lent byte behind the first n as it was, and the guard? Leaves all of the storage as it was before it was

@@ -2,12 +2,16 @@
 // for each. It holds no rule of its own: it decodes, lends storage, calls the library and prints. A line of over
 // 131,072 bytes is answered as no request.
 mod ask;
+mod checks;
+mod fields;
 mod out;
+mod records;
+mod runs;
 
 ghost use Prim.Native.Nat.{_≤_, _<_};
 ghost use mathlib.Core.Path.{_≡_};
 ghost use lib.ListN.{length};
-ghost use Rattle.answering.specs.Storage.{Storage};
+ghost use Rattle.answering.specs.Storage.{Rows, Storage};
 use libc::STDIN_FILENO;
 
 // A byte that no request begins with: it stands for the front of a line that is too long.
@@ -58,17 +62,20 @@ fn answer_lines(
     seen: usize,
     text: &mut [u8],
     lent: &mut [u8],
+    list: &mut [f64],
+    store: &mut [f64],
     out: &mut [u8],
 ) -> usize
     requires { ⌜ seen ≤ length (now input) ⌝ }
     requires { ⌜ Storage (now lent) (now out) 0 ⌝ }
+    requires { ⌜ Rows (now list) (now store) ⌝ }
     ensures { λ r. ⌜ r ≤ length (now (input .entry)) ⌝ }
 {
     let mut start = 0;
     let mut at = 0;
     let mut newline = wire::find(input, seen, b'\n');
     while newline < input.len() {
-        at = ask::answer(&input[start..newline], text, lent, out, at);
+        at = ask::answer(&input[start..newline], text, lent, list, store, out, at);
         start = newline + 1;
         newline = wire::find(input, start, b'\n');
     }
@@ -77,18 +84,28 @@ fn answer_lines(
 }
 
 // Answers the last line, where it has no newline.
-fn answer_last(line: &[u8], text: &mut [u8], lent: &mut [u8], out: &mut [u8])
+fn answer_last(
+    line: &[u8],
+    text: &mut [u8],
+    lent: &mut [u8],
+    list: &mut [f64],
+    store: &mut [f64],
+    out: &mut [u8],
+)
     requires { ⌜ Storage (now lent) (now out) 0 ⌝ }
+    requires { ⌜ Rows (now list) (now store) ⌝ }
 {
     if 0 < line.len() {
-        let at = ask::answer(line, text, lent, out, 0);
+        let at = ask::answer(line, text, lent, list, store, out, 0);
         out::flush(out, at);
     }
 }
 
 // A proved loop has to end, and nothing says that the input does: the loop counts its turns down, from a number that no
 // run uses up.
-pub fn serve() {
+fn serve_with(list: &mut [f64], store: &mut [f64])
+    requires { ⌜ Rows (now list) (now store) ⌝ }
+{
     let mut input = input_room();
     // Room for the longest text that a line can spell.
     let mut text = io::large_buffer();
@@ -99,11 +116,26 @@ pub fn serve() {
     while 0 < turns {
         let end = read_more(&mut input, have);
         if end == have {
-            answer_last(&input[..have], &mut text, &mut lent, &mut out);
+            answer_last(&input[..have], &mut text, &mut lent, list, store, &mut out);
             return;
         }
-        let start = answer_lines(&input[..end], have, &mut text, &mut lent, &mut out);
+        let start = answer_lines(
+            &input[..end],
+            have,
+            &mut text,
+            &mut lent,
+            list,
+            store,
+            &mut out,
+        );
         have = keep(&mut input, start, end);
         turns -= 1;
     }
+}
+
+// Makes room for a list and a store, each of the most numbers, and the guard behind them.
+pub fn serve() {
+    let mut list = [0.0; 262164];
+    let mut store = [0.0; 262164];
+    serve_with(&mut list, &mut store);
 }

@@ -237,7 +237,7 @@ fn product_of(c: Coord, i: usize, by: Coord, j: usize) -> f64
 }
 
 // The four factors of a step.
-fn mults_of(args: [i32; 8]) -> Coord
+pub fn mults_of(args: [i32; 8]) -> Coord
     ensures { λ r. ⌜ r ≡ mults args ⌝ }
 {
     Coord {
@@ -261,7 +261,7 @@ fn overs_of(m: Coord) -> Coord
 }
 
 // Is a step a no-op, by its four places and factors?
-fn is_noop(p1: usize, p2: usize, p3: usize, p4: usize, m: Coord) -> bool
+pub fn is_noop(p1: usize, p2: usize, p3: usize, p4: usize, m: Coord) -> bool
     ensures { λ r. ⌜ r ≡ allStaying p1 p2 p3 p4 m ⌝ }
 {
     if !is_staying(p1, m.a, 1) {

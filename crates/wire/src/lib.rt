@@ -3,6 +3,7 @@
 // says beyond that what a caller needs: a place within the line, a number within its bound, how many bytes were
 // written.
 mod line;
+mod number;
 mod read;
 mod store;
 mod write;
@@ -11,6 +12,12 @@ pub use line::field;
 pub use line::fields;
 pub use line::find;
 pub use line::same;
+pub use number::are_numbers;
+pub use number::fill_numbers;
+pub use number::is_all_number;
+pub use number::numbers;
+pub use number::put_number;
+pub use number::read_numbers;
 pub use read::Natural;
 pub use read::Text;
 pub use read::read_natural;

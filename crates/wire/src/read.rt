@@ -92,7 +92,7 @@ fn decimal_digit(b: u8) -> usize
 }
 
 // The digit's value, or 16.
-fn hex_digit(b: u8) -> u8
+pub fn hex_digit(b: u8) -> u8
     ensures { λ r. ⌜ r ≤ 16 ⌝ }
 {
     match b {

@@ -64,7 +64,7 @@ fn spell(n: u64, digits: &mut [u8]) -> usize
 }
 
 // The digit of a value below 16.
-fn hex_glyph(d: u8) -> u8
+pub fn hex_glyph(d: u8) -> u8
     requires { ⌜ d ≤ 15 ⌝ }
 {
     if d < 10 { b'0' + d } else { b'a' + (d - 10) }

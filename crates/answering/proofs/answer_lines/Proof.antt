@@ -8,10 +8,12 @@ use Rattle.answering.proofs.answer_lines.Statement.{statement}
 use Rattle.answering.proofs.answer_lines.Tie as tie
 
 abbrev Inv-loop : tie.InvT-loop
-Inv-loop input seen text₀ lent₀ out₀ start₀ at₀ newline₀ text lent out start at newline = (start ≤ newline) × (newline ≤ length input) × (at ≤ length out) × (length text ≡ length text₀) × (length lent ≡ length lent₀) × (length out ≡ length out₀)
+Inv-loop input seen text₀ lent₀ list₀ store₀ out₀ start₀ at₀ newline₀ text lent list store out start at newline =
+    (start ≤ newline) × (newline ≤ length input) × (at ≤ length out) × (length text ≡ length text₀) × (length lent ≡ length lent₀) × (length list ≡ length list₀) × (length store ≡ length store₀) × (length out ≡ length out₀)
 
 abbrev μ-loop : tie.MeasureT-loop
-μ-loop input seen text₀ lent₀ out₀ start₀ at₀ newline₀ text lent out start at newline = length input - start
+μ-loop input seen text₀ lent₀ list₀ store₀ out₀ start₀ at₀ newline₀ text lent list store out start at newline =
+    length input - start
 
 find-requires : tie.Need-find-requires Inv-loop μ-loop
 find-requires c κs = search needs
@@ -55,6 +57,12 @@ same-length-2 c = search needs
 same-length-3 : tie.Need-same-length-3 Inv-loop μ-loop
 same-length-3 c = search needs
 
+same-length-4 : tie.Need-same-length-4 Inv-loop μ-loop
+same-length-4 c = search needs
+
+same-length-5 : tie.Need-same-length-5 Inv-loop μ-loop
+same-length-5 c = search needs
+
 returns : tie.Need-returns Inv-loop μ-loop
 returns c = search needs
 
@@ -78,4 +86,6 @@ answer-lines-spec =
     same-length
     same-length-2
     same-length-3
+    same-length-4
+    same-length-5
     returns)

@@ -1,0 +1,2 @@
+-- Laws that the proofs of the numbers' readers and writers cite.
+pub mod Patterns
