@@ -493,7 +493,7 @@ DEEP = [
 RUN_DEEP = [deep(direction, depth, *steps) for direction in DIRECTIONS for depth, steps in DEEP]
 LARGE = [
     "zeros:0", "zeros:4", "zeros:63", "zeros:64", "zeros:65", "zeros:68", "zeros:262140", "zeros:262143",
-    "zeros:262144", "zeros:262145", "zeros:262148", "zeros:300000",
+    "zeros:262144", "zeros:262145", "zeros:262148",
 ]
 
 
