@@ -220,6 +220,14 @@ fn room() -> Vec<u8> {
     vec![0; 131072]
 }
 
+// The longest translation found: globals of `>`, which grow tenfold, in each of many steps.
+const LONGEST: usize = 5949497;
+
+fn longest() -> Vec<u8> {
+    let text = "proj=pipeline g".to_string() + &">".repeat(2037) + &" step a".repeat(292);
+    text.into_bytes()
+}
+
 // ----- the calls on steps --------------------------------------------------------------------------------------------
 
 // Eight steps that leave no column, eight times: 64 steps.
@@ -330,7 +338,9 @@ fn calls() -> Vec<(String, &'static [usize])> {
         .iter()
         .map(|pair| (pair.0.to_string(), BYTES))
         .collect();
-    if !cfg!(built_translate) {
+    if cfg!(built_translate) {
+        all.push(("translate_longest".to_string(), &[4096]));
+    } else {
         all.pop();
     }
     if cfg!(built_prepare) {
@@ -352,6 +362,13 @@ fn sides(call: &str, size: usize) -> Vec<(&'static str, Ready)> {
             Box::new(move || f(black_box(&src), black_box(&mut out)))
         };
         return vec![("rust", ready(rust)), ("proved", ready(proved))];
+    }
+    if call == "translate_longest" {
+        let ready = |f: Side| -> Ready {
+            let (src, mut out) = (longest(), vec![0; LONGEST]);
+            Box::new(move || f(black_box(&src), black_box(&mut out)))
+        };
+        return vec![("rust", ready(translate_rust)), ("proved", ready(translate_proved))];
     }
     steps_sides(call, size)
 }
@@ -435,6 +452,9 @@ fn check() {
             assert!(a[..n] == b[..m], "{name} differs at {size}");
         }
     }
+    let (mut a, mut b) = (vec![0; LONGEST], vec![0; LONGEST]);
+    let (n, m) = (translate_rust(&longest(), &mut a), translate_proved(&longest(), &mut b));
+    assert!(n == LONGEST && m == n && a == b, "the longest translation differs");
     #[cfg(built_prepare)]
     assert!(
         table_of(&sixty_four()).len() == read(&sixty_four()).split_into_steps().len(),
