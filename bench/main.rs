@@ -40,15 +40,40 @@ struct Step {
     omit_inv: u8,
 }
 
-// What the check answers: only its number is looked at, and there is room for all of it.
+// A step table: n records, the first of 64.
 #[repr(C)]
-struct Checked {
-    number: u8,
-    rest: [u64; 160],
+#[derive(Clone, Copy)]
+struct Steps {
+    steps: [Step; 64],
+    n: usize,
 }
 
 #[repr(C)]
-struct Ran {
+struct Made {
+    answer: Reply,
+    table: Steps,
+}
+
+#[repr(C)]
+struct Place {
+    axis: u32,
+    minus: bool,
+}
+
+#[repr(C)]
+struct Checked {
+    number: u8,
+    place: usize,
+    run: usize,
+    depths: [usize; 64],
+    deepest: usize,
+    left: usize,
+    told: bool,
+    places: [Place; 4],
+}
+
+#[repr(C)]
+struct Done {
     number: u8,
     place: usize,
     count: usize,
@@ -79,22 +104,16 @@ unsafe extern "C" {
         out: *mut u8,
         out_len: usize,
     ) -> Reply;
-    fn sakondreno_prepare(
-        text: *const u8,
-        text_len: usize,
-        table: *mut Step,
-        table_len: usize,
-    ) -> Reply;
-    fn sakondreno_check(table: *const Step, table_len: usize, direction: u8) -> Checked;
+    fn sakondreno_prepare(text: *const u8, text_len: usize, table: Steps) -> Made;
+    fn sakondreno_check(table: Steps, inverse: u8) -> Checked;
     fn sakondreno_run(
-        table: *const Step,
-        table_len: usize,
-        direction: u8,
+        table: Steps,
+        inverse: u8,
         list: *mut f64,
         list_len: usize,
         store: *mut f64,
         store_len: usize,
-    ) -> Ran;
+    ) -> Done;
 }
 
 fn proved(call: Call, text: &[u8], out: &mut [u8]) -> usize {
@@ -104,10 +123,11 @@ fn proved(call: Call, text: &[u8], out: &mut [u8]) -> usize {
 }
 
 #[cfg(built_prepare)]
-fn prepared(text: &[u8], table: &mut [Step]) -> usize {
-    let r =
-        unsafe { sakondreno_prepare(text.as_ptr(), text.len(), table.as_mut_ptr(), table.len()) };
+fn prepared(text: &[u8], table: &mut Steps) -> usize {
+    let made = unsafe { sakondreno_prepare(text.as_ptr(), text.len(), *table) };
+    let r = &made.answer;
     assert!(r.number == 0, "refused {} {}", r.number, r.place);
+    *table = made.table;
     r.length
 }
 
@@ -292,11 +312,10 @@ fn run_rust(op: &Op, list: &mut List) -> usize {
 
 #[cfg(built_run)]
 #[inline(never)]
-fn run_proved(table: &[Step], list: &mut [f64], store: &mut [f64]) -> usize {
+fn run_proved(table: &Steps, list: &mut [f64], store: &mut [f64]) -> usize {
     let r = unsafe {
         sakondreno_run(
-            table.as_ptr(),
-            table.len(),
+            *table,
             FORWARD,
             list.as_mut_ptr(),
             list.len(),
@@ -317,10 +336,17 @@ fn run_copy(list: &[Coor4D], other: &mut [Coor4D]) -> usize {
 }
 
 #[cfg(built_prepare)]
-fn table_of(text: &[u8]) -> Vec<Step> {
-    let mut table = vec![Step::default(); 64];
-    let n = prepared(text, &mut table);
-    table.truncate(n);
+fn lent() -> Steps {
+    Steps {
+        steps: [Step::default(); 64],
+        n: 64,
+    }
+}
+
+#[cfg(built_prepare)]
+fn table_of(text: &[u8]) -> Steps {
+    let mut table = lent();
+    table.n = prepared(text, &mut table);
     table
 }
 
@@ -379,7 +405,7 @@ fn steps_sides(call: &str, size: usize) -> Vec<(&'static str, Ready)> {
     match call {
         "prepare" => {
             let src = text.clone();
-            let mut table = vec![Step::default(); 64];
+            let mut table = lent();
             vec![
                 ("rust", Box::new(move || prepare_rust(black_box(&src)))),
                 (
@@ -394,12 +420,10 @@ fn steps_sides(call: &str, size: usize) -> Vec<(&'static str, Ready)> {
             vec![(
                 "proved",
                 Box::new(move || {
-                    let r = unsafe {
-                        sakondreno_check(black_box(&table).as_ptr(), table.len(), FORWARD)
-                    };
-                    assert!(r.number == 0, "refused {}", r.number);
-                    black_box(&r.rest);
-                    0
+                    let r = unsafe { sakondreno_check(*black_box(&table), FORWARD) };
+                    assert!(r.number == 0, "says {} {}", r.number, r.place);
+                    black_box(&r.depths);
+                    r.deepest
                 }),
             )]
         }
@@ -457,7 +481,7 @@ fn check() {
     assert!(n == LONGEST && m == n && a == b, "the longest translation differs");
     #[cfg(built_prepare)]
     assert!(
-        table_of(&sixty_four()).len() == read(&sixty_four()).split_into_steps().len(),
+        table_of(&sixty_four()).n == read(&sixty_four()).split_into_steps().len(),
         "prepare differs"
     );
     #[cfg(all(built_prepare, built_run))]

@@ -1,9 +1,35 @@
 -- The answers of the public calls, as plain records.
+use mathlib.Core.Path.{_≡_}
+use mathlib.Core.Bool.{cond}
+use mathlib.Core.List.{List}
 use Prim.Native.Nat.{ℕ}
+use lib.Dec.{eqb}
+use lib.Ieee.{Float}
 use Rattle.rules.specs.Refusal.{Reply, written}
 use Rattle.rules.specs.declared.Written.{Written}
 use Rattle.rules.specs.declared.Written.the-variants.{Wrote, Refused}
+use Rattle.rules.specs.Record.{listed}
+use Rattle.rules.specs.Check.{check}
+use Rattle.rules.specs.Run as rules
+use Rattle.rules.specs.declared.Direction.{Direction}
+use Rattle.rules.specs.declared.Direction.the-variants.{Forward, Inverse}
+use Rattle.rules.specs.declared.Table.{Table}
+use Rattle.rules.specs.declared.Verdict.{Verdict}
+use Rattle.rules.specs.declared.Verdict.the-variants as verdict-is
+use Rattle.rules.specs.declared.Foretold.{Foretold}
+use Rattle.rules.specs.declared.Ran.{Ran}
+use Rattle.rules.specs.declared.Ran.the-variants as ran-is
 use Rattle.sakondreno.specs.declared.Answer.{Answer}
+use Rattle.sakondreno.specs.declared.Said.{Said}
+use Rattle.sakondreno.specs.declared.Checked.{Checked}
+use Rattle.sakondreno.specs.declared.Done.{Done}
+use Rattle.sakondreno.specs.declared.Made.{Made}
+use Rattle.sakondreno.specs.declared.Steps.{Steps}
+use Rattle.prepare.specs.declared.Preparing.{Preparing}
+use Rattle.prepare.specs.Lending.{preparing}
+use Rattle.rules.specs.Text.{Bytes}
+use Rattle.rules.specs.declared.Prepared.{Prepared}
+use Rattle.rules.specs.declared.Prepared.the-variants as prepared-is
 
 -- "a definition gives this paper's number and values for each of its cases": number 0 for an answer
 unfoldable pub plain : Written → Answer
@@ -12,3 +38,67 @@ plain (Refused number place) = record { number = number; place = place; length =
 
 abbrev pub replied : Reply ℕ → Answer
 replied r = plain (written r)
+
+-- ---- step tables
+
+-- the table in the words of the library, and back
+unfoldable pub tableOf : Steps → Table
+tableOf s = record { steps = s .steps; n = s .n }
+
+unfoldable pub stepsOf : Table → Steps
+stepsOf t = record { steps = t .steps; n = t .n }
+
+unfoldable pub plainPrepared : Prepared → Answer
+plainPrepared (prepared-is.Steps n) = record { number = 0; place = 0; length = n }
+plainPrepared (prepared-is.Refused number place) = record { number = number; place = place; length = 0 }
+
+unfoldable pub plainTable : Preparing → Made
+plainTable p = record { answer = plainPrepared (p .answer); table = stepsOf (p .table) }
+
+-- what preparing promises of its answer and of the table
+pub record PlainPrepares (text : Bytes) (t : Steps) (result : Made) : Type 0 where
+  pub exactly : result ≡ plainTable (preparing text (tableOf t))
+
+-- 0 is forward, any other number inverse
+unfoldable pub directionOf : ℕ → Direction
+directionOf inverse = cond (eqb inverse 0) Forward Inverse
+
+-- the verdict: 0 a pass, 1 too few, 2 too many, or the refusal's number
+unfoldable pub plainVerdict : Verdict → Said
+plainVerdict verdict-is.Passes = record { number = 0; place = 0 }
+plainVerdict (verdict-is.TooFew place) = record { number = 1; place = place }
+plainVerdict (verdict-is.TooMany place) = record { number = 2; place = place }
+plainVerdict (verdict-is.Refused number place) = record { number = number; place = place }
+
+unfoldable pub plainCheck : Foretold → Checked
+plainCheck f =
+    record {
+      said = plainVerdict (f .verdict);
+      run = f .run;
+      depths = f .depths;
+      deepest = f .deepest;
+      left = f .left;
+      told = f .told;
+      places = f .places;
+    }
+
+-- what the check promises of its answer
+pub record PlainChecks (inverse : ℕ) (t : Steps) (result : Checked) : Type 0 where
+  pub exactly : result ≡ plainCheck (check (directionOf inverse) (listed (tableOf t)))
+
+unfoldable pub plainRun : Ran → Done
+plainRun (ran-is.Done count left) = record { number = 0; place = 0; count = count; left = left }
+plainRun (ran-is.Refused number place) = record { number = number; place = place; count = 0; left = 0 }
+
+-- what a run answers, and what it leaves
+pub record Outcome : Type 0 where
+  pub answer : Done
+  pub list : List Float
+  pub store : List Float
+
+unfoldable pub plainOutcome : rules.Outcome → Outcome
+plainOutcome o = record { answer = plainRun (o .answer); list = o .list; store = o .store }
+
+-- what a run promises of its result, the list and the store, before and after
+pub record PlainRuns (inverse : ℕ) (t : Steps) (xs store : List Float) (result : Done) (xs′ store′ : List Float) : Type 0 where
+  pub exactly : _≡_ {A = Outcome} (record { answer = result; list = xs′; store = store′ }) (plainOutcome (rules.runs (directionOf inverse) (listed (tableOf t)) xs store))

@@ -1,0 +1,17 @@
+use mathlib.Core.Path.{refl}
+use borrow.Author.Tests.{eq-eqb, ne-eqb}
+use Rattle.sakondreno.specs.Replies.{directionOf}
+use borrow.Author.Needs.{needs}
+use Rattle.sakondreno.proofs.direction_of.Statement.{statement}
+use Rattle.sakondreno.proofs.direction_of.Tie as tie
+
+returns : tie.Need-returns
+unfolding directionOf
+returns c = rw (eq-eqb _ _ (c .if1 .taken)) refl
+
+returns-2 : tie.Need-returns-2
+unfolding directionOf
+returns-2 c = rw (ne-eqb _ _ (c .if1 .left)) refl
+
+pub direction-of-spec : {M : Type 1} → statement M
+direction-of-spec = tie.close (tie.spec returns returns-2)
