@@ -1,19 +1,19 @@
 -- Each return of `translate` is the one that its promise names.
 use mathlib.Core.Path.{_≡_, refl, sym, ap, _∙_, subst}
-use mathlib.Core.Bool.{Bool, true, false, cond, not, _&&_, _||_, false≢true, true≢false}
-use mathlib.Core.List.{[], _∷_, _++_, map}
-use Prim.Native.Nat.{ℕ, zero, suc, _+_, _*_, _≤_, _<_}
+use mathlib.Core.Bool.{Bool, true, false, cond, not, _&&_, _||_, false≢true}
+use mathlib.Core.List.{[], _∷_, _++_}
+use Prim.Native.Nat.{ℕ, suc, _+_, _*_, _≤_, _<_}
 use native.Mathlib.Omega.{arith}
 use borrow.Author.Tests.{lt-ltb, le-ltb, lt-leb, le-leb, eq-eqb, ne-eqb, ltb-true, ltb-false}
 use lib.ListN.{length, take, drop}
 use lib.Seq.{length-take-le}
 use lib.Dec.{eqb, ltb, leb}
 use Rattle.rules.specs.Ascii.{ascii, is}
-use Rattle.rules.specs.Lists.{any, all, kept, nonEmpty}
-use Rattle.rules.specs.Text.{Bytes, Words, Steps, starts, contains, words, inDomain}
-use Rattle.rules.specs.Refusal.{Reply, answers, refuses, Writes}
-use Rattle.rules.specs.Proj.{projSteps, cutAtStep}
-use Rattle.rules.specs.Translate.{Pipeline, pipeline, stepOf, isWritten, firstFault, translation, translated, translate}
+use Rattle.rules.specs.Lists.{any}
+use Rattle.rules.specs.Text.{Bytes, Steps, starts, contains, words, inDomain}
+use Rattle.rules.specs.Refusal.{answers, Writes}
+use Rattle.rules.specs.Proj.{projSteps}
+use Rattle.rules.specs.Translate.{Pipeline, pipeline, translation, translated, translate}
 use Rattle.rules.specs.declared.Written.{Written}
 use Rattle.rules.specs.declared.Written.the-variants as variant
 use Rattle.laws.specs.Entry.{Lends, lends-refusal, lends-no-room, lends-text, lends-so}
@@ -22,7 +22,7 @@ use Rattle.text.specs.Writing.{Wrote, Holds}
 use Rattle.text.specs.Places.{ahead}
 use Rattle.text.proofs.Writing.{wrote-front}
 use Rattle.projclean.specs.Cleaning.{cleaned}
-use Rattle.projlaws.specs.Plain.{plain, words-plain}
+use Rattle.projlaws.specs.Plain.{words-plain}
 use Rattle.projlaws.specs.Step.{Global}
 use Rattle.projlaws.specs.Ordering.{whole, whole-length}
 use Rattle.projlaws.specs.Cutting.{steps-plain, translation-is}

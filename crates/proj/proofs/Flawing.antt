@@ -1,18 +1,18 @@
 -- The first faulty step: the tests on a step, and the loop over the steps.
 use mathlib.Core.Path.{_≡_, refl, sym, ap, _∙_}
-use mathlib.Core.Bool.{Bool, true, false, cond, not, _&&_, _||_, false≢true, true≢false}
+use mathlib.Core.Bool.{Bool, true, false, not, _&&_}
 use mathlib.Core.List.{[], _∷_}
-use Prim.Native.Nat.{ℕ, zero, suc, _+_, _≤_, _<_}
+use Prim.Native.Nat.{ℕ, suc, _+_, _≤_}
 use native.Mathlib.Numerals.{add-one}
 use native.Mathlib.Omega.{arith}
-use borrow.Author.Tests.{eq-eqb, ne-eqb, le-ltb, lt-ltb}
-use lib.ListN.{length, drop}
+use borrow.Author.Tests.{eq-eqb, ne-eqb}
+use lib.ListN.{length}
 use lib.Dec.{eqb, ltb}
-use Rattle.rules.specs.Lists.{any, all, nonEmpty}
-use Rattle.rules.specs.Text.{Bytes, Words, Steps, words}
+use Rattle.rules.specs.Lists.{nonEmpty}
+use Rattle.rules.specs.Text.{Bytes, Steps, words}
 use Rattle.rules.specs.Proj.{exchanged}
-use Rattle.rules.specs.Refusal.{Reply, refuses}
-use Rattle.rules.specs.Translate.{Pipeline, isInv, initFirst, isPipeline, onlyInv, firstFault}
+use Rattle.rules.specs.Refusal.{Reply}
+use Rattle.rules.specs.Translate.{Pipeline, onlyInv, firstFault}
 use Rattle.rules.specs.Reader.{part}
 use Rattle.projwalk.specs.Cuts.{stepsFrom, IsStep}
 use Rattle.projwords.specs.Heads.{IsHead}
@@ -21,12 +21,6 @@ use Rattle.projwords.specs.declared.Head.{Head}
 use Rattle.projwords.specs.declared.Marks.{Marks}
 use Rattle.projstep.specs.Plans.{pipelineOf}
 use Rattle.proj.specs.Flaws.{unless, IsStepFlaw, IsFlaw}
-
-pub both-yes : (a b : Bool) → a ≡ true → b ≡ (a && b)
-both-yes a b e = sym (rw e)
-
-pub both-no : (a b : Bool) → a ≡ false → false ≡ (a && b)
-both-no a b e = sym (rw e)
 
 length-none : (g : Bytes) → eqb (length g) 0 ≡ not (nonEmpty g)
 unfolding nonEmpty

@@ -1,15 +1,15 @@
 -- What the pipeline's own step says to the others.
-use mathlib.Core.Path.{_≡_, refl, sym, ap, _∙_, subst}
-use mathlib.Core.Bool.{Bool, true, false, cond, not}
+use mathlib.Core.Path.{_≡_, refl, sym, ap, _∙_}
+use mathlib.Core.Bool.{true, false}
 use mathlib.Core.List.{[], _∷_}
 use Prim.Native.Nat.{ℕ, _≤_}
 use native.Mathlib.Omega.{arith}
 use lib.ListN.{length, take, drop}
 use Rattle.rules.specs.Ascii.{ascii}
-use Rattle.rules.specs.Lists.{any, all, kept, nonEmpty}
-use Rattle.rules.specs.Text.{Bytes, Words, Steps, same, words, joinedBy, joined}
+use Rattle.rules.specs.Lists.{any, kept, nonEmpty}
+use Rattle.rules.specs.Text.{Bytes, Steps, same, words, joinedBy, joined}
 use Rattle.rules.specs.Proj.{exchanged}
-use Rattle.rules.specs.Translate.{Pipeline, isInv, notInv, isPipeline, pipelineWords, pipeline}
+use Rattle.rules.specs.Translate.{isInv, isPipeline, pipelineWords, pipeline}
 use Rattle.rules.specs.Reader.{part}
 use Rattle.text.specs.Writing.{Wrote}
 use Rattle.text.proofs.Writing.{wrote-front, wrote-fits}
@@ -52,9 +52,6 @@ module _ {n : Bytes} {from to then : ℕ} (s : IsStep n 0 from to then) {h : Hea
       other f = unfold pipelineWords in rw f
 
   module _ (e : h .pipeline ≡ true) {k : Marks} (w : IsMarks (exchanged (words (part from to n))) k) {b₀ b : Bytes} {r : ℕ} (g : Wrote (globalsOf (words (part from to n))) b₀ r b) where
-    ws : Words
-    ws = words (part from to n)
-
     words-are : pipelineWords (stepsFrom n 0) ≡ drop 1 (exchanged (words (part from to n)))
     unfolding pipelineWords
     words-are = ap pipelineWords (s .here) ∙ rw (sym (m .pipeline) ∙ e)

@@ -1,5 +1,4 @@
 -- A PROJ text on its way to be cut into steps.
-use mathlib.Core.List.{[], _∷_}
 use Rattle.rules.specs.Ascii.{ascii, is}
 use Rattle.rules.specs.Text.{Bytes, white, replace, trimStart, trimmed}
 use Rattle.rules.specs.Normal.{normal}

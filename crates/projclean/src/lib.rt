@@ -11,7 +11,7 @@ ghost use mathlib.Core.Path.{_≡_};
 ghost use Prim.Native.Nat.{_*_, _<_, _≤_};
 ghost use lib.ListN.{length};
 ghost use Rattle.laws.specs.Sizes.{weight};
-ghost use Rattle.text.specs.Writing.{Wrote, Holds};
+ghost use Rattle.text.specs.Writing.{Holds};
 ghost use Rattle.projclean.specs.Cleaning.{spaced, unsigned, cleaned};
 
 // Writes the text with its line ends made newlines, and a space for each `+` that follows a space or a newline, into b; a

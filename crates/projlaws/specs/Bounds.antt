@@ -1,12 +1,12 @@
 -- How long a step of the answer can be: roughly, but so that every number fits.
-use mathlib.Core.Path.{_≡_, refl, sym, ap, _∙_}
-use mathlib.Core.Bool.{Bool, true, false, cond, not, _&&_, _||_, xor}
-use mathlib.Core.List.{List, [], _∷_, _++_, map}
-use Prim.Native.Nat.{ℕ, zero, suc, _+_, _-_, _*_, _≤_}
+use mathlib.Core.Path.{_≡_, refl, sym, ap}
+use mathlib.Core.Bool.{Bool, true, false, cond, not, _&&_, xor}
+use mathlib.Core.List.{[], _∷_, _++_, map}
+use Prim.Native.Nat.{ℕ, suc, _+_, _-_, _*_, _≤_}
 use native.Mathlib.Omega.{arith}
 use lib.ListN.{length, drop, length-append, length-drop}
 use Rattle.rules.specs.Ascii.{ascii}
-use Rattle.rules.specs.Lists.{any, all, kept, nonEmpty}
+use Rattle.rules.specs.Lists.{any, kept, nonEmpty}
 use Rattle.rules.specs.Text.{Bytes, Words, white, same, starts, cut, words, afterEach, joinedBy, joined}
 use Rattle.rules.specs.Proj.{isProj, firstProj, inItsPlace, exchanged, hasKey, lastOf, withoutLast, composed, ellipsoid, scale, tidied}
 use Rattle.rules.specs.Translate.{isInv, notInv, atPosition1, Pipeline, withGlobals, exchangedMark, withoutInv, stepOf}

@@ -1,12 +1,12 @@
 -- The steps of a PROJ text have words without white space, and so have the texts of the answer none at their ends. The
 -- pipeline of a first step that is `proj=pipeline`.
 use mathlib.Core.Path.{_≡_, refl, sym, ap, _∙_}
-use mathlib.Core.Bool.{Bool, true, false, cond, not, _&&_, _||_, false≢true, true≢false}
-use mathlib.Core.List.{List, [], _∷_, _++_, map, reverse}
+use mathlib.Core.Bool.{Bool, true, false, cond, not, _||_, false≢true, true≢false}
+use mathlib.Core.List.{[], _∷_, map}
 use lib.ListN.{drop}
 use Rattle.rules.specs.Ascii.{ascii}
 use Rattle.rules.specs.Lists.{any, all, kept, nonEmpty}
-use Rattle.rules.specs.Text.{Bytes, Words, Steps, white, same, onto, trimmed, joinedBy, words}
+use Rattle.rules.specs.Text.{Bytes, Words, Steps, white, same, onto, words}
 use Rattle.rules.specs.Proj.{isStep, cutAtStep, withoutNoise, isProj, firstProj, inItsPlace, exchanged}
 use Rattle.rules.specs.Translate.{isInv, isPipeline, Pipeline, isWritten, stepOf, inOrder, translation}
 use Rattle.laws.specs.Separators.{and-left, and-right, same-is}
@@ -26,25 +26,21 @@ unfolding onto all
 onto-plain w [] e f = rw e
 onto-plain w (p ∷ ps) e f = rw e f
 
+head-plain : (w : Bytes) (ws : Words) → all plain (w ∷ ws) ≡ true → plain w ≡ true
+unfolding all
+head-plain w ws e = and-left (plain w) (all plain ws) e
+
+tail-of : (w : Bytes) (ws : Words) → all plain (w ∷ ws) ≡ true → all plain ws ≡ true
+unfolding all
+tail-of w ws e = and-right (plain w) (all plain ws) e
+
 pub cut-plain : (b : Bool) (ws : Words) → all plain ws ≡ true → all plainly (cutAtStep b ws) ≡ true
 unfolding cutAtStep
 cut-plain true [] e = unfold all in refl
 cut-plain false [] e = unfold all in refl
 cut-plain true (w ∷ ws) e = onto-plain w (cutAtStep false ws) (head-plain w ws e) (cut-plain false ws (tail-of w ws e))
-  where
-    head-plain : (v : Bytes) (vs : Words) → all plain (v ∷ vs) ≡ true → plain v ≡ true
-    head-plain v vs f = unfold all in and-left (plain v) (all plain vs) f
-
-    tail-of : (v : Bytes) (vs : Words) → all plain (v ∷ vs) ≡ true → all plain vs ≡ true
-    tail-of v vs f = unfold all in and-right (plain v) (all plain vs) f
 cut-plain false (w ∷ ws) e = go (isStep w) (cut-plain true ws (tail-of w ws e)) (cut-plain false ws (tail-of w ws e))
   where
-    head-plain : (v : Bytes) (vs : Words) → all plain (v ∷ vs) ≡ true → plain v ≡ true
-    head-plain v vs f = unfold all in and-left (plain v) (all plain vs) f
-
-    tail-of : (v : Bytes) (vs : Words) → all plain (v ∷ vs) ≡ true → all plain vs ≡ true
-    tail-of v vs f = unfold all in and-right (plain v) (all plain vs) f
-
     go : (b : Bool) → all plainly (cutAtStep true ws) ≡ true → all plainly (cutAtStep false ws) ≡ true → all plainly (cond b ([] ∷ cutAtStep true ws) (onto w (cutAtStep false ws))) ≡ true
     go true h k = unfold all in h
     go false h k = onto-plain w (cutAtStep false ws) (head-plain w ws e) k

@@ -1,7 +1,7 @@
 -- The elements of a step of the answer, one by one: what is written of each, and what of the `inv` that is owed.
 use mathlib.Core.Path.{_≡_, refl, sym, ap, _∙_}
-use mathlib.Core.Bool.{Bool, true, false, cond, not, _&&_, _||_, false≢true, true≢false}
-use mathlib.Core.List.{[], _∷_, _++_, map, append-assoc, append-nil}
+use mathlib.Core.Bool.{Bool, true, false, cond, not, _&&_, _||_}
+use mathlib.Core.List.{[], _∷_, _++_, append-assoc}
 use Rattle.rules.specs.Ascii.{ascii}
 use Rattle.rules.specs.Lists.{any, all, kept, nonEmpty}
 use Rattle.rules.specs.Text.{Bytes, Words, afterEach, joinedBy, joined}

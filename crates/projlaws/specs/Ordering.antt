@@ -1,19 +1,18 @@
 -- All steps of the answer, one by one, put behind each other or, where the pipeline is inverted, in front of each other.
-use mathlib.Core.Path.{_≡_, refl, sym, ap, _∙_, subst}
-use mathlib.Core.Bool.{Bool, true, false, cond, not, _&&_, _||_, false≢true, true≢false}
+use mathlib.Core.Path.{_≡_, refl, sym, ap, _∙_}
+use mathlib.Core.Bool.{Bool, true, false, cond, _&&_, _||_, false≢true}
 use mathlib.Core.List.{List, [], _∷_, _++_, append-nil, append-assoc, reverse, reverseAux-eq}
-use Prim.Native.Nat.{ℕ, zero, suc, _+_, _≤_, _<_}
+use Prim.Native.Nat.{ℕ, suc, _+_, _<_}
 use native.Mathlib.Omega.{arith}
-use borrow.Author.Tests.{lt-ltb, le-ltb, eqb-true}
+use borrow.Author.Tests.{lt-ltb, eqb-true}
 use lib.ListN.{length, length-append}
 use lib.Dec.{eqb, ltb}
-use Rattle.rules.specs.Ascii.{ascii}
 use Rattle.rules.specs.Lists.{all, nonEmpty}
 use Rattle.rules.specs.Text.{Bytes, white, trimStart, trimEnd, trimmed, afterEach, joinedBy}
 use Rattle.laws.specs.Passes.{inWord, keep, trimEnd-cons}
 use Rattle.laws.specs.Separators.{and-left, and-right}
-use Rattle.projlaws.specs.Tests.{and-yes, and-no, or-yes}
-use Rattle.projlaws.specs.Solid.{lastFine, solid, mild, mild-solid, start-same, end-same, fine-append, solid-same}
+use Rattle.projlaws.specs.Tests.{and-yes, and-no, or-yes, not-true}
+use Rattle.projlaws.specs.Solid.{lastFine, solid, mild, mild-solid, start-same, end-same, fine-append, solid-same, front-append, keep-more}
 
 -- ---- the definitions
 
@@ -165,10 +164,6 @@ back-text : Bytes → List Bytes → Bytes
 back-text t [] = t
 back-text t (u ∷ us) = back-text u us ++ (32 ∷ 124 ∷ 32 ∷ t)
 
-not-true : (a : Bool) → not a ≡ true → a ≡ false
-not-true true e = absurd (false≢true e)
-not-true false e = refl
-
 last-of : (t : Bytes) → solid t ≡ true → lastFine t ≡ true
 unfolding solid
 last-of t e = and-right (inWord t) (lastFine t) e
@@ -185,15 +180,11 @@ space-goes : trimEnd white (32 ∷ []) ≡ []
 unfolding trimEnd all white
 space-goes = refl
 
-keep-some : (x y : ℕ) (t : Bytes) {u : Bytes} → u ≡ y ∷ t → keep white x u ≡ x ∷ y ∷ t
-unfolding keep
-keep-some x y t e = rw e
-
 end-space : (y : Bytes) → lastFine y ≡ true → trimEnd white (y ++ (32 ∷ [])) ≡ y
 unfolding lastFine
 end-space [] e = absurd (false≢true e)
 end-space (x ∷ []) e = trimEnd-cons white x (32 ∷ []) ∙ ap (keep white x) space-goes ∙ unfold keep in rw (not-true (white x) e)
-end-space (x ∷ y ∷ t) e = trimEnd-cons white x (y ∷ t ++ (32 ∷ [])) ∙ keep-some x y t (end-space (y ∷ t) e)
+end-space (x ∷ y ∷ t) e = trimEnd-cons white x (y ∷ t ++ (32 ∷ [])) ∙ keep-more x y t (end-space (y ∷ t) e)
 
 abbrev behind : Bytes → List Bytes → Bytes
 behind t ts = cond (nonEmpty t || nonEmpty ts) (side false (32 ∷ []) (side false t (following false true ts))) []
@@ -220,11 +211,7 @@ trim-behind y t (u ∷ us) e m =
 
 -- the same in front of a bar
 front-solid : (t y : Bytes) → solid t ≡ true → trimStart white (t ++ (32 ∷ y)) ≡ (t ++ (32 ∷ [])) ++ y
-front-solid t y e = start-same (t ++ (32 ∷ y)) (front-word t (32 ∷ y) (first-of t e)) ∙ sym (append-assoc t (32 ∷ []) y)
-  where
-    front-word : (a b : Bytes) → inWord a ≡ true → inWord (a ++ b) ≡ true
-    front-word [] b f = unfold inWord in absurd (false≢true f)
-    front-word (z ∷ a) b f = unfold inWord in f
+front-solid t y e = start-same (t ++ (32 ∷ y)) (front-append t (32 ∷ y) (first-of t e)) ∙ sym (append-assoc t (32 ∷ []) y)
 
 back-more : (y t u : Bytes) (us : List Bytes) → back-text t (u ∷ us) ++ (32 ∷ y) ≡ back-text u us ++ (32 ∷ 124 ∷ 32 ∷ (t ++ (32 ∷ y)))
 unfolding back-text
@@ -275,11 +262,6 @@ head-solid : (x : ℕ) (t : Bytes) (ts : List Bytes) → all mild ((x ∷ t) ∷
 unfolding all
 head-solid x t ts m = mild-solid (x ∷ t) (and-left (mild (x ∷ t)) (all mild ts) m) (unfold nonEmpty in refl)
 
-front-word : (a b : Bytes) → inWord a ≡ true → inWord (a ++ b) ≡ true
-unfolding inWord
-front-word [] b f = absurd (false≢true f)
-front-word (z ∷ a) b f = f
-
 -- in their order
 forth-empty : (u : Bytes) (us : List Bytes) → trimStart white (forth-text [] (u ∷ us)) ≡ (124 ∷ []) ++ (32 ∷ forth-text u us)
 unfolding forth-text afterEach trimStart white
@@ -310,8 +292,7 @@ unfolding trimmed
 forth-whole t [] m = ap (trimmed white) (forth-nil t) ∙ mild-none t (one-mild t m) ∙ sym (whole-one false t)
 forth-whole [] (u ∷ us) m = ap (trimEnd white) (forth-empty u us) ∙ trim-behind (124 ∷ []) u us bar-fine (rest-mild [] u us m) ∙ sym (whole-empty u us)
 forth-whole (x ∷ t) (u ∷ us) m =
-    let y = (x ∷ t) ++ (32 ∷ 124 ∷ []) in
-    let w = front-word ((x ∷ t) ++ (32 ∷ 124 ∷ [])) (32 ∷ forth-text u us) (front-word (x ∷ t) (32 ∷ 124 ∷ []) (first-of (x ∷ t) (head-solid x t (u ∷ us) m))) in
+    let w = front-append ((x ∷ t) ++ (32 ∷ 124 ∷ [])) (32 ∷ forth-text u us) (front-append (x ∷ t) (32 ∷ 124 ∷ []) (first-of (x ∷ t) (head-solid x t (u ∷ us) m))) in
     ap (trimmed white) (forth-first (x ∷ t) u us)
     ∙ ap (trimEnd white) (start-same (((x ∷ t) ++ (32 ∷ 124 ∷ [])) ++ (32 ∷ forth-text u us)) w)
     ∙ trim-behind ((x ∷ t) ++ (32 ∷ 124 ∷ [])) u us (fine-append (x ∷ t) (32 ∷ 124 ∷ []) space-bar-fine) (rest-mild (x ∷ t) u us m)

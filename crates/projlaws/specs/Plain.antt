@@ -1,20 +1,17 @@
 -- Words without white space: a text's words are such, and all that is made of them in tidying a step.
-use mathlib.Core.Path.{_≡_, refl, sym, ap, _∙_}
-use mathlib.Core.Bool.{Bool, true, false, cond, not, _&&_, _||_, false≢true, true≢false}
+use mathlib.Core.Path.{_≡_, refl, _∙_}
+use mathlib.Core.Bool.{Bool, true, false, cond, not, _&&_, false≢true}
 use mathlib.Core.List.{List, [], _∷_, _++_}
 use Prim.Native.Nat.{ℕ}
 use lib.ListN.{drop}
 use Rattle.rules.specs.Ascii.{ascii}
 use Rattle.rules.specs.Lists.{any, all, kept, nonEmpty}
-use Rattle.rules.specs.Text.{Bytes, Words, white, same, starts, onto, cut, words, joined}
+use Rattle.rules.specs.Text.{Bytes, Words, white, starts, onto, cut, words}
 use Rattle.rules.specs.Proj.{isProj, firstProj, inItsPlace, exchanged, hasKey, lastOf, withoutLast, composed, ellipsoid, scale, tidied}
-use Rattle.rules.specs.Translate.{isInv, notInv, Pipeline, withGlobals, marked, stepOf}
 use Rattle.laws.specs.Passes.{inWord}
-use Rattle.laws.specs.Separators.{and-left, and-right, same-is}
-use Rattle.projlaws.specs.Tests.{both, all-append, all-drop, all-each, any-append, or-no, starts-other}
-use Rattle.projlaws.specs.Tidying.{without-any}
-use Rattle.projlaws.specs.Flowing.{flow, more}
-use Rattle.projlaws.specs.Solid.{lastFine, solid, mild, fine, solid-fine, fine-flow, fine-globals, trim-joined, more-mild, solid-mild}
+use Rattle.laws.specs.Separators.{and-left, and-right}
+use Rattle.projlaws.specs.Tests.{both, all-append, all-drop, all-each}
+use Rattle.projlaws.specs.Solid.{lastFine, solid, mild, fine, solid-mild}
 
 -- a byte that is no white space
 abbrev dark : ℕ → Bool
@@ -193,12 +190,6 @@ pub ellipsoid-even : (ws : Words) → even ws ≡ true → even (ellipsoid ws) �
 unfolding ellipsoid composed
 ellipsoid-even ws e = go (not (hasKey (ascii "ellps=") ws) && (hasKey (ascii "a=") ws && hasKey (ascii "rf=") ws))
   where
-    a : Bytes
-    a = drop 2 (lastOf (ascii "a=") ws)
-
-    r : Bytes
-    r = drop 3 (lastOf (ascii "rf=") ws)
-
     composed-plain : plain (ascii "ellps=" ++ (drop 2 (lastOf (ascii "a=") ws) ++ (ascii "," ++ drop 3 (lastOf (ascii "rf=") ws)))) ≡ true
     composed-plain =
         unfold plain ascii nonEmpty in

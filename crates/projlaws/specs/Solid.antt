@@ -1,7 +1,7 @@
 -- White space at the ends: of elements that have none there, only an empty first one leaves any to be trimmed.
 use mathlib.Core.Path.{_≡_, refl, sym, ap, _∙_}
-use mathlib.Core.Bool.{Bool, true, false, cond, not, _&&_, _||_, false≢true, true≢false}
-use mathlib.Core.List.{List, [], _∷_, _++_, map, append-nil}
+use mathlib.Core.Bool.{Bool, true, false, cond, not, _&&_, _||_, false≢true}
+use mathlib.Core.List.{[], _∷_, _++_, map, append-nil}
 use Prim.Native.Nat.{ℕ}
 use Rattle.rules.specs.Ascii.{ascii}
 use Rattle.rules.specs.Lists.{any, all, kept, nonEmpty}
@@ -9,7 +9,7 @@ use Rattle.rules.specs.Text.{Bytes, Words, white, same, trimStart, trimEnd, tri
 use Rattle.rules.specs.Translate.{atPosition1, exchangedMark, withoutInv, notInv, Pipeline, withGlobals}
 use Rattle.laws.specs.Passes.{inWord, keep, trimEnd-cons}
 use Rattle.laws.specs.Separators.{and-left, and-right}
-use Rattle.projlaws.specs.Tests.{both, all-kept}
+use Rattle.projlaws.specs.Tests.{both, all-kept, not-true}
 use Rattle.projlaws.specs.Flowing.{flow, more}
 
 -- does the text end with a byte that is no white space?
@@ -33,16 +33,12 @@ fine (x ∷ xs) = mild x && all solid xs
 
 -- ---- trimming
 
-not-true : (a : Bool) → not a ≡ true → a ≡ false
-not-true true e = absurd (false≢true e)
-not-true false e = refl
-
 pub start-same : (t : Bytes) → inWord t ≡ true → trimStart white t ≡ t
 unfolding inWord trimStart
 start-same [] e = refl
 start-same (x ∷ t) e = rw (not-true (white x) e)
 
-keep-more : (x y : ℕ) (t : Bytes) {u : Bytes} → u ≡ y ∷ t → keep white x u ≡ x ∷ y ∷ t
+pub keep-more : (x y : ℕ) (t : Bytes) {u : Bytes} → u ≡ y ∷ t → keep white x u ≡ x ∷ y ∷ t
 unfolding keep
 keep-more x y t e = rw e
 
@@ -63,14 +59,10 @@ fine-append (x ∷ []) [] e = absurd (false≢true e)
 fine-append (x ∷ []) (y ∷ b) e = e
 fine-append (x ∷ z ∷ a) b e = fine-append (z ∷ a) b e
 
-front-append : (a b : Bytes) → inWord a ≡ true → inWord (a ++ b) ≡ true
+pub front-append : (a b : Bytes) → inWord a ≡ true → inWord (a ++ b) ≡ true
 unfolding inWord
 front-append [] b e = absurd (false≢true e)
 front-append (x ∷ a) b e = e
-
-pub solid-append : (a m b : Bytes) → solid a ≡ true → solid b ≡ true → solid (a ++ (m ++ b)) ≡ true
-unfolding solid
-solid-append a m b e f = both (front-append a (m ++ b) (and-left (inWord a) (lastFine a) e)) (fine-append a (m ++ b) (fine-append m b (and-right (inWord b) (lastFine b) f)))
 
 after-fine : (w : Bytes) (ws : Words) → lastFine w ≡ true → all solid ws ≡ true → lastFine (w ++ afterEach (32 ∷ []) ws) ≡ true
 unfolding all afterEach

@@ -1,17 +1,17 @@
 -- A step of the answer: its text is that of its elements, one by one.
 use mathlib.Core.Path.{_≡_, refl, sym, ap, _∙_}
-use mathlib.Core.Bool.{Bool, true, false, cond, not, _&&_, _||_, xor, false≢true, true≢false}
-use mathlib.Core.List.{List, [], _∷_, _++_, append-nil}
+use mathlib.Core.Bool.{Bool, true, false, cond, not, _&&_, _||_, xor, false≢true}
+use mathlib.Core.List.{[], _∷_, _++_, append-nil}
 use lib.ListN.{drop}
 use lib.Dec.{ltb}
 use Rattle.rules.specs.Ascii.{ascii}
 use Rattle.rules.specs.Lists.{any, all, kept, nonEmpty}
 use Rattle.rules.specs.Text.{Bytes, Words, white, same, starts, words, trimmed, afterEach, joinedBy, joined}
 use Rattle.rules.specs.Proj.{exchanged, hasKey, lastOf, withoutLast, composed, ellipsoid, scale, tidied}
-use Rattle.rules.specs.Translate.{isInv, notInv, atPosition1, Pipeline, withGlobals, withoutInv, marked, stepOf}
-use Rattle.laws.specs.Separators.{and-left, and-right, same-is}
-use Rattle.projlaws.specs.Tests.{any-append, or-no, or-yes, all-kept, kept-all, starts-other}
-use Rattle.projlaws.specs.Tidying.{without-any, without-key, has-count, composes}
+use Rattle.rules.specs.Translate.{isInv, notInv, atPosition1, Pipeline, withGlobals, marked, stepOf}
+use Rattle.laws.specs.Separators.{and-left, same-is}
+use Rattle.projlaws.specs.Tests.{any-append, or-no, or-yes, all-kept, kept-all, not-true}
+use Rattle.projlaws.specs.Tidying.{without-any, without-key, has-count, a-no-rf}
 use Rattle.projlaws.specs.Flowing.{flow, more}
 use Rattle.projlaws.specs.Solid.{solid, mild, fine, fine-flow, fine-globals, trim-joined, more-mild, joined-solid, solid-mild}
 use Rattle.projlaws.specs.Plain.{plain, even-fine, words-plain, tidied-even, plain-solids}
@@ -46,10 +46,6 @@ scale-inv (w ∷ ws) = go (starts (ascii "k=") w) refl (scale-inv ws)
     go : (b : Bool) → starts (ascii "k=") w ≡ b → any isInv (scale ws) ≡ any isInv ws → any isInv (cond b ((ascii "k_0=" ++ drop 2 w) ∷ ws) (w ∷ scale ws)) ≡ (isInv w || any isInv ws)
     go true e h = unfold any in rw (scaled-not, k-not w e)
     go false e h = unfold any in ap (λ (b : Bool). isInv w || b) h
-
-a-no-rf : (w : Bytes) → starts (ascii "a=") w ≡ true → starts (ascii "rf=") w ≡ false
-unfolding ascii
-a-no-rf w e = starts-other 97 114 _ _ w e refl
 
 snoc-inv : (ws : Words) (v : Bytes) → isInv v ≡ false → any isInv (ws ++ (v ∷ [])) ≡ any isInv ws
 unfolding any
@@ -132,10 +128,6 @@ spaced-not a b = go (same (a ++ (32 ∷ b)) (ascii "inv")) refl
     go : (d : Bool) → same (a ++ (32 ∷ b)) (ascii "inv") ≡ d → d ≡ false
     go true f = absurd (false≢true (sym inv-none ∙ sym (ap (any white) (same-is (a ++ (32 ∷ b)) (ascii "inv") f)) ∙ has-space))
     go false f = refl
-
-not-true : (a : Bool) → not a ≡ true → a ≡ false
-not-true true e = absurd (false≢true e)
-not-true false e = refl
 
 joined-not : (ws : Words) → all notInv ws ≡ true → isInv (joined ws) ≡ false
 unfolding joined joinedBy

@@ -1,8 +1,8 @@
 -- Laws of tests and of keys that the others share.
-use mathlib.Core.Path.{_≡_, refl, sym, ap, _∙_}
-use mathlib.Core.Bool.{Bool, true, false, cond, not, _&&_, _||_, false≢true, true≢false}
+use mathlib.Core.Path.{_≡_, refl, ap, _∙_}
+use mathlib.Core.Bool.{Bool, true, false, cond, not, _&&_, _||_, false≢true}
 use mathlib.Core.List.{List, [], _∷_, _++_}
-use Prim.Native.Nat.{ℕ, zero, suc, _+_, _≤_, _<_}
+use Prim.Native.Nat.{ℕ, zero, suc, _+_, _≤_}
 use native.Mathlib.Omega.{arith}
 use borrow.Author.Tests.{eqb-true}
 use lib.ListN.{length, drop}
@@ -46,15 +46,6 @@ module _ {A : Type 0} (test : A → Bool) where
   all-append [] k = refl
   all-append (x ∷ l) k = ap (λ (b : Bool). test x && b) (all-append l k) ∙ and-assoc (test x) (all test l) (all test k)
 
-  pub kept-append : (l k : List A) → kept test (l ++ k) ≡ kept test l ++ kept test k
-  unfolding kept
-  kept-append [] k = refl
-  kept-append (x ∷ l) k = go (test x) (kept-append l k)
-    where
-      go : (b : Bool) → kept test (l ++ k) ≡ kept test l ++ kept test k → cond b (x ∷ kept test (l ++ k)) (kept test (l ++ k)) ≡ cond b (x ∷ kept test l) (kept test l) ++ kept test k
-      go true h = ap (λ (r : List A). x ∷ r) h
-      go false h = h
-
 -- a word that begins with one key does not begin with another whose first byte is another
 pub starts-other : (p q : ℕ) (ps qs w : Bytes) → starts (p ∷ ps) w ≡ true → eqb p q ≡ false → starts (q ∷ qs) w ≡ false
 unfolding starts
@@ -69,6 +60,10 @@ unfolding starts
 starts-long [] w e = omega arith
 starts-long (p ∷ key) [] e = absurd (false≢true e)
 starts-long (p ∷ key) (x ∷ w) e = omega (arith, starts-long key w (and-right (eqb x p) (starts key w) e))
+
+pub not-true : (a : Bool) → not a ≡ true → a ≡ false
+not-true true e = absurd (false≢true e)
+not-true false e = refl
 
 pub both : {a b : Bool} → a ≡ true → b ≡ true → (a && b) ≡ true
 both e f = rw (e, f)
@@ -102,3 +97,16 @@ module _ {A : Type 0} (test : A → Bool) where
       go : (b : Bool) → test x ≡ b → all test (kept test l) ≡ true → all test (cond b (x ∷ kept test l) (kept test l)) ≡ true
       go true e h = both e h
       go false e h = h
+
+-- an empty text, and one that is not
+pub empty-is : (x : Bytes) → length x ≡ 0 → x ≡ []
+empty-is [] e = refl
+empty-is (y ∷ x) e = absurd (never e)
+  where
+    never : suc (length x) ≡ 0 → ⊥
+    never e = omega arith
+
+pub some-is : (x : Bytes) → (length x ≡ 0 → ⊥) → nonEmpty x ≡ true
+unfolding nonEmpty
+some-is [] n = absurd (n refl)
+some-is (y ∷ x) n = refl

@@ -2,18 +2,16 @@
 use mathlib.Core.Path.{_≡_, refl, sym, ap, _∙_}
 use mathlib.Core.Bool.{Bool, true, false, cond, not, _&&_, _||_, false≢true, true≢false}
 use mathlib.Core.List.{[], _∷_, _++_, append-nil}
-use Prim.Native.Nat.{ℕ, zero, suc, _+_, _-_, _≤_, _<_}
+use Prim.Native.Nat.{ℕ, zero, suc, _+_, _-_, _<_}
 use native.Mathlib.Omega.{arith}
 use borrow.Author.Tests.{lt-ltb, ltb-true, ltb-false, ne-eqb, eq-eqb}
-use lib.ListN.{length, drop}
+use lib.ListN.{drop}
 use lib.Dec.{eqb, ltb}
 use Rattle.rules.specs.Ascii.{ascii}
-use Rattle.rules.specs.Lists.{any, all, nonEmpty}
+use Rattle.rules.specs.Lists.{any, all}
 use Rattle.rules.specs.Text.{Bytes, Words, same, starts}
 use Rattle.rules.specs.Proj.{hasKey, lastOf, withoutLast, composed, ellipsoid, scale, exchanged, tidied}
-use Rattle.rules.specs.Translate.{isInv}
-use Rattle.laws.specs.Separators.{same-is}
-use Rattle.projlaws.specs.Tests.{starts-other, starts-long, any-append, or-no}
+use Rattle.projlaws.specs.Tests.{starts-other}
 
 -- ---- the definitions
 
@@ -277,7 +275,7 @@ without-key key other n (w ∷ ws) e = go (hasKey key ws) refl (starts key w) re
     go false f true k g h = sym (rw (n w k))
     go false f false k g h = absurd (false≢true (sym f ∙ g))
 
-a-no-rf : (w : Bytes) → starts (ascii "a=") w ≡ true → starts (ascii "rf=") w ≡ false
+pub a-no-rf : (w : Bytes) → starts (ascii "a=") w ≡ true → starts (ascii "rf=") w ≡ false
 unfolding ascii
 a-no-rf w e = starts-other 97 114 _ _ w e refl
 

@@ -1,15 +1,15 @@
 -- The loop that puts all steps of the answer, and its laws.
 use mathlib.Core.Path.{_≡_, refl, sym, ap, _∙_, subst}
-use mathlib.Core.Bool.{Bool, true, false, cond, not, _&&_, _||_, false≢true, true≢false}
-use mathlib.Core.List.{List, [], _∷_, _++_, map, append-nil}
-use Prim.Native.Nat.{ℕ, zero, suc, _+_, _-_, _*_, _≤_, _<_}
+use mathlib.Core.Bool.{Bool, true, false, cond, not}
+use mathlib.Core.List.{[], _∷_, _++_}
+use Prim.Native.Nat.{ℕ, suc, _+_, _-_, _*_, _≤_}
 use native.Mathlib.Omega.{arith}
 use lib.ListN.{length, take, drop}
 use lib.Dec.{eqb, ltb}
-use Rattle.rules.specs.Lists.{any, kept, nonEmpty}
+use Rattle.rules.specs.Lists.{kept, nonEmpty}
 use Rattle.rules.specs.Text.{Bytes, Words, Steps, words}
 use Rattle.rules.specs.Proj.{exchanged}
-use Rattle.rules.specs.Translate.{Pipeline, stepOf, isPipeline, isWritten}
+use Rattle.rules.specs.Translate.{Pipeline, stepOf, isWritten}
 use Rattle.rules.specs.Reader.{part}
 use Rattle.walk.proofs.Walking.{length-part}
 use Rattle.projlaws.specs.Step.{Global}
@@ -23,7 +23,7 @@ use Rattle.projwords.specs.declared.Marks.{Marks}
 use Rattle.projstep.specs.Plans.{pipelineOf}
 use Rattle.projout.specs.Places.{placeOf, Spot, Puts, Parted, textsOf, Ready, Laid}
 use Rattle.projout.specs.declared.Put.{Put}
-use Rattle.projout.proofs.Putting.{spot-length, spot-first, spot-then, spot-as, puts-as, puts-both, puts-nothing}
+use Rattle.projout.proofs.Putting.{spot-length, spot-then, puts-as, puts-both, puts-nothing}
 
 -- ---- is it written?
 
@@ -204,9 +204,6 @@ module _ {n g : Bytes} {inverted write back : Bool} {total : ℕ} {dst₀ : Byte
 
     -- one that is
     module _ (e : isWritten (words (part from to n)) ≡ true) where
-      text : Bytes
-      text = partText back state (ltb 0 o) (stepOf (pipelineOf g inverted) (words (part from to n)))
-
       here-sided : Sided write back total (whole back (textsOf (pipelineOf g inverted) (stepsFrom n 0)))
           (side back (partText back state (ltb 0 o) (stepOf (pipelineOf g inverted) (words (part from to n))))
           (restOf back (stateAfter state (stepOf (pipelineOf g inverted) (words (part from to n)))) (ltb 0 (o + length (partText back state (ltb 0 o) (stepOf (pipelineOf g inverted) (words (part from to n)))))) (textsOf (pipelineOf g inverted) (stepsFrom n then)))) dst₀ o dst

@@ -1,23 +1,21 @@
 -- Putting texts behind each other or in front of each other: the laws of `Spot` and `Puts`, and those for the functions.
 use mathlib.Core.Path.{_≡_, refl, sym, ap, _∙_, subst}
-use mathlib.Core.Bool.{Bool, true, false, cond, not, _&&_, _||_, false≢true, true≢false}
-use mathlib.Core.List.{[], _∷_, _++_, append-nil, append-assoc}
-use Prim.Native.Nat.{ℕ, zero, suc, _+_, _-_, _≤_, _<_}
+use mathlib.Core.Bool.{Bool, true, false, cond, not}
+use mathlib.Core.List.{[], _∷_, _++_, append-assoc}
+use Prim.Native.Nat.{ℕ, _+_, _-_, _≤_}
 use native.Mathlib.Omega.{arith}
-use borrow.Author.Tests.{eq-eqb, ne-eqb, eqb-true}
-use lib.ListN.{length, take, drop, set, length-append, length-drop, take-append-drop}
+use borrow.Author.Tests.{eq-eqb, ne-eqb}
+use lib.ListN.{length, take, drop, set, length-append, take-append-drop}
 use lib.Seq.{length-take-le, take-at, drop-at, drop-drop, take-take, take-append-le, drop-append-add}
 use lib.Dec.{eqb, ltb}
 use Rattle.rules.specs.Lists.{nonEmpty}
 use Rattle.rules.specs.Text.{Bytes, words}
-use Rattle.rules.specs.Translate.{stepOf}
-use Rattle.text.specs.Writing.{WroteAt}
 use Rattle.text.proofs.Placing.{wrote-byte}
 use Rattle.pen.specs.Adding.{limit, Room, Adds}
-use Rattle.pen.proofs.Adding.{adds-nothing, adds-length, adds-as, wrote-adds}
-use Rattle.projlaws.specs.Ordering.{side, side-left, side-right, side-assoc, side-length, barText, gapText, partText, stateAfter}
+use Rattle.pen.proofs.Adding.{adds-length, wrote-adds}
+use Rattle.projlaws.specs.Ordering.{side, side-right, side-length, barText, gapText, partText, stateAfter}
 use Rattle.projout.specs.Places.{placeOf, Spot, Puts, Parted}
-use Rattle.projout.specs.declared.Put.{Put}
+use Rattle.projlaws.specs.Tests.{empty-is, some-is}
 
 -- ---- the place
 
@@ -113,9 +111,7 @@ mid-behind d t u at h =
 mid-front : (d t u : Bytes) (at : ℕ) → at + length u + length t ≤ length d → mid at u (mid (at + length u) t d) ≡ mid at (u ++ t) d
 unfolding mid
 mid-front d t u at h =
-    let m = at + length u in
     let l : length (take (at + length u) d) ≡ at + length u = length-take-le (at + length u) d (omega arith) in
-    let rest = t ++ drop (at + length u + length t) d in
     let q : at ≤ length (take (at + length u) d) = omega arith in
     let b : take at (take (at + length u) d ++ (t ++ drop (at + length u + length t) d)) ≡ take at d =
     take-append-le at (take (at + length u) d) (t ++ drop (at + length u + length t) d) q ∙ take-take at (at + length u) d (omega arith) in
@@ -148,7 +144,6 @@ put-front : {t u dst₀ dst dst′ : Bytes} (total o r : ℕ) → r ≡ o + leng
     → Adds true (u ++ t) dst₀ (total - (o + length (u ++ t))) (total - (o + length (u ++ t)) + length (u ++ t)) dst′
 put-front {t} {u} {dst₀} {dst} {dst′} total o r c f i x y =
     let l = length-append u t in
-    let at = total - (o + length (u ++ t)) in
     let e : total - (r + length u) ≡ total - (o + length (u ++ t)) = omega arith in
     let g : total - (o + length t) ≡ total - (o + length (u ++ t)) + length u = omega arith in
     let k : total - (o + length (u ++ t)) + length u + length t ≤ length dst₀ = omega arith in
@@ -233,18 +228,6 @@ unfolding limit
 count-room h = record { fits = omega arith }
 
 -- both
-empty-is : (x : Bytes) → length x ≡ 0 → x ≡ []
-empty-is [] e = refl
-empty-is (y ∷ x) e = absurd (never e)
-  where
-    never : suc (length x) ≡ 0 → ⊥
-    never e = omega arith
-
-some-is : (x : Bytes) → (length x ≡ 0 → ⊥) → nonEmpty x ≡ true
-unfolding nonEmpty
-some-is [] n = absurd (n refl)
-some-is (y ∷ x) n = refl
-
 module _ (state : ℕ) (t : Bytes) {write back : Bool} {total o : ℕ} {dst₀ : Bytes} (h : Spot write back total (partText back state (ltb 0 o) t) o dst₀) where
   pub part-bar : Spot write back total (barText back state (ltb 0 o)) o dst₀
   unfolding partText

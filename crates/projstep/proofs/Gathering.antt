@@ -1,14 +1,14 @@
 -- The globals, word by word; and a step's text as a whole.
-use mathlib.Core.Path.{_≡_, refl, sym, ap, _∙_, subst}
-use mathlib.Core.Bool.{Bool, true, false, cond, not, xor, _&&_, _||_}
+use mathlib.Core.Path.{_≡_, refl, sym, ap, _∙_}
+use mathlib.Core.Bool.{Bool, true, false, cond, xor}
 use mathlib.Core.List.{[], _∷_, _++_, append-nil, append-assoc}
 use Prim.Native.Nat.{ℕ, _+_, _≤_}
 use native.Mathlib.Omega.{arith}
-use lib.ListN.{length, take, drop}
-use Rattle.rules.specs.Lists.{any, kept}
+use lib.ListN.{length, drop}
+use Rattle.rules.specs.Lists.{kept}
 use Rattle.rules.specs.Text.{Bytes, Words, words, afterEach, joinedBy, joined}
 use Rattle.rules.specs.Proj.{exchanged, tidied}
-use Rattle.rules.specs.Translate.{isInv, notInv, Pipeline, withGlobals, stepOf}
+use Rattle.rules.specs.Translate.{isInv, notInv, withGlobals, stepOf}
 use Rattle.rules.specs.Reader.{part}
 use Rattle.text.specs.Writing.{Wrote}
 use Rattle.pen.specs.Adding.{limit, Room, Adds, gapped}
@@ -20,9 +20,8 @@ use Rattle.projwords.specs.Heads.{elements, IsHead, IsElement}
 use Rattle.projwords.specs.Facts.{IsMarks}
 use Rattle.projwords.specs.declared.Head.{Head}
 use Rattle.projwords.specs.declared.Marks.{Marks}
-use Rattle.projstep.specs.Pens.{Fits, RoomForAll, PensAll}
+use Rattle.projstep.specs.Pens.{RoomForAll, PensAll}
 use Rattle.projstep.specs.Plans.{pipelineOf, globalled}
-use Rattle.projstep.specs.declared.Pen.{Pen}
 
 -- ---- the globals
 

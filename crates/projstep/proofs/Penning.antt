@@ -1,7 +1,7 @@
 -- What the pen has added: the laws of `Emits`, and those for its functions.
 use mathlib.Core.Path.{_≡_, refl, sym, ap, _∙_, subst}
-use mathlib.Core.Bool.{Bool, true, false, cond, not, _&&_, _||_, false≢true, true≢false}
-use mathlib.Core.List.{[], _∷_, _++_, append-nil, append-assoc}
+use mathlib.Core.Bool.{Bool, true, false, cond, not, _&&_, _||_}
+use mathlib.Core.List.{[], _∷_, _++_, append-nil}
 use Prim.Native.Nat.{ℕ, zero, suc, _+_, _-_, _≤_, _<_}
 use native.Mathlib.Omega.{arith}
 use lib.ListN.{length, take, drop}
@@ -12,7 +12,7 @@ use Rattle.rules.specs.Translate.{isInv, exchangedMark}
 use Rattle.walk.proofs.Leading.{part-from}
 use Rattle.pen.specs.Adding.{Room, Adds, gapped}
 use Rattle.pen.proofs.Adding.{adds-nothing, first-room, then-room, adds-both, room-as, adds-as}
-use Rattle.projlaws.specs.Tests.{or-no, or-yes, or-assoc, and-yes, and-no, and-assoc, any-append, all-append}
+use Rattle.projlaws.specs.Tests.{or-no, or-yes, or-assoc, and-yes, and-no, and-assoc, any-append, all-append, empty-is}
 use Rattle.projlaws.specs.Tidying.{ellpsOf, ownWord}
 use Rattle.projlaws.specs.Flowing.{forth, emitted, flow, more, flow-append, emitted-append, flow-end, more-none, more-empty, more-word, more-append}
 use Rattle.projstep.specs.Pens.{Fits, RoomFor, RoomForAll, Emits, Pens, PensAll, owing, inserted, closing}
@@ -71,18 +71,6 @@ module _ {write : Bool} (ds es : Words) {pen : Pen} {dst₀ : Bytes} (h : Fits w
         }
 
 -- ---- an element that is not `inv`
-
-empty-is : (x : Bytes) → length x ≡ 0 → x ≡ []
-empty-is [] e = refl
-empty-is (y ∷ x) e = absurd (never e)
-  where
-    never : suc (length x) ≡ 0 → ⊥
-    never e = omega arith
-
-pub some-is : (x : Bytes) → (length x ≡ 0 → ⊥) → nonEmpty x ≡ true
-unfolding nonEmpty
-some-is [] n = absurd (n refl)
-some-is (y ∷ x) n = refl
 
 pub plain-empty : {write : Bool} {pen : Pen} {dst : Bytes} (x : Bytes) → length x ≡ 0 → Emits write (exchangedMark x ∷ []) pen (pen .owed) dst pen dst
 unfolding exchangedMark same ascii

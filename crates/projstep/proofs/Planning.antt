@@ -1,19 +1,18 @@
 -- What comes of a step's words: of each, and of the ellipsoid.
-use mathlib.Core.Path.{_≡_, refl, sym, ap, _∙_, subst}
-use mathlib.Core.Bool.{Bool, true, false, cond, not, xor, _&&_, _||_, false≢true, true≢false}
-use mathlib.Core.List.{[], _∷_, _++_}
+use mathlib.Core.Path.{_≡_, refl, _∙_}
+use mathlib.Core.Bool.{Bool, true, false, not, xor, false≢true, true≢false}
+use mathlib.Core.List.{[]}
 use Prim.Native.Nat.{ℕ, zero, suc, _+_, _-_, _≤_, _<_}
 use native.Mathlib.Omega.{arith}
 use borrow.Author.Tests.{lt-ltb, le-ltb}
-use lib.ListN.{length, drop}
-use lib.Dec.{ltb}
+use lib.ListN.{length}
 use Rattle.rules.specs.Ascii.{ascii}
-use Rattle.rules.specs.Text.{Bytes, Words, starts, words}
-use Rattle.rules.specs.Proj.{exchanged, hasKey, lastOf, tidied}
+use Rattle.rules.specs.Text.{Bytes, starts, words}
+use Rattle.rules.specs.Proj.{exchanged, hasKey, lastOf}
 use Rattle.rules.specs.Reader.{part}
 use Rattle.walk.proofs.Walking.{length-part}
 use Rattle.projlaws.specs.Tests.{and-no, starts-long}
-use Rattle.projlaws.specs.Tidying.{countOf, lastFrom, tidyRest, ellpsOf, ownWord, composes, rest-a-last, rest-a-more, rest-a-none, rest-rf-last, rest-rf-more, rest-rf-none, rest-scale, rest-scaled, rest-plain, has-count, last-from, last-starts, tidied-alone, tidied-composed}
+use Rattle.projlaws.specs.Tidying.{countOf, ownWord, composes, rest-a-last, rest-a-more, rest-a-none, rest-rf-last, rest-rf-more, rest-rf-none, rest-scale, rest-scaled, rest-plain, has-count, last-from, last-starts, tidied-alone, tidied-composed}
 use Rattle.projwords.specs.Facts.{IsKey}
 use Rattle.projwords.proofs.Heading.{part-less}
 use Rattle.projwords.specs.declared.Key.{Key}
@@ -23,6 +22,10 @@ use Rattle.projstep.specs.Plans.{IsFate, IsPlan, lastWords}
 
 never : {A : Type 0} → false ≡ true → A
 never e = absurd (false≢true e)
+
+none : (b : ℕ) → (b ≡ 1 → ⊥) → b ≤ 1 → b ≡ 0
+none zero n h = refl
+none (suc b) n h = absurd (n (omega arith))
 
 module _ {w : Bytes} {a rf : ℕ} {still : Bool} where
   module _ (e : starts (ascii "a=") w ≡ true) where
@@ -36,10 +39,6 @@ module _ {w : Bytes} {a rf : ℕ} {still : Bool} where
     pub fate-a-none : (a ≡ 1 → ⊥) → a ≤ 1 → IsFate w a rf still (record { skip = false; scale = false; a = a; rf = rf; still = still })
     unfolding ownWord
     fate-a-none n h = record { rest = λ last ws. rest-a-none a rf still last w ws e (none a n h); long = λ f. never f }
-      where
-        none : (b : ℕ) → (b ≡ 1 → ⊥) → b ≤ 1 → b ≡ 0
-        none zero n h = refl
-        none (suc b) n h = absurd (n (omega arith))
 
   module _ (n : starts (ascii "a=") w ≡ false) where
     module _ (e : starts (ascii "rf=") w ≡ true) where
@@ -53,10 +52,6 @@ module _ {w : Bytes} {a rf : ℕ} {still : Bool} where
       pub fate-rf-none : (rf ≡ 1 → ⊥) → rf ≤ 1 → IsFate w a rf still (record { skip = false; scale = false; a = a; rf = rf; still = still })
       unfolding ownWord
       fate-rf-none m h = record { rest = λ last ws. rest-rf-none a rf still last w ws n e (none rf m h); long = λ f. never f }
-        where
-          none : (b : ℕ) → (b ≡ 1 → ⊥) → b ≤ 1 → b ≡ 0
-          none zero n h = refl
-          none (suc b) n h = absurd (n (omega arith))
 
     module _ (m : starts (ascii "rf=") w ≡ false) where
       pub fate-scale : still ≡ true → starts (ascii "k=") w ≡ true → IsFate w a rf still (record { skip = false; scale = true; a = a; rf = rf; still = false })

@@ -1,10 +1,10 @@
 -- The loop over a step's words that writes the step of the answer.
 use mathlib.Core.Path.{_≡_, refl, sym, ap, _∙_, subst}
-use mathlib.Core.Bool.{Bool, true, false, cond, not, _&&_, _||_, false≢true, true≢false}
+use mathlib.Core.Bool.{Bool, true, false, cond, not, _&&_, _||_, false≢true}
 use mathlib.Core.List.{[], _∷_, _++_, append-nil, append-assoc}
-use Prim.Native.Nat.{ℕ, zero, suc, _+_, _-_, _≤_, _<_}
+use Prim.Native.Nat.{ℕ, _+_, _-_, _≤_}
 use native.Mathlib.Omega.{arith}
-use lib.ListN.{length, take, drop}
+use lib.ListN.{length, drop}
 use Rattle.rules.specs.Ascii.{ascii}
 use Rattle.rules.specs.Lists.{any, all, nonEmpty}
 use Rattle.rules.specs.Text.{Bytes, Words, starts, words}
@@ -14,10 +14,10 @@ use Rattle.rules.specs.Reader.{part}
 use Rattle.pen.specs.Adding.{Room, Adds}
 use Rattle.pen.proofs.Adding.{adds-nothing, adds-length, first-room, then-room, adds-both, room-as, adds-as}
 use Rattle.projlaws.specs.Tidying.{tidyRest, ellpsOf, ownWord, rest-end, rest-nothing}
-use Rattle.projlaws.specs.Flowing.{emitted, flow, more, flow-append, more-none, more-append}
+use Rattle.projlaws.specs.Flowing.{emitted, flow, more, flow-append, more-append}
 use Rattle.projwords.specs.Heads.{elements, IsHead, IsElement}
 use Rattle.projwords.specs.declared.Head.{Head}
-use Rattle.projstep.specs.Pens.{Fits, RoomFor, RoomForAll, Emits, Pens, PensAll, inserted, closing}
+use Rattle.projstep.specs.Pens.{RoomFor, RoomForAll, Pens, PensAll, inserted, closing}
 use Rattle.projstep.specs.Plans.{globalled, IsFate, lastWords, IsPlan}
 use Rattle.projstep.specs.declared.Pen.{Pen}
 use Rattle.projstep.specs.declared.Plan.{Plan}

@@ -1,12 +1,12 @@
 -- The words of a text, one by one: what a found word tells.
-use mathlib.Core.Path.{_≡_, refl, sym, ap, _∙_, subst}
+use mathlib.Core.Path.{_≡_, sym, ap, _∙_, subst}
 use mathlib.Core.Bool.{false}
 use mathlib.Core.List.{[], _∷_, _++_}
 use Prim.Native.Nat.{ℕ, _+_, _-_, _≤_, _<_}
 use native.Mathlib.Decide.{decLe}
 use native.Mathlib.Omega.{arith}
-use lib.ListN.{length, take, drop, getD}
-use Rattle.rules.specs.Text.{Bytes, Words, white, words}
+use lib.ListN.{length, take, drop}
+use Rattle.rules.specs.Text.{Bytes, white, words}
 use Rattle.rules.specs.Reader.{part}
 use Rattle.laws.specs.Passes.{inWord}
 use Rattle.walk.specs.Runs.{Run}

@@ -1,12 +1,12 @@
 -- The steps of a PROJ text, one by one.
 use mathlib.Core.Path.{_≡_}
-use mathlib.Core.Bool.{Bool, true, false, cond, _&&_}
+use mathlib.Core.Bool.{true, false, cond, _&&_}
 use mathlib.Core.List.{[], _∷_, map}
 use Prim.Native.Nat.{ℕ, _≤_, _<_}
 use lib.ListN.{length, drop}
 use lib.Dec.{ltb}
 use Rattle.rules.specs.Lists.{kept, nonEmpty}
-use Rattle.rules.specs.Text.{Bytes, Words, Steps, words}
+use Rattle.rules.specs.Text.{Bytes, Steps, words}
 use Rattle.rules.specs.Proj.{isStep, cutAtStep, withoutNoise}
 use Rattle.rules.specs.Reader.{part}
 use Rattle.rules.specs.declared.Found.{Found}

@@ -6,7 +6,7 @@ use Prim.Native.Nat.{ℕ, zero, suc, _+_, _≤_, _<_}
 use native.Mathlib.Omega.{arith}
 use lib.ListN.{length, drop}
 use Rattle.rules.specs.Lists.{any, all, nonEmpty}
-use Rattle.rules.specs.Text.{Bytes, Words, white, same, starts, words}
+use Rattle.rules.specs.Text.{Bytes, Words, white, starts, words}
 use Rattle.rules.specs.Ascii.{ascii}
 use Rattle.rules.specs.Proj.{isProj, firstProj, inItsPlace, exchanged}
 use Rattle.rules.specs.Translate.{isInv}

@@ -1,8 +1,8 @@
 -- The exchanged words of a step, one by one: the search for `proj=`, the head, and the walk.
 use mathlib.Core.Path.{_≡_, refl, sym, ap, _∙_, subst}
-use mathlib.Core.Bool.{Bool, true, false, cond, not, _&&_, _||_, false≢true, true≢false}
-use mathlib.Core.List.{[], _∷_, _++_}
-use Prim.Native.Nat.{ℕ, suc, _+_, _-_, _≤_, _<_}
+use mathlib.Core.Bool.{Bool, true, false, cond, _||_, false≢true}
+use mathlib.Core.List.{[], _∷_}
+use Prim.Native.Nat.{ℕ, _+_, _-_, _≤_}
 use native.Mathlib.Omega.{arith}
 use borrow.Author.Tests.{ne-eqb}
 use lib.ListN.{length, take, drop, length-drop}
@@ -16,7 +16,7 @@ use Rattle.rules.specs.Translate.{initFirst, isPipeline}
 use Rattle.rules.specs.Reader.{part}
 use Rattle.walk.proofs.Walking.{length-part}
 use Rattle.projwalk.specs.Words.{IsWord}
-use Rattle.projwalk.proofs.Wording.{word-first, word-within, word-further}
+use Rattle.projwalk.proofs.Wording.{word-first, word-within}
 use Rattle.projlaws.specs.Tests.{or-no, or-yes, starts-other, starts-long}
 use Rattle.projwords.specs.Heads.{IsFirst, elements, IsHead, IsElement, isFound, FoundElement}
 use Rattle.projwords.specs.declared.First.{First}
@@ -42,15 +42,6 @@ first-is (w ∷ ws) e = go (isProj w) refl e (first-is ws)
     go : (b : Bool) → isProj w ≡ b → (b || any isProj ws) ≡ true → (any isProj ws ≡ true → isProj (firstProj ws) ≡ true) → isProj (cond b w (firstProj ws)) ≡ true
     go true f g h = f
     go false f g h = h g
-
-first-none : (ws : Words) → any isProj ws ≡ false → firstProj ws ≡ []
-unfolding any firstProj
-first-none [] e = refl
-first-none (w ∷ ws) e = go (isProj w) e (first-none ws)
-  where
-    go : (b : Bool) → (b || any isProj ws) ≡ false → (any isProj ws ≡ false → firstProj ws ≡ []) → cond b w (firstProj ws) ≡ []
-    go true g h = absurd (true≢false g)
-    go false g h = h g
 
 -- ---- the first `proj=`
 

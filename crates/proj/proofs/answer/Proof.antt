@@ -1,9 +1,8 @@
 use Rattle.proj.proofs.Answering.{pipe-room, cleaned-small, globals-small, translate-so}
 use Rattle.text.proofs.Writing.{wrote-fits, wrote-counts}
 use lib.Seq.{length-take-le}
-use native.Mathlib.Omega.{arith}
 use denote.Ref.{now}
-use mathlib.Core.Path.{refl, sym, _∙_}
+use mathlib.Core.Path.{sym}
 use borrow.Author.Needs.{needs}
 use Rattle.proj.proofs.answer.Statement.{statement}
 use Rattle.proj.proofs.answer.Tie as tie

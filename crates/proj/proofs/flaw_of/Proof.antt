@@ -4,8 +4,6 @@ use Rattle.projstep.specs.Plans.{pipelineOf}
 use lib.ListN.{length}
 use Prim.Native.Nat.{_-_}
 use native.Mathlib.Omega.{arith}
-use denote.Ref.{now}
-use mathlib.Core.Path.{refl, sym, _∙_}
 use borrow.Author.Needs.{needs}
 use Rattle.proj.proofs.flaw_of.Statement.{statement}
 use Rattle.proj.proofs.flaw_of.Tie as tie

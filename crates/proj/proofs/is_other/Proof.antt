@@ -1,7 +1,4 @@
 use Rattle.proj.proofs.Answering.{other-bar, other-proj}
-use native.Mathlib.Omega.{arith}
-use denote.Ref.{now}
-use mathlib.Core.Path.{refl, sym, _∙_}
 use borrow.Author.Needs.{needs}
 use Rattle.proj.proofs.is_other.Statement.{statement}
 use Rattle.proj.proofs.is_other.Tie as tie

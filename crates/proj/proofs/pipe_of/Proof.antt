@@ -1,8 +1,6 @@
 use Rattle.proj.proofs.Piping.{pipe-step-room, pipe-none, pipe-other, pipe-here}
 use Rattle.projwalk.proofs.Piecing.{step-at, step-none}
 use native.Mathlib.Omega.{arith}
-use denote.Ref.{now}
-use mathlib.Core.Path.{refl, sym, _∙_}
 use borrow.Author.Needs.{needs}
 use Rattle.proj.proofs.pipe_of.Statement.{statement}
 use Rattle.proj.proofs.pipe_of.Tie as tie

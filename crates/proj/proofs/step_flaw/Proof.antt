@@ -1,7 +1,6 @@
 use Rattle.proj.proofs.Flawing.{flaw-init, flaw-nested, flaw-only, flaw-none}
-use native.Mathlib.Omega.{arith}
 use denote.Ref.{now}
-use mathlib.Core.Path.{refl, sym, _∙_}
+use mathlib.Core.Path.{sym, _∙_}
 use borrow.Author.Needs.{needs}
 use Rattle.proj.proofs.step_flaw.Statement.{statement}
 use Rattle.proj.proofs.step_flaw.Tie as tie

@@ -1,7 +1,5 @@
 use Rattle.proj.proofs.Answering.{steps-flaw, count-ready, steps-no-room, steps-ready, steps-done}
-use native.Mathlib.Omega.{arith}
 use denote.Ref.{now}
-use mathlib.Core.Path.{refl, sym, _∙_}
 use borrow.Author.Needs.{needs}
 use Rattle.proj.proofs.steps_out.Statement.{statement}
 use Rattle.proj.proofs.steps_out.Tie as tie

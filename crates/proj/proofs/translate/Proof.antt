@@ -1,9 +1,7 @@
 use Rattle.proj.proofs.Answering.{unchanged-so}
 use Rattle.laws.specs.Entry.{writes-long, writes-outside}
 use borrow.Author.Tests.{not-true, not-false}
-use native.Mathlib.Omega.{arith}
-use denote.Ref.{now}
-use mathlib.Core.Path.{refl, sym, _∙_}
+use mathlib.Core.Path.{sym, _∙_}
 use borrow.Author.Needs.{needs}
 use Rattle.proj.proofs.translate.Statement.{statement}
 use Rattle.proj.proofs.translate.Tie as tie

@@ -1,7 +1,4 @@
 use Rattle.proj.proofs.Answering.{as-no-room, as-is}
-use native.Mathlib.Omega.{arith}
-use denote.Ref.{now}
-use mathlib.Core.Path.{refl, sym, _∙_}
 use borrow.Author.Needs.{needs}
 use Rattle.proj.proofs.unchanged.Statement.{statement}
 use Rattle.proj.proofs.unchanged.Tie as tie

@@ -3,8 +3,7 @@ use Rattle.projwalk.proofs.Piecing.{step-at, step-none}
 use lib.ListN.{length}
 use Prim.Native.Nat.{_-_}
 use native.Mathlib.Omega.{arith}
-use denote.Ref.{now}
-use mathlib.Core.Path.{refl, sym, _∙_}
+use mathlib.Core.Path.{sym, _∙_}
 use borrow.Author.Needs.{needs}
 use Rattle.projout.proofs.all_out.Statement.{statement}
 use Rattle.projout.proofs.all_out.Tie as tie

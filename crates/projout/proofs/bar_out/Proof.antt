@@ -1,8 +1,6 @@
 use Rattle.projout.proofs.Putting.{puts-as, puts-nothing, bar-first, bar-owed, bar-front, bar-byte, bar-done}
 use lib.Dec.{ltb}
-use native.Mathlib.Omega.{arith}
-use denote.Ref.{now}
-use mathlib.Core.Path.{refl, sym, _∙_}
+use mathlib.Core.Path.{sym}
 use borrow.Author.Needs.{needs}
 use Rattle.projout.proofs.bar_out.Statement.{statement}
 use Rattle.projout.proofs.bar_out.Tie as tie

@@ -1,7 +1,5 @@
 use Rattle.projout.proofs.Putting.{spot-total, spot-place, spot-fits, byte-written, put-counted}
 use native.Mathlib.Omega.{arith}
-use denote.Ref.{now}
-use mathlib.Core.Path.{refl, sym, _∙_}
 use borrow.Author.Needs.{needs}
 use Rattle.projout.proofs.byte_out.Statement.{statement}
 use Rattle.projout.proofs.byte_out.Tie as tie

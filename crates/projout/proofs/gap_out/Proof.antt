@@ -3,9 +3,8 @@ use mathlib.Core.List.{[], _∷_}
 use Rattle.projstep.specs.Plans.{pipelineOf}
 use Rattle.rules.specs.Translate.{stepOf}
 use Rattle.rules.specs.Text.{words}
-use native.Mathlib.Omega.{arith}
 use denote.Ref.{now}
-use mathlib.Core.Path.{refl, sym, _∙_}
+use mathlib.Core.Path.{sym}
 use borrow.Author.Needs.{needs}
 use Rattle.projout.proofs.gap_out.Statement.{statement}
 use Rattle.projout.proofs.gap_out.Tie as tie

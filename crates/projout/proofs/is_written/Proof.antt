@@ -1,8 +1,4 @@
 use Rattle.projout.proofs.Laying.{written-pipeline, written-some}
-use native.Mathlib.Omega.{arith}
-use denote.Ref.{now}
-use mathlib.Core.Path.{refl, sym, _∙_}
-use borrow.Author.Needs.{needs}
 use Rattle.projout.proofs.is_written.Statement.{statement}
 use Rattle.projout.proofs.is_written.Tie as tie
 

@@ -2,9 +2,7 @@ use Rattle.projout.proofs.Putting.{part-bar, part-first-empty, part-lat
 use Rattle.projstep.specs.Plans.{pipelineOf}
 use Rattle.rules.specs.Translate.{stepOf}
 use Rattle.rules.specs.Text.{words}
-use native.Mathlib.Omega.{arith}
 use denote.Ref.{now}
-use mathlib.Core.Path.{refl, sym, _∙_}
 use borrow.Author.Needs.{needs}
 use Rattle.projout.proofs.part_out.Statement.{statement}
 use Rattle.projout.proofs.part_out.Tie as tie

@@ -1,8 +1,5 @@
 use Rattle.projout.proofs.Putting.{place-back, place-behind}
 use native.Mathlib.Omega.{arith}
-use denote.Ref.{now}
-use mathlib.Core.Path.{refl, sym, _∙_}
-use borrow.Author.Needs.{needs}
 use Rattle.projout.proofs.place.Statement.{statement}
 use Rattle.projout.proofs.place.Tie as tie
 

@@ -1,7 +1,5 @@
 use Rattle.projout.proofs.Putting.{spot-as, puts-as, puts-nothing, space-yes, space-no}
-use native.Mathlib.Omega.{arith}
-use denote.Ref.{now}
-use mathlib.Core.Path.{refl, sym, _∙_}
+use mathlib.Core.Path.{sym}
 use borrow.Author.Needs.{needs}
 use Rattle.projout.proofs.space_out.Statement.{statement}
 use Rattle.projout.proofs.space_out.Tie as tie

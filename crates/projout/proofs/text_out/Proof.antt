@@ -4,7 +4,6 @@ use Rattle.rules.specs.Translate.{stepOf}
 use Rattle.rules.specs.Text.{words}
 use native.Mathlib.Omega.{arith}
 use denote.Ref.{now}
-use mathlib.Core.Path.{refl, sym, _∙_}
 use borrow.Author.Needs.{needs}
 use Rattle.projout.proofs.text_out.Statement.{statement}
 use Rattle.projout.proofs.text_out.Tie as tie

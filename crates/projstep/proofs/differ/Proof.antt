@@ -1,5 +1,4 @@
 use Rattle.projstep.proofs.Planning.{differ-yes, differ-no}
-use borrow.Author.Needs.{needs}
 use Rattle.projstep.proofs.differ.Statement.{statement}
 use Rattle.projstep.proofs.differ.Tie as tie
 

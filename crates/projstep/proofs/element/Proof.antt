@@ -1,7 +1,5 @@
 use Rattle.projstep.proofs.Penning.{element-inv, element-first, element-then, element-done}
-use native.Mathlib.Omega.{arith}
-use denote.Ref.{now}
-use mathlib.Core.Path.{refl, sym, _∙_}
+use mathlib.Core.Path.{sym, _∙_}
 use borrow.Author.Needs.{needs}
 use Rattle.projstep.proofs.element.Statement.{statement}
 use Rattle.projstep.proofs.element.Tie as tie

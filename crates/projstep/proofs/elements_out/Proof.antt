@@ -4,8 +4,7 @@ use Rattle.projwords.proofs.Heading.{element-at, element-none}
 use Rattle.projwords.specs.Heads.{elements}
 use lib.ListN.{length}
 use native.Mathlib.Omega.{arith}
-use denote.Ref.{now}
-use mathlib.Core.Path.{refl, sym, _∙_}
+use mathlib.Core.Path.{_∙_}
 use borrow.Author.Needs.{needs}
 use Rattle.projstep.proofs.elements_out.Statement.{statement}
 use Rattle.projstep.proofs.elements_out.Tie as tie

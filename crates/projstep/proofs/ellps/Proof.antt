@@ -1,8 +1,6 @@
 use Rattle.projstep.proofs.Penning.{ellps-first, ellps-second, ellps-third, ellps-whole, ellps-own, own-then, own-done}
 use Rattle.rules.specs.Ascii.{ascii}
-use native.Mathlib.Omega.{arith}
 use denote.Ref.{now}
-use mathlib.Core.Path.{refl, sym, _∙_}
 use borrow.Author.Needs.{needs}
 use Rattle.projstep.proofs.ellps.Statement.{statement}
 use Rattle.projstep.proofs.ellps.Tie as tie

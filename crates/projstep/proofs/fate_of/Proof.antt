@@ -1,8 +1,7 @@
 use Rattle.projstep.proofs.Planning.{fate-a-last, fate-a-more, fate-a-none, fate-rf-last, fate-rf-more, fate-rf-none, fate-scale, fate-plain, fate-scaled}
 use Rattle.rules.specs.Ascii.{ascii}
 use native.Mathlib.Omega.{arith}
-use denote.Ref.{now}
-use mathlib.Core.Path.{refl, sym, _∙_}
+use mathlib.Core.Path.{sym, _∙_}
 use borrow.Author.Needs.{needs}
 use Rattle.projstep.proofs.fate_of.Statement.{statement}
 use Rattle.projstep.proofs.fate_of.Tie as tie

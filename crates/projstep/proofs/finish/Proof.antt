@@ -1,7 +1,5 @@
 use Rattle.projstep.proofs.Penning.{finish-ellps, finish-globals, finish-owed, finish-done, finish-room, finish-none}
-use native.Mathlib.Omega.{arith}
 use denote.Ref.{now}
-use mathlib.Core.Path.{refl, sym, _∙_}
 use borrow.Author.Needs.{needs}
 use Rattle.projstep.proofs.finish.Statement.{statement}
 use Rattle.projstep.proofs.finish.Tie as tie

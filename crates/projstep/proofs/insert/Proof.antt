@@ -1,7 +1,5 @@
 use Rattle.projstep.proofs.Penning.{insert-room, insert-done, insert-empty, insert-later}
-use native.Mathlib.Omega.{arith}
 use denote.Ref.{now}
-use mathlib.Core.Path.{refl, sym, _∙_}
 use borrow.Author.Needs.{needs}
 use Rattle.projstep.proofs.insert.Statement.{statement}
 use Rattle.projstep.proofs.insert.Tie as tie

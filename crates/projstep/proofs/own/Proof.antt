@@ -1,7 +1,6 @@
 use Rattle.projstep.proofs.Penning.{own-word, own-globals, own-both, own-scale, own-plain}
 use native.Mathlib.Omega.{arith}
 use denote.Ref.{now}
-use mathlib.Core.Path.{refl, sym, _∙_}
 use borrow.Author.Needs.{needs}
 use Rattle.projstep.proofs.own.Statement.{statement}
 use Rattle.projstep.proofs.own.Tie as tie

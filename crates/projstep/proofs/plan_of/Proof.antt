@@ -1,8 +1,6 @@
 use Rattle.projstep.proofs.Planning.{plan-named, plan-no-a, plan-no-rf, plan-composed, a-long, rf-long}
 use Rattle.rules.specs.Ascii.{ascii}
 use native.Mathlib.Omega.{arith}
-use denote.Ref.{now}
-use mathlib.Core.Path.{refl, sym, _∙_}
 use borrow.Author.Needs.{needs}
 use Rattle.projstep.proofs.plan_of.Statement.{statement}
 use Rattle.projstep.proofs.plan_of.Tie as tie

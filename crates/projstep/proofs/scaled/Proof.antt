@@ -1,8 +1,6 @@
 use Rattle.projstep.proofs.Penning.{scale-own, own-room, own-then, own-done}
 use Rattle.rules.specs.Ascii.{ascii}
-use native.Mathlib.Omega.{arith}
 use denote.Ref.{now}
-use mathlib.Core.Path.{refl, sym, _∙_}
 use borrow.Author.Needs.{needs}
 use Rattle.projstep.proofs.scaled.Statement.{statement}
 use Rattle.projstep.proofs.scaled.Tie as tie

@@ -1,8 +1,5 @@
 use Rattle.projstep.proofs.Penning.{settle-room, settle-done, settle-none}
 use Rattle.rules.specs.Ascii.{ascii}
-use native.Mathlib.Omega.{arith}
-use denote.Ref.{now}
-use mathlib.Core.Path.{refl, sym, _∙_}
 use borrow.Author.Needs.{needs}
 use Rattle.projstep.proofs.settle.Statement.{statement}
 use Rattle.projstep.proofs.settle.Tie as tie

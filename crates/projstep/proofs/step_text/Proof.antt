@@ -1,7 +1,5 @@
 use Rattle.projstep.proofs.Gathering.{step-room, step-done}
-use native.Mathlib.Omega.{arith}
 use denote.Ref.{now}
-use mathlib.Core.Path.{refl, sym, _∙_}
 use borrow.Author.Needs.{needs}
 use Rattle.projstep.proofs.step_text.Statement.{statement}
 use Rattle.projstep.proofs.step_text.Tie as tie

@@ -2,7 +2,7 @@ use Rattle.rules.specs.Ascii.{ascii}
 use Rattle.projwords.proofs.Heading.{head-pipeline, head-front, head-later, head-none, head-without, proj-room, later-room}
 use native.Mathlib.Omega.{arith}
 use mathlib.Core.Path.{sym, _∙_}
-use Rattle.projwalk.proofs.Wording.{word-at, word-none, word-further, word-within}
+use Rattle.projwalk.proofs.Wording.{word-at, word-none, word-within}
 use borrow.Author.Needs.{needs}
 use Rattle.projwords.proofs.head_of.Statement.{statement}
 use Rattle.projwords.proofs.head_of.Tie as tie

@@ -1,5 +1,4 @@
 use Rattle.projwords.proofs.Counting.{marked-inv, marked-word, marked-empty}
-use native.Mathlib.Omega.{arith}
 use mathlib.Core.Path.{sym, _∙_}
 use borrow.Author.Needs.{needs}
 use Rattle.projwords.proofs.marked.Statement.{statement}

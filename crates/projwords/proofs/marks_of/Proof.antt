@@ -1,5 +1,4 @@
 use native.Mathlib.Omega.{arith}
-use mathlib.Core.Path.{sym, _∙_}
 use lib.ListN.{length}
 use Rattle.projwords.specs.Heads.{elements}
 use Rattle.projwords.proofs.Counting.{Marking, marking-start, marking-end, marking-next, element-less}

@@ -1,7 +1,7 @@
 use Rattle.projwords.proofs.Heading.{walk-first, walk-place, walk-before, walk-end, walk-word}
 use native.Mathlib.Omega.{arith}
 use mathlib.Core.Path.{sym, _∙_}
-use Rattle.projwalk.proofs.Wording.{word-at, word-none, word-further, word-within}
+use Rattle.projwalk.proofs.Wording.{word-at, word-none}
 use borrow.Author.Needs.{needs}
 use Rattle.projwords.proofs.next_element.Statement.{statement}
 use Rattle.projwords.proofs.next_element.Tie as tie
