@@ -1,8 +1,7 @@
-pub mod Rowing
-pub mod Stepping
-pub mod Rolling
+pub mod Standing
+pub mod Slots
 pub mod Moving
-pub mod Pointing
+pub mod Turning
+pub mod Stepping
 pub mod Acting
-pub mod Walking
 pub mod Zeroing

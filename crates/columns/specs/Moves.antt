@@ -1,22 +1,19 @@
--- What the stack steps do to tuples and columns, and to one tuple and its row.
+-- What the stack steps do to tuples and columns.
 use mathlib.Core.Path.{_≡_}
 use Prim.Native.Nat.{ℕ, _+_, _-_, _*_, _/_, _≤_, max}
-use mathlib.Core.Bool.{Bool, true, cond, _&&_}
-use mathlib.Core.List.{List, [], _∷_}
+use mathlib.Core.Bool.{Bool, true, _&&_}
+use mathlib.Core.List.{List}
 use lib.ListN.{length, drop}
-use lib.Dec.{ltb, leb}
-use lib.Ieee.{Float, nan}
-use Rattle.rules.specs.Coordinate.{put}
+use lib.Dec.{leb}
+use lib.Ieee.{Float}
 use Rattle.rules.specs.Act.{pushes, flips, rolls, swaps}
 use Rattle.rules.specs.Columns.{moved}
 use Rattle.rules.specs.Tuples.{State, onNumbers, drained, stomped}
-use Rattle.rules.specs.declared.Coord.{Coord}
-use Rattle.coordinate.specs.Coords.{noTuple}
-use Rattle.columns.specs.Rows.{One, onOne, row, held, Kept}
+use Rattle.columns.specs.Stores.{held}
 use Rattle.columns.specs.declared.Move.{Move}
 use Rattle.columns.specs.declared.Move.the-variants.{Push, Pop, Flip, Roll, Swap, Stomp}
 
--- of whole columns; a pop that finds too few columns ends with a NaN
+-- a pop that finds too few columns ends with a NaN
 unfoldable pub moves : Move → List ℕ → State → State
 moves Push is m = moved onNumbers (pushes is) m
 moves Pop is m = drained is (m .tuples) (m .columns)
@@ -24,24 +21,6 @@ moves Flip is m = moved onNumbers (flips is) m
 moves (Roll w r) is m = moved onNumbers (rolls w r) m
 moves Swap is m = moved onNumbers swaps m
 moves Stomp is m = stomped m
-
--- of one tuple and its row
-unfoldable pub drainedOne : List ℕ → Coord → List Float → One
-drainedOne [] c l = record { tuples = c; columns = l }
-drainedOne (i ∷ is) c [] = record { tuples = put i nan c; columns = [] }
-drainedOne (i ∷ is) c (v ∷ l) = drainedOne is (put i v c) l
-
-unfoldable pub movesOne : Move → List ℕ → One → One
-movesOne Push is m = moved onOne (pushes is) m
-movesOne Pop is m = drainedOne is (m .tuples) (m .columns)
-movesOne Flip is m = moved onOne (flips is) m
-movesOne (Roll w r) is m = moved onOne (rolls w r) m
-movesOne Swap is m = moved onOne swaps m
-movesOne Stomp is m = record { tuples = noTuple; columns = m .columns }
-
--- where the number comes from that stands at j after a roll of the top w, r times
-unfoldable pub turnedPlace : ℕ → ℕ → ℕ → ℕ
-turnedPlace j r w = cond (ltb (j + r) w) (j + r) (j + r - w)
 
 -- the depth after it, by the number of its places
 unfoldable pub depthMoved : Move → ℕ → ℕ → ℕ
@@ -61,17 +40,14 @@ enough (Roll w r) m d = leb w d && (leb r w && leb w 64)
 enough Swap m d = true
 enough Stomp m d = true
 
--- what a step asks: places within eight, columns enough, and room for those before and after it, n numbers each
+-- what a step asks: places within eight, columns enough and within 64, and room for those before and after it, n numbers
+-- each
 pub record Ready (mv : Move) (m d n total : ℕ) : Type 0 where
   pub few : m ≤ 8
+  pub low : d ≤ 64
   pub deep : enough mv m d ≡ true
   pub room : d * n ≤ total
   pub grows : depthMoved mv m d * n ≤ total
-
--- what a step leaves of tuple k and its row, d columns deep; elsewhere the store is as it was
-pub record MovedOne (mv : Move) (is : List ℕ) (m n k d : ℕ) (c : Coord) (s : List Float) (r : Coord) (s′ : List Float) : Type 0 where
-  pub here : _≡_ {A = One} (record { tuples = r; columns = row n k (depthMoved mv m d) s′ }) (movesOne mv is (record { tuples = c; columns = row n k d s }))
-  pub kept : Kept n k (max d (depthMoved mv m d)) s s′
 
 -- what a step with m places leaves in list and store: the machine, and the store untouched beyond it
 pub record Moved (mv : Move) (is : List ℕ) (m d : ℕ) (xs s xs′ s′ : List Float) : Type 0 where

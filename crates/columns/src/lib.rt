@@ -1,26 +1,28 @@
-// Whole columns between a list of tuples and a lent store, tuple by tuple. Column q of n numbers stands in the store from
-// q * n on; the number of tuple k in it is its row's. Each tuple is read once, goes by value through the step with its
-// row of the store, and is written once.
-use acts::size_of;
-use coordinate::get_coord;
+// Whole columns between a list of tuples and a lent store. Column q of n numbers stands in the store from q * n on. A step
+// goes column by column: it reads and writes only the numbers that it moves.
+use acts::size_at;
+use coordinate::get_at;
 use coordinate::no_coord;
 use coordinate::not_a_number;
-use coordinate::number_of;
+use coordinate::set_at;
 use coordinate::set_coord;
-use coordinate::with_number;
-use rules::Coord;
+use coordinate::slot_of;
 ghost use mathlib.Core.Path.{_≡_};
 ghost use Prim.Native.Nat.{_+_, _-_, _*_, _≤_, _<_, _/_};
 ghost use mathlib.Core.Bool.{false};
-ghost use mathlib.Core.List.{_++_};
-ghost use lib.ListN.{length, getD, set, take, drop, replicate};
+ghost use mathlib.Core.List.{_++_, map};
+ghost use lib.ListN.{length, getD, take, drop, replicate};
+ghost use lib.Seq.{paste};
 ghost use lib.IntN.{pos};
 ghost use lib.Ieee.{nan, fin};
 ghost use Rattle.rules.specs.Record.{size};
 ghost use Rattle.rules.specs.Act.{places};
+ghost use Rattle.rules.specs.Coordinate.{put};
 ghost use Rattle.rules.specs.Columns.{pushed, flipped, rolled, swappedTop};
-ghost use Rattle.columns.specs.Rows.{row, onOne, Rewrote, Changed};
-ghost use Rattle.columns.specs.Moves.{drainedOne, turnedPlace, Ready, MovedOne, Moved};
+ghost use Rattle.rules.specs.Tuples.{tuples, column, stored, onNumbers, drained};
+ghost use Rattle.coordinate.specs.Coords.{noTuple, slot};
+ghost use Rattle.columns.specs.Stores.{col, columnsOf, Stacked, Exchanged, Reversed};
+ghost use Rattle.columns.specs.Moves.{Ready, Moved};
 
 // What a step does: the places that it pushes, pops or flips stand beside it.
 pub enum Move {
@@ -32,206 +34,202 @@ pub enum Move {
     Stomp,
 }
 
-// The number of tuple k in column q.
-fn get_number(store: &[f64], n: usize, k: usize, q: usize) -> f64
-    requires { ⌜ q * n + k < length (now store) ⌝ }
-    ensures { λ r. ⌜ r ≡ getD (now (store .entry)) (q * n + k) nan ⌝ }
+// The slot that argument j names.
+fn slot_at(args: &[i32], j: usize) -> usize
+    requires { ⌜ j < length (now args) ⌝ }
+    ensures { λ r. ⌜ (r < 4) × (r ≡ slot (size (getD (now (args .entry)) j (pos 0)))) ⌝ }
 {
-    store[q * n + k]
+    slot_of(size_at(args, j))
 }
 
-// x stored there.
-fn set_number(store: &mut [f64], n: usize, k: usize, q: usize, x: f64)
-    requires { ⌜ q * n + k < length (now store) ⌝ }
-    ensures { λ _. ⌜ now (store .exit) ≡ set (now (store .entry)) (q * n + k) x ⌝ }
+// ---- one column
+
+// The number at a slot of every tuple into the store, from `at` on.
+fn push_column(xs: &[f64], store: &mut [f64], at: usize, slot: usize)
+    requires { ⌜ at + length (now xs) / 4 ≤ length (now store) ⌝ }
+    requires { ⌜ slot < 4 ⌝ }
+    ensures { λ _. ⌜ now (store .exit) ≡ paste (now (store .entry)) at (column (slot + 1) (tuples (now (xs .entry)))) (length (now (xs .entry)) / 4) ⌝ }
 {
-    store[q * n + k] = x;
+    let n = xs.len() / 4;
+    let mut k = 0;
+    while k < n {
+        store[at + k] = get_at(xs, k, slot);
+        k += 1;
+    }
 }
 
-// Argument j of m, counted from 0.
-fn argument_at(args: [i32; 8], m: usize, j: usize) -> i32
-    requires { ⌜ j < m ⌝ }
-    requires { ⌜ m ≤ 8 ⌝ }
-    ensures { λ r. ⌜ r ≡ getD args j (pos 0) ⌝ }
+// The store's numbers from `at` on into a slot of every tuple.
+fn pop_column(xs: &mut [f64], store: &[f64], at: usize, slot: usize)
+    requires { ⌜ at + length (now xs) / 4 ≤ length (now store) ⌝ }
+    requires { ⌜ slot < 4 ⌝ }
+    ensures { λ _. ⌜ tuples (now (xs .exit)) ≡ stored (slot + 1) (take (length (now (xs .entry)) / 4) (drop at (now (store .entry)))) (tuples (now (xs .entry))) ⌝ }
 {
-    args[j]
+    let n = xs.len() / 4;
+    let mut k = 0;
+    while k < n {
+        let x = store[at + k];
+        set_at(xs, k, slot, x);
+        k += 1;
+    }
 }
 
-// The place that it names.
-fn place_at(args: [i32; 8], m: usize, j: usize) -> usize
-    requires { ⌜ j < m ⌝ }
-    requires { ⌜ m ≤ 8 ⌝ }
-    ensures { λ r. ⌜ r ≡ size (getD args j (pos 0)) ⌝ }
+// The two exchanged.
+fn flip_column(xs: &mut [f64], store: &mut [f64], at: usize, slot: usize)
+    requires { ⌜ at + length (now xs) / 4 ≤ length (now store) ⌝ }
+    requires { ⌜ slot < 4 ⌝ }
+    ensures { λ _. ⌜ (tuples (now (xs .exit)) ≡ stored (slot + 1) (take (length (now (xs .entry)) / 4) (drop at (now (store .entry)))) (tuples (now (xs .entry)))) × (now (store .exit) ≡ paste (now (store .entry)) at (column (slot + 1) (tuples (now (xs .entry)))) (length (now (xs .entry)) / 4)) ⌝ }
 {
-    size_of(argument_at(args, m, j))
+    let n = xs.len() / 4;
+    let mut k = 0;
+    while k < n {
+        let x = store[at + k];
+        store[at + k] = get_at(xs, k, slot);
+        set_at(xs, k, slot, x);
+        k += 1;
+    }
 }
 
-// ---- one tuple and its row
-
-// Push: the number at each place goes on top of the row.
-fn push_one(c: Coord, store: &mut [f64], n: usize, k: usize, depth: usize, args: [i32; 8], m: usize)
-    requires { ⌜ (m ≤ 8) × ((k < n) × ((m + depth) * n ≤ length (now store))) ⌝ }
-    ensures { λ _. ⌜ Rewrote n k (m + depth) (now (store .entry)) (now (store .exit)) (pushed onOne (places (take m args)) c (row n k depth (now (store .entry)))) ⌝ }
+// Not a number at a slot of every tuple.
+fn nan_column(xs: &mut [f64], slot: usize)
+    requires { ⌜ slot < 4 ⌝ }
+    ensures { λ _. ⌜ tuples (now (xs .exit)) ≡ map (put (slot + 1) nan) (tuples (now (xs .entry))) ⌝ }
 {
+    let n = xs.len() / 4;
+    let mut k = 0;
+    while k < n {
+        set_at(xs, k, slot, not_a_number());
+        k += 1;
+    }
+}
+
+// The n numbers from a on exchanged with the n from b on.
+fn exchange(store: &mut [f64], a: usize, b: usize, n: usize)
+    requires { ⌜ a + n ≤ b ⌝ }
+    requires { ⌜ b + n ≤ length (now store) ⌝ }
+    ensures { λ _. ⌜ Exchanged a b n (now (store .entry)) (now (store .exit)) ⌝ }
+{
+    let mut k = 0;
+    while k < n {
+        let x = store[a + k];
+        let y = store[b + k];
+        store[a + k] = y;
+        store[b + k] = x;
+        k += 1;
+    }
+}
+
+// ---- all columns of a step
+
+// Push: a column for each place, in their order.
+fn push(xs: &[f64], store: &mut [f64], depth: usize, args: &[i32])
+    requires { ⌜ depth ≤ 64 ⌝ }
+    requires { ⌜ length (now args) ≤ 8 ⌝ }
+    requires { ⌜ (length (now args) + depth) * (length (now xs) / 4) ≤ length (now store) ⌝ }
+    ensures { λ _. ⌜ Stacked (length (now (xs .entry)) / 4) (length (now (args .entry)) + depth) (pushed onNumbers (places (now (args .entry))) (tuples (now (xs .entry))) (columnsOf (length (now (xs .entry)) / 4) depth (now (store .entry)))) (now (store .entry)) (now (store .exit)) ⌝ }
+{
+    let n = xs.len() / 4;
     let mut j = 0;
-    while j < m {
-        let x = number_of(c, place_at(args, m, j));
-        set_number(store, n, k, depth + j, x);
+    while j < args.len() {
+        push_column(xs, store, (depth + j) * n, slot_at(args, j));
         j += 1;
     }
 }
 
-// Pop: the top of the row goes into each place; where the row ends too soon, the next place is not a number.
-fn pop_one(
-    c: Coord,
-    store: &[f64],
-    n: usize,
-    k: usize,
-    depth: usize,
-    args: [i32; 8],
-    m: usize,
-) -> Coord
-    requires { ⌜ (m ≤ 8) × ((k < n) × (depth * n ≤ length (now store))) ⌝ }
-    ensures { λ r. ⌜ r ≡ drainedOne (places (take m args)) c (row n k depth (now (store .entry))) .tuples ⌝ }
+// Pop: the top column into each place, in their order; where the columns end too soon, the next place is not a number.
+fn pop(xs: &mut [f64], store: &[f64], depth: usize, args: &[i32])
+    requires { ⌜ depth * (length (now xs) / 4) ≤ length (now store) ⌝ }
+    ensures { λ _. ⌜ tuples (now (xs .exit)) ≡ drained (places (now (args .entry))) (tuples (now (xs .entry))) (columnsOf (length (now (xs .entry)) / 4) depth (now (store .entry))) .tuples ⌝ }
 {
-    let mut out = c;
+    let n = xs.len() / 4;
     let mut j = 0;
-    while j < m {
-        let i = place_at(args, m, j);
+    while j < args.len() {
+        let slot = slot_at(args, j);
         if depth <= j {
-            return with_number(out, i, not_a_number());
+            nan_column(xs, slot);
+            return;
         }
-        out = with_number(out, i, get_number(store, n, k, depth - 1 - j));
+        pop_column(xs, store, (depth - 1 - j) * n, slot);
         j += 1;
     }
-    out
 }
 
-// Flip: each place is exchanged with its number in the row, the top one first.
-fn flip_one(
-    c: Coord,
-    store: &mut [f64],
-    n: usize,
-    k: usize,
-    depth: usize,
-    args: [i32; 8],
-    m: usize,
-) -> Coord
-    requires { ⌜ (m ≤ 8) × ((k < n) × ((m ≤ depth) × (depth * n ≤ length (now store)))) ⌝ }
-    ensures { λ r. ⌜ Changed n k depth (now (store .entry)) (now (store .exit)) (flipped onOne (places (take m args)) c (row n k depth (now (store .entry)))) r ⌝ }
+// Flip: each place exchanged with its column, the top one first.
+fn flip(xs: &mut [f64], store: &mut [f64], depth: usize, args: &[i32])
+    requires { ⌜ length (now args) ≤ depth ⌝ }
+    requires { ⌜ depth * (length (now xs) / 4) ≤ length (now store) ⌝ }
+    ensures { λ _. ⌜ (tuples (now (xs .exit)) ≡ flipped onNumbers (places (now (args .entry))) (tuples (now (xs .entry))) (columnsOf (length (now (xs .entry)) / 4) depth (now (store .entry))) .tuples) × Stacked (length (now (xs .entry)) / 4) depth (flipped onNumbers (places (now (args .entry))) (tuples (now (xs .entry))) (columnsOf (length (now (xs .entry)) / 4) depth (now (store .entry))) .columns) (now (store .entry)) (now (store .exit)) ⌝ }
 {
-    let mut out = c;
+    let n = xs.len() / 4;
     let mut j = 0;
-    while j < m {
-        let i = place_at(args, m, j);
-        let q = depth - 1 - j;
-        let x = get_number(store, n, k, q);
-        set_number(store, n, k, q, number_of(out, i));
-        out = with_number(out, i, x);
+    while j < args.len() {
+        flip_column(xs, store, (depth - 1 - j) * n, slot_at(args, j));
         j += 1;
     }
-    out
 }
 
-// Swap: the two at the top of the row are exchanged, where there are two.
-fn swap_one(store: &mut [f64], n: usize, k: usize, depth: usize)
-    requires { ⌜ (k < n) × (depth * n ≤ length (now store)) ⌝ }
-    ensures { λ _. ⌜ Rewrote n k depth (now (store .entry)) (now (store .exit)) (swappedTop (row n k depth (now (store .entry)))) ⌝ }
+// The columns from one up to another in the opposite order.
+fn reverse(store: &mut [f64], n: usize, from: usize, to: usize)
+    requires { ⌜ from ≤ to ⌝ }
+    requires { ⌜ to ≤ 64 ⌝ }
+    requires { ⌜ to * n ≤ length (now store) ⌝ }
+    ensures { λ _. ⌜ Reversed n from to (now (store .entry)) (now (store .exit)) ⌝ }
+{
+    let mut i = from;
+    let mut j = to;
+    while i + 1 < j {
+        j -= 1;
+        exchange(store, i * n, j * n, n);
+        i += 1;
+    }
+}
+
+// Roll: the top column goes under the top m, r times. So the first r go behind the others: each part turned round, and then
+// the whole.
+fn roll(store: &mut [f64], n: usize, depth: usize, m: usize, r: usize)
+    requires { ⌜ (r ≤ m) × ((m ≤ depth) × (depth ≤ 64)) ⌝ }
+    requires { ⌜ depth * n ≤ length (now store) ⌝ }
+    ensures { λ _. ⌜ Stacked n depth (rolled m r (columnsOf n depth (now (store .entry)))) (now (store .entry)) (now (store .exit)) ⌝ }
+{
+    reverse(store, n, depth - r, depth);
+    reverse(store, n, depth - m, depth - r);
+    reverse(store, n, depth - m, depth);
+}
+
+// Swap: the two top columns exchanged, where there are two.
+fn swap(store: &mut [f64], n: usize, depth: usize)
+    requires { ⌜ depth * n ≤ length (now store) ⌝ }
+    ensures { λ _. ⌜ Stacked n depth (swappedTop (columnsOf n depth (now (store .entry)))) (now (store .entry)) (now (store .exit)) ⌝ }
 {
     if depth < 2 {
         return;
     }
-    let x = get_number(store, n, k, depth - 1);
-    let y = get_number(store, n, k, depth - 2);
-    set_number(store, n, k, depth - 1, y);
-    set_number(store, n, k, depth - 2, x);
+    exchange(store, (depth - 2) * n, (depth - 1) * n, n);
 }
 
-// Where the number comes from that stands at j after a roll of the top m, r times.
-fn turned_place(j: usize, r: usize, m: usize) -> usize
-    requires { ⌜ (j < m) × ((r ≤ m) × (m ≤ 64)) ⌝ }
-    ensures { λ p. ⌜ (p ≡ turnedPlace j r m) × (p < m) ⌝ }
+// No number of any tuple is one.
+fn stomp(xs: &mut [f64])
+    ensures { λ _. ⌜ tuples (now (xs .exit)) ≡ map (λ _. noTuple) (tuples (now (xs .entry))) ⌝ }
 {
-    if j + r < m { j + r } else { j + r - m }
-}
-
-// The top m of a row, the top one first.
-fn row_of(store: &[f64], n: usize, k: usize, depth: usize, m: usize) -> [f64; 64]
-    requires { ⌜ (k < n) × ((m ≤ depth) × ((m ≤ 64) × (depth * n ≤ length (now store)))) ⌝ }
-    ensures { λ a. ⌜ take m a ≡ take m (row n k depth (now (store .entry))) ⌝ }
-{
-    let mut a = [0.0; 64];
-    let mut j = 0;
-    while j < m {
-        let x = get_number(store, n, k, depth - 1 - j);
-        a[j] = x;
-        j += 1;
-    }
-    a
-}
-
-// Roll: the top of the row goes under the top m, r times.
-fn roll_one(store: &mut [f64], n: usize, k: usize, depth: usize, m: usize, r: usize)
-    requires { ⌜ (k < n) × ((m ≤ depth) × ((m ≤ 64) × ((r ≤ m) × (depth * n ≤ length (now store))))) ⌝ }
-    ensures { λ _. ⌜ Rewrote n k depth (now (store .entry)) (now (store .exit)) (rolled m r (row n k depth (now (store .entry)))) ⌝ }
-{
-    let a = row_of(store, n, k, depth, m);
-    let mut j = 0;
-    while j < m {
-        let p = turned_place(j, r, m);
-        let x = a[p];
-        set_number(store, n, k, depth - 1 - j, x);
-        j += 1;
+    let n = xs.len() / 4;
+    let mut k = 0;
+    while k < n {
+        set_coord(xs, k, no_coord());
+        k += 1;
     }
 }
-
-// A tuple and its row through a step.
-fn move_one(
-    c: Coord,
-    store: &mut [f64],
-    n: usize,
-    k: usize,
-    depth: usize,
-    mv: Move,
-    args: [i32; 8],
-    m: usize,
-) -> Coord
-    requires { ⌜ k < n ⌝ }
-    requires { ⌜ Ready mv m depth n (length (now store)) ⌝ }
-    ensures { λ r. ⌜ MovedOne mv (places (take m args)) m n k depth c (now (store .entry)) r (now (store .exit)) ⌝ }
-{
-    match mv {
-        Move::Push => {
-            push_one(c, store, n, k, depth, args, m);
-            c
-        }
-        Move::Pop => pop_one(c, store, n, k, depth, args, m),
-        Move::Flip => flip_one(c, store, n, k, depth, args, m),
-        Move::Roll { m: w, n: r } => {
-            roll_one(store, n, k, depth, w, r);
-            c
-        }
-        Move::Swap => {
-            swap_one(store, n, k, depth);
-            c
-        }
-        Move::Stomp => no_coord(),
-    }
-}
-
-// ---- every tuple
 
 // A step with m places on every tuple of a list and the columns of a store.
 pub fn move_all(xs: &mut [f64], store: &mut [f64], depth: usize, mv: Move, args: [i32; 8], m: usize)
     requires { ⌜ Ready mv m depth (length (now xs) / 4) (length (now store)) ⌝ }
     ensures { λ _. ⌜ Moved mv (places (take m args)) m depth (now (xs .entry)) (now (store .entry)) (now (xs .exit)) (now (store .exit)) ⌝ }
 {
-    let n = xs.len() / 4;
-    let mut i = 0;
-    while i < n {
-        let c = get_coord(xs, i);
-        set_coord(xs, i, move_one(c, store, n, i, depth, mv, args, m));
-        i += 1;
+    match mv {
+        Move::Push => push(xs, store, depth, &args[..m]),
+        Move::Pop => pop(xs, store, depth, &args[..m]),
+        Move::Flip => flip(xs, store, depth, &args[..m]),
+        Move::Roll { m: w, n: r } => roll(store, xs.len() / 4, depth, w, r),
+        Move::Swap => swap(store, xs.len() / 4, depth),
+        Move::Stomp => stomp(xs),
     }
 }
 

@@ -1,7 +1,7 @@
 -- A coordinate where there is none, and an `adapt` step with its factors made.
 use mathlib.Core.Path.{_≡_}
 use Prim.Native.Nat.{ℕ}
-use mathlib.Core.Bool.{Bool, true, false, _&&_}
+use mathlib.Core.Bool.{Bool, true, false, cond, _&&_}
 use mathlib.Core.List.{List}
 use lib.Dec.{eqb}
 use lib.IntN.{ℤ}
@@ -13,6 +13,10 @@ use Rattle.coordinate.specs.declared.Adapting.{Adapting}
 -- what is read past the end of a list
 abbrev pub noTuple : Coord
 noTuple = record { a = nan; b = nan; c = nan; d = nan }
+
+-- where number i stands in a coordinate, counted from 0
+unfoldable pub slot : ℕ → ℕ
+slot i = cond (eqb i 1) 0 (cond (eqb i 2) 1 (cond (eqb i 3) 2 3))
 
 -- is the number at i the input's own, times 1?
 unfoldable pub staying : ℕ → Float → ℕ → Bool

@@ -5,14 +5,14 @@ use rules::Coord;
 ghost use mathlib.Core.Path.{_≡_};
 ghost use mathlib.Core.Bool.{true, false};
 ghost use mathlib.Core.List.{map};
-ghost use Prim.Native.Nat.{_+_, _*_, _≤_};
+ghost use Prim.Native.Nat.{_+_, _*_, _≤_, _<_};
 ghost use lib.ListN.{length, getD, set, take};
 ghost use lib.Ieee.{nan};
 ghost use Rattle.rules.specs.Decimal.{minus};
 ghost use Rattle.rules.specs.Record.{size, isAdapt};
 ghost use Rattle.rules.specs.Coordinate.{number, put, turn, swapped, angle, factor, adapted};
 ghost use Rattle.rules.specs.Tuples.{tuples};
-ghost use Rattle.coordinate.specs.Coords.{noTuple, staying, product, forwards, backwards, adapting, mults, overs, applied, allStaying, Makes};
+ghost use Rattle.coordinate.specs.Coords.{noTuple, slot, staying, product, forwards, backwards, adapting, mults, overs, applied, allStaying, Makes};
 
 // ---- one number
 
@@ -119,6 +119,39 @@ pub fn set_coord(xs: &mut [f64], i: usize, v: Coord)
     xs[k + 1] = v.b;
     xs[k + 2] = v.c;
     xs[k + 3] = v.d;
+}
+
+// Where number i of a coordinate stands in it, counted from 0.
+pub fn slot_of(i: usize) -> usize
+    ensures { λ r. ⌜ (r < 4) × (r ≡ slot i) ⌝ }
+{
+    if i == 1 {
+        0
+    } else if i == 2 {
+        1
+    } else if i == 3 {
+        2
+    } else {
+        3
+    }
+}
+
+// The number at a slot of the coordinate at k of a list.
+pub fn get_at(xs: &[f64], k: usize, slot: usize) -> f64
+    requires { ⌜ k * 4 + 4 ≤ length (now xs) ⌝ }
+    requires { ⌜ slot < 4 ⌝ }
+    ensures { λ r. ⌜ r ≡ number (slot + 1) (getD (tuples (now (xs .entry))) k noTuple) ⌝ }
+{
+    xs[k * 4 + slot]
+}
+
+// x stored there.
+pub fn set_at(xs: &mut [f64], k: usize, slot: usize, x: f64)
+    requires { ⌜ k * 4 + 4 ≤ length (now xs) ⌝ }
+    requires { ⌜ slot < 4 ⌝ }
+    ensures { λ _. ⌜ tuples (now (xs .exit)) ≡ set (tuples (now (xs .entry))) k (put (slot + 1) x (getD (tuples (now (xs .entry))) k noTuple)) ⌝ }
+{
+    xs[k * 4 + slot] = x;
 }
 
 // ---- axisswap

@@ -26,12 +26,12 @@ use Rattle.acts.specs.declared.Act.{Act}
 use Rattle.acts.specs.declared.Act.the-variants.{Pushes, Pops, PopsAll, Flips, Rolls, Swaps, Drops}
 use Rattle.acts.specs.declared.Act.the-variants as act-is
 use Rattle.acts.specs.declared.Doing.{Doing}
-use Rattle.columns.specs.Rows.{columnsOf, held}
+use Rattle.columns.specs.Stores.{columnsOf, held}
 use Rattle.columns.specs.Moves.{moves, depthMoved, enough, Ready, Moved}
 use Rattle.columns.specs.declared.Move.{Move}
 use Rattle.columns.specs.declared.Move.the-variants.{Push, Pop, Flip, Roll, Swap, Stomp}
 use Rattle.columns.proofs.Acting.{push-acted, pop-acted, popAll-acted, flip-acted, roll-acted, swap-acted, moves-depth}
-use Rattle.columns.proofs.Walking.{held-depth}
+use Rattle.columns.proofs.Standing.{held-depth}
 use Rattle.steplaws.specs.Rolls.{rolled-again}
 use Rattle.pipeline.specs.Ways.{goes, depthGone, able, Chosen, Acted, turns}
 use Rattle.pipeline.specs.declared.Way.{Way}
@@ -158,12 +158,13 @@ module _ (a : rules.Act) (l : List ℤ) (d : ℕ) (w : Way) (h : Chosen a l d w)
 
 module _ (a : rules.Act) (l : List ℤ) (d n : ℕ) (e : length l ≡ n) (xs s : List Float) where
   -- a move asks no more than the act
-  pub move-ready : (mv : Move) (k total : ℕ) → Chosen a l d (Moves mv) → n ≤ 8 → d * k ≤ total → depthAfter a d * k ≤ total → Ready mv n d k total
+  pub move-ready : (mv : Move) (k total : ℕ) → Chosen a l d (Moves mv) → n ≤ 8 → d ≤ 64 → d * k ≤ total → depthAfter a d * k ≤ total → Ready mv n d k total
   unfolding able depthGone
-  move-ready mv k total h few room grows =
+  move-ready mv k total h few low room grows =
       let deep : depthMoved mv n d ≡ depthAfter a d = ap (λ (z : ℕ). depthMoved mv z d) (sym e) ∙ gone-depth a l d (Moves mv) h in
       record {
         few = few;
+        low = low;
         deep = subst (λ (z : ℕ). enough mv z d ≡ true) e (h .ready);
         room = room;
         grows = subst (λ (z : ℕ). z * k ≤ total) (sym deep) grows;

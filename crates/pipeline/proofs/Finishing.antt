@@ -27,8 +27,8 @@ use Rattle.steplaws.specs.Depth.{depthAfter}
 use Rattle.steplaws.specs.Lengths.{numbers-tuples}
 use Rattle.acts.specs.Tests.{badOf}
 use Rattle.acts.specs.declared.Bad.the-variants.{At, Nowhere}
-use Rattle.columns.specs.Rows.{columnsOf, held}
-use Rattle.columns.proofs.Walking.{columns-length}
+use Rattle.columns.specs.Stores.{columnsOf, held}
+use Rattle.columns.proofs.Standing.{columns-length}
 use Rattle.columns.proofs.Zeroing.{columns-flat}
 use Rattle.pipeline.specs.Plans.{passesFrom, deepestFrom, planOf, Gives, Ends}
 use Rattle.pipeline.specs.declared.Ended.{Ended}

@@ -14,7 +14,7 @@ use Rattle.rules.specs.declared.Direction.{Direction}
 use Rattle.steplaws.specs.Depth.{depthAfter}
 use Rattle.acts.specs.Doings.{doing, Does}
 use Rattle.acts.specs.declared.Doing.{Doing}
-use Rattle.columns.specs.Rows.{held}
+use Rattle.columns.specs.Stores.{held}
 use Rattle.pipeline.specs.Plans.{depthStepped, stepped, countStepped, Stepped}
 use Rattle.pipeline.specs.Ways.{Acted}
 

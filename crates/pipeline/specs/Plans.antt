@@ -15,7 +15,7 @@ use Rattle.rules.specs.declared.Step.{Step}
 use Rattle.rules.specs.declared.Direction.{Direction}
 use Rattle.rules.specs.declared.Ran.{Ran}
 use Rattle.steplaws.specs.Depth.{depthAfter}
-use Rattle.columns.specs.Rows.{held}
+use Rattle.columns.specs.Stores.{held}
 use Rattle.pipeline.specs.declared.Ended.{Ended}
 use Rattle.pipeline.specs.declared.Plan.{Plan}
 use Rattle.pipeline.specs.declared.Plan.the-variants.{Over, Deepest}

@@ -13,7 +13,7 @@ use Rattle.rules.specs.Act as rules
 use Rattle.rules.specs.Act.{places}
 use Rattle.rules.specs.Tuples.{State, acted}
 use Rattle.steplaws.specs.Depth.{depthAfter}
-use Rattle.columns.specs.Rows.{held}
+use Rattle.columns.specs.Stores.{held}
 use Rattle.columns.specs.Moves.{moves, depthMoved, enough}
 use Rattle.pipeline.specs.declared.Way.{Way}
 use Rattle.pipeline.specs.declared.Way.the-variants.{Moves, Orders, Adapts, Stays}

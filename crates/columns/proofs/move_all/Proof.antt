@@ -1,56 +1,242 @@
-use mathlib.Core.Path.{sym, subst}
-use Prim.Native.Nat.{_-_, _/_, _≤_}
-use lib.ListN.{length, take}
-use Rattle.rules.specs.Act.{places}
+use Rattle.columns.proofs.Stepping.{flip-deep, roll-deep, roll-times, push-room, found, all-push, all-pop, all-flip, all-roll, all-swap, all-stomp}
+use Rattle.columns.specs.declared.Move.{Move}
 use Rattle.columns.specs.Moves.{Ready}
-use Rattle.columns.proofs.Stepping.{places-length}
-use Rattle.columns.proofs.Walking.{Walking, walk-none, walk-turn, walk-end}
+use lib.Seq.{length-take-le}
+use lib.ListN.{length, take}
+use Prim.Native.Nat.{ℕ, _+_, _*_, _/_, _≤_}
+use mathlib.Core.Path.{_≡_, sym, subst}
 use native.Mathlib.Omega.{arith}
+use borrow.Author.Needs.{needs}
 use Rattle.columns.proofs.move_all.Statement.{statement}
 use Rattle.columns.proofs.move_all.Tie as tie
+use Rattle.columns.proofs.move_all.Reads as reads
+use Rattle.columns.proofs.move_all.Lts as lts
+use Rattle.columns.proofs.flip.Reads as flip-reads
+use Rattle.columns.proofs.pop.Reads as pop-reads
+use Rattle.columns.proofs.push.Reads as push-reads
+use Rattle.columns.proofs.roll.Reads as roll-reads
+use Rattle.columns.proofs.stomp.Reads as stomp-reads
+use Rattle.columns.proofs.swap.Reads as swap-reads
 
-abbrev Inv-loop : tie.InvT-loop
-Inv-loop xs₀ store₀ depth mv args m n i₀ xs store i = Walking mv (places (take m args)) m depth xs₀ store₀ xs store i
+-- src/lib.rt:227:28
+enum-told : tie.Need-enum-told
+enum-told c = search needs
 
-abbrev μ-loop : tie.MeasureT-loop
-μ-loop xs₀ store₀ depth mv args m n i₀ xs store i = n - i
+-- src/lib.rt:227:46
+array-share-prefix-args : tie.Need-array-share-prefix-args
+array-share-prefix-args c = search needs
 
-move-one-requires : tie.Need-move-one-requires Inv-loop μ-loop
-move-one-requires c κs =
-    let head = c .before .before .before .before .before in
-    let start = head .before .before .before in
+-- src/lib.rt:227:46
+slice-aggregate-push : tie.Need-slice-aggregate-push
+slice-aggregate-push c =
+    let start = c .before .before .before .before .before .before .before in
     let a = start .args in
-    (omega arith, subst (Ready (a .mv) (a .m) (a .depth) (length (a .xs .now) / 4)) (sym (head .loop .inv .store-length)) (start .pre))
+    let few : a .m ≤ length (a .t5) = omega (arith, start .pre .few, start .good .1 .1 .1 .1 .0 .1 .0 .1) in
+    sym (length-take-le (a .m) (a .t5) few)
 
-loop-again : tie.Need-loop-again Inv-loop μ-loop
-loop-again c =
-    let head = c .before .before .before .before .before .before .before .before .before .before .before in
-    let a = head .before .before .before .args in
-    let put = c .before .before .set-coord in
-    walk-turn (a .mv) (places (take (a .m) (a .args))) (a .m) (a .depth) (a .xs .now) (a .store .now) (head .loop .xs) (head .loop .store) _ _ (head .loop .i) _ _ (head .loop .inv)
-    (c .before .before .before .before .before .before .before .before .before .before .loop-test .taken) (c .before .before .before .before .before .before .before .before .get-coord .ensures) (c .before .before .before .before .before .move-one .ensures) (put .ensures) (put .kept .0)
+-- src/lib.rt:227:23
+push-requires : tie.Need-push-requires
+push-requires c κs =
+    let start = c .before .before .before .before .before .before .before in
+    let a = start .args in
+    let few : a .m ≤ length (a .t5) = omega (arith, start .pre .few, start .good .1 .1 .1 .1 .0 .1 .0 .1) in
+    let count = length-take-le (a .m) (a .t5) few in
+    let ready = subst (λ (z : Move). Ready z (a .m) (a .depth) (length (a .xs .now) / 4) (length (a .store .now))) (c .before .before .before .enum-told .given .1) (start .pre) in
+    (start .pre .low, (omega (arith, count, start .pre .few), subst (λ (z : ℕ). (z + a .depth) * (length (a .xs .now) / 4) ≤ length (a .store .now)) (sym count) (push-room _ _ _ _ ready)))
 
-returns : tie.Need-returns Inv-loop μ-loop
+-- src/lib.rt:228:26
+enum-told-2 : tie.Need-enum-told-2
+enum-told-2 c = search needs
+
+-- src/lib.rt:228:44
+array-share-prefix-args-2 : tie.Need-array-share-prefix-args-2
+array-share-prefix-args-2 c = search needs
+
+-- src/lib.rt:228:44
+slice-aggregate-pop : tie.Need-slice-aggregate-pop
+slice-aggregate-pop c =
+    let start = c .before .before .before .before .before .before .before in
+    let a = start .args in
+    let few : a .m ≤ length (a .t5) = omega (arith, start .pre .few, start .good .1 .1 .1 .1 .0 .1 .0 .1) in
+    sym (length-take-le (a .m) (a .t5) few)
+
+-- src/lib.rt:228:22
+pop-requires : tie.Need-pop-requires
+pop-requires c κs = search needs
+
+-- src/lib.rt:229:28
+enum-told-3 : tie.Need-enum-told-3
+enum-told-3 c = search needs
+
+-- src/lib.rt:229:46
+array-share-prefix-args-3 : tie.Need-array-share-prefix-args-3
+array-share-prefix-args-3 c = search needs
+
+-- src/lib.rt:229:46
+slice-aggregate-flip : tie.Need-slice-aggregate-flip
+slice-aggregate-flip c =
+    let start = c .before .before .before .before .before .before .before in
+    let a = start .args in
+    let few : a .m ≤ length (a .t5) = omega (arith, start .pre .few, start .good .1 .1 .1 .1 .0 .1 .0 .1) in
+    sym (length-take-le (a .m) (a .t5) few)
+
+-- src/lib.rt:229:23
+flip-requires : tie.Need-flip-requires
+flip-requires c κs =
+    let start = c .before .before .before .before .before .before .before in
+    let a = start .args in
+    let few : a .m ≤ length (a .t5) = omega (arith, start .pre .few, start .good .1 .1 .1 .1 .0 .1 .0 .1) in
+    let count = length-take-le (a .m) (a .t5) few in
+    let ready = subst (λ (z : Move). Ready z (a .m) (a .depth) (length (a .xs .now) / 4) (length (a .store .now))) (c .before .before .before .enum-told3 .given .1) (start .pre) in
+    (omega (arith, count, flip-deep _ _ _ _ ready), start .pre .room)
+
+-- src/lib.rt:230:25
+enum-known-mv : tie.Need-enum-known-mv
+enum-known-mv c = search needs
+
+-- src/lib.rt:230:38
+roll-requires : tie.Need-roll-requires
+roll-requires c κs =
+    let start = c .before .before .before .before .before .before in
+    let a = start .args in
+    let few : a .m ≤ length (a .t5) = omega (arith, start .pre .few, start .good .1 .1 .1 .1 .0 .1 .0 .1) in
+    let ready = subst (λ (z : Move). Ready z (a .m) (a .depth) (length (a .xs .now) / 4) (length (a .store .now))) (c .before .before .mv .given .1) (start .pre) in
+    ((roll-times _ _ _ _ _ _ ready, (roll-deep _ _ _ _ _ _ ready, start .pre .low)), start .pre .room)
+
+-- src/lib.rt:231:28
+enum-told-4 : tie.Need-enum-told-4
+enum-told-4 c = search needs
+
+-- src/lib.rt:231:23
+swap-requires : tie.Need-swap-requires
+swap-requires c κs = search needs
+
+-- src/lib.rt:232:30
+enum-told-5 : tie.Need-enum-told-5
+enum-told-5 c = search needs
+
+-- src/lib.rt:232:24
+stomp-requires : tie.Need-stomp-requires
+stomp-requires c κs = search needs
+
+-- src/lib.rt:222:1
+same-length : tie.Need-same-length
+same-length c = search needs
+
+-- src/lib.rt:222:1
+same-length-2 : tie.Need-same-length-2
+same-length-2 c = search needs
+
+-- src/lib.rt:222:1
+returns : tie.Need-returns
 returns c =
-    let head = c .before in
-    let start = head .before .before .before in
+    let start = c .before .before .before .before .before .before .before .before .before .before in
     let a = start .args in
-    let few : a .m ≤ length (a .args) = omega (arith, start .pre .few, start .good .1 .1 .1 .1 .0 .1 .0 .1) in
-    walk-end (a .mv) (places (take (a .m) (a .args))) (a .m) (a .depth) (a .xs .now) (a .store .now) _ _ (head .loop .i) (places-length (a .args) (a .m) few) (head .loop .inv) (omega arith) (start .pre)
+    let few : a .m ≤ length (a .t5) = omega (arith, start .pre .few, start .good .1 .1 .1 .1 .0 .1 .0 .1) in
+    found (c .before .before .before .before .before .before .enum-told .given .1) (all-push (a .t5) (a .m) (a .depth) (a .xs .now) (a .store .now) few _ (c .before .before .push .ensures))
+
+-- src/lib.rt:222:1
+same-length-3 : tie.Need-same-length-3
+same-length-3 c = search needs
+
+-- src/lib.rt:222:1
+same-length-4 : tie.Need-same-length-4
+same-length-4 c = search needs
+
+-- src/lib.rt:222:1
+returns-2 : tie.Need-returns-2
+returns-2 c =
+    let start = c .before .before .before .before .before .before .before .before .before .before in
+    let a = start .args in
+    let few : a .m ≤ length (a .t5) = omega (arith, start .pre .few, start .good .1 .1 .1 .1 .0 .1 .0 .1) in
+    found (c .before .before .before .before .before .before .enum-told2 .given .1) (all-pop (a .t5) (a .m) (a .depth) (a .xs .now) (a .store .now) few _ (c .before .before .pop .kept .0) (c .before .before .pop .ensures))
+
+-- src/lib.rt:222:1
+same-length-5 : tie.Need-same-length-5
+same-length-5 c = search needs
+
+-- src/lib.rt:222:1
+same-length-6 : tie.Need-same-length-6
+same-length-6 c = search needs
+
+-- src/lib.rt:222:1
+returns-3 : tie.Need-returns-3
+returns-3 c =
+    let start = c .before .before .before .before .before .before .before .before .before .before .before .before in
+    let a = start .args in
+    let few : a .m ≤ length (a .t5) = omega (arith, start .pre .few, start .good .1 .1 .1 .1 .0 .1 .0 .1) in
+    found (c .before .before .before .before .before .before .before .before .enum-told3 .given .1) (all-flip (a .t5) (a .m) (a .depth) (a .xs .now) (a .store .now) few _ _ (c .before .before .before .before .flip .kept .0) (c .before .before .before .before .flip .ensures .0) (c .before .before .before .before .flip .ensures .1))
+
+-- src/lib.rt:222:1
+same-length-7 : tie.Need-same-length-7
+same-length-7 c = search needs
+
+-- src/lib.rt:222:1
+returns-4 : tie.Need-returns-4
+returns-4 c =
+    let start = c .before .before .before .before .before .before .before .before .before in
+    let a = start .args in
+    let few : a .m ≤ length (a .t5) = omega (arith, start .pre .few, start .good .1 .1 .1 .1 .0 .1 .0 .1) in
+    found (c .before .before .before .before .before .mv .given .1) (all-roll (a .t5) (a .m) (a .depth) (a .xs .now) (a .store .now) few _ _ _ (c .before .before .roll .ensures))
+
+-- src/lib.rt:222:1
+same-length-8 : tie.Need-same-length-8
+same-length-8 c = search needs
+
+-- src/lib.rt:222:1
+returns-5 : tie.Need-returns-5
+returns-5 c =
+    let start = c .before .before .before .before .before .before .before .before in
+    let a = start .args in
+    let few : a .m ≤ length (a .t5) = omega (arith, start .pre .few, start .good .1 .1 .1 .1 .0 .1 .0 .1) in
+    found (c .before .before .before .before .enum-told4 .given .1) (all-swap (a .t5) (a .m) (a .depth) (a .xs .now) (a .store .now) few _ (c .before .before .swap .ensures))
+
+-- src/lib.rt:222:1
+same-length-9 : tie.Need-same-length-9
+same-length-9 c = search needs
+
+-- src/lib.rt:222:1
+returns-6 : tie.Need-returns-6
+returns-6 c =
+    let start = c .before .before .before .before .before .before .before .before in
+    let a = start .args in
+    let few : a .m ≤ length (a .t5) = omega (arith, start .pre .few, start .good .1 .1 .1 .1 .0 .1 .0 .1) in
+    found (c .before .before .before .before .enum-told5 .given .1) (all-stomp (a .t5) (a .m) (a .depth) (a .xs .now) (a .store .now) few _ (c .before .before .stomp .kept .0) (c .before .before .stomp .ensures))
 
 pub move-all-spec : {M : Type 1} → statement M
 move-all-spec =
     tie.close
     (tie.spec
-    Inv-loop
-    μ-loop
-    (λ c. (let a = c .before .before .args in walk-none (a .mv) (places (take (a .m) (a .args))) (a .m) (a .depth) (a .xs .now) (a .store .now)))
-    (λ c κs. omega (arith, c .before .before .loop .inv .list-length))
-    move-one-requires
-    (λ c κs. omega (arith, c .before .before .before .before .before .before .before .before .loop .inv .list-length))
-    (λ c. omega arith)
-    (λ c. omega arith)
-    loop-again
-    (λ c. c .before .loop .inv .list-length)
-    (λ c. c .before .loop .inv .store-length)
-    returns)
+    enum-told
+    array-share-prefix-args
+    slice-aggregate-push
+    push-requires
+    enum-told-2
+    array-share-prefix-args-2
+    slice-aggregate-pop
+    pop-requires
+    enum-told-3
+    array-share-prefix-args-3
+    slice-aggregate-flip
+    flip-requires
+    enum-known-mv
+    roll-requires
+    enum-told-4
+    swap-requires
+    enum-told-5
+    stomp-requires
+    same-length
+    same-length-2
+    returns
+    same-length-3
+    same-length-4
+    returns-2
+    same-length-5
+    same-length-6
+    returns-3
+    same-length-7
+    returns-4
+    same-length-8
+    returns-5
+    same-length-9
+    returns-6)

@@ -19,7 +19,7 @@ move-all-requires c κs =
     let s = c .before .before .before .before .before .before .before .before .before in
     let d = s .args .d in
     move-ready (doing d) (take (d .n) (d .args)) (s .args .depth) (d .n) (long s) (s .args .tuples .now) (s .args .columns .now) _ _ _ (chosen-as (c .before .before .before .way .given .1) (c .before .before .before .before .before .way-of .ensures))
-    (s .pre .1 .0 .slots) (s .pre .1 .1 .0) (s .pre .1 .1 .1)
+    (s .pre .1 .0 .slots) (s .pre .0) (s .pre .1 .1 .0) (s .pre .1 .1 .1)
 
 adapt-requires : tie.Need-adapt-requires
 adapt-requires c κs =
