@@ -40,18 +40,10 @@ struct Step {
     omit_inv: u8,
 }
 
-// A step table: n records, the first of 64.
-#[repr(C)]
-#[derive(Clone, Copy)]
+// A row of 64 records to lend, of which the first n are in use.
 struct Steps {
-    steps: [Step; 64],
+    row: [Step; 64],
     n: usize,
-}
-
-#[repr(C)]
-struct Made {
-    answer: Reply,
-    table: Steps,
 }
 
 #[repr(C)]
@@ -104,10 +96,16 @@ unsafe extern "C" {
         out: *mut u8,
         out_len: usize,
     ) -> Reply;
-    fn sakondreno_prepare(text: *const u8, text_len: usize, table: Steps) -> Made;
-    fn sakondreno_check(table: Steps, inverse: u8) -> Checked;
+    fn sakondreno_prepare(
+        text: *const u8,
+        text_len: usize,
+        table: *mut Step,
+        table_len: usize,
+    ) -> Reply;
+    fn sakondreno_check(table: *const Step, table_len: usize, inverse: u8) -> Checked;
     fn sakondreno_run(
-        table: Steps,
+        table: *const Step,
+        table_len: usize,
         inverse: u8,
         list: *mut f64,
         list_len: usize,
@@ -124,10 +122,9 @@ fn proved(call: Call, text: &[u8], out: &mut [u8]) -> usize {
 
 #[cfg(built_prepare)]
 fn prepared(text: &[u8], table: &mut Steps) -> usize {
-    let made = unsafe { sakondreno_prepare(text.as_ptr(), text.len(), *table) };
-    let r = &made.answer;
+    let row = &mut table.row;
+    let r = unsafe { sakondreno_prepare(text.as_ptr(), text.len(), row.as_mut_ptr(), row.len()) };
     assert!(r.number == 0, "refused {} {}", r.number, r.place);
-    *table = made.table;
     r.length
 }
 
@@ -315,7 +312,8 @@ fn run_rust(op: &Op, list: &mut List) -> usize {
 fn run_proved(table: &Steps, list: &mut [f64], store: &mut [f64]) -> usize {
     let r = unsafe {
         sakondreno_run(
-            *table,
+            table.row.as_ptr(),
+            table.n,
             FORWARD,
             list.as_mut_ptr(),
             list.len(),
@@ -338,8 +336,8 @@ fn run_copy(list: &[Coor4D], other: &mut [Coor4D]) -> usize {
 #[cfg(built_prepare)]
 fn lent() -> Steps {
     Steps {
-        steps: [Step::default(); 64],
-        n: 64,
+        row: [Step::default(); 64],
+        n: 0,
     }
 }
 
@@ -420,7 +418,8 @@ fn steps_sides(call: &str, size: usize) -> Vec<(&'static str, Ready)> {
             vec![(
                 "proved",
                 Box::new(move || {
-                    let r = unsafe { sakondreno_check(*black_box(&table), FORWARD) };
+                    let table = black_box(&table);
+                    let r = unsafe { sakondreno_check(table.row.as_ptr(), table.n, FORWARD) };
                     assert!(r.number == 0, "says {} {}", r.number, r.place);
                     black_box(&r.depths);
                     r.deepest

@@ -1,8 +1,8 @@
 -- Four places by their number, as elements of a list of four; and arguments that name them.
 use mathlib.Core.Path.{_≡_, refl, sym, ap, _∙_, subst}
 use Prim.Native.Nat.{ℕ, zero, suc, _+_, _≤_, _<_}
-use mathlib.Core.Bool.{Bool, true, _&&_}
-use mathlib.Core.List.{List, [], _∷_, _++_, map}
+use mathlib.Core.Bool.{Bool, true}
+use mathlib.Core.List.{List, [], _∷_, _++_}
 use native.Mathlib.Omega.{arith}
 use native.Mathlib.Numerals.{add-one}
 use lib.Dec.{leb, T, leb→le}
@@ -15,7 +15,7 @@ use Rattle.rules.specs.Record.{size}
 use Rattle.rules.specs.Act.{places}
 use Rattle.rules.specs.Check.{noPlace, place, putPlace}
 use Rattle.rules.specs.declared.Place.{Place}
-use Rattle.foretell.specs.Traces.{isAxis, AxisAt}
+use Rattle.foretell.specs.Traces.{isAxis}
 
 -- a list of four
 of-four : (P : List Place → Type 0) → ((a b c d : Place) → P (a ∷ b ∷ c ∷ d ∷ [])) → (l : List Place) → length l ≡ 4 → P l

@@ -1,7 +1,7 @@
 -- Four places reordered, one argument after the other.
 use mathlib.Core.Path.{_≡_, refl, sym, ap, _∙_}
-use Prim.Native.Nat.{ℕ, suc, _+_, _≤_, _<_}
-use mathlib.Core.Bool.{Bool, true, false, not, xor}
+use Prim.Native.Nat.{ℕ, _+_, _≤_, _<_}
+use mathlib.Core.Bool.{Bool, true, false}
 use mathlib.Core.List.{List}
 use native.Mathlib.Omega.{arith}
 use native.Mathlib.Numerals.{add-one}
@@ -13,30 +13,11 @@ use Rattle.rules.specs.Record.{size}
 use Rattle.rules.specs.Act.{orders}
 use Rattle.rules.specs.Columns.{moved}
 use Rattle.rules.specs.Coordinate.{swapFrom, unswapFrom, reordered}
-use Rattle.rules.specs.Check.{noPlace, place, putPlace, turnPlace, onPlaces}
+use Rattle.rules.specs.Check.{noPlace, place, putPlace, turnPlace}
 use Rattle.rules.specs.declared.Place.{Place}
 use Rattle.steplaws.specs.Walk.{swap-turn, unswap-turn}
-use Rattle.foretell.specs.declared.Traced.{Traced}
-use Rattle.foretell.specs.Traces.{machine, AxisAt, Whole, Moved, Ordered}
+use Rattle.foretell.specs.Traces.{Traced, machine, AxisAt, Whole, Moved, Ordered}
 use Rattle.foretell.proofs.Four.{place-is, put-is}
-
-not-xor : (b : Bool) → not b ≡ xor true b
-unfolding xor
-not-xor true = refl
-not-xor false = refl
-
-same-xor : (b : Bool) → b ≡ xor false b
-unfolding xor
-same-xor true = refl
-same-xor false = refl
-
-pub turned-so : (p : Place) → record { axis = p .axis; minus = not (p .minus) } ≡ turnPlace true p
-unfolding turnPlace
-turned-so p = λ i. record { axis = p .axis; minus = not-xor (p .minus) i }
-
-pub turned-not : (p : Place) → p ≡ turnPlace false p
-unfolding turnPlace
-turned-not p = λ i. record { axis = p .axis; minus = same-xor (p .minus) i }
 
 -- the arguments so far, forward or back
 pub record Sorting (from : ℕ → List ℤ → List Place → List Place → List Place) (l : List ℤ) (tuple out : List Place) (i : ℕ) : Type 0 where

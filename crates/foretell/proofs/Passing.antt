@@ -1,12 +1,11 @@
 -- The walk of the check over a table: what it has gathered of the steps behind it, and what the verdict hangs on.
 use mathlib.Core.Path.{_≡_, refl, sym, ap, _∙_, subst}
-use Prim.Native.Nat.{ℕ, zero, suc, _+_, _-_, _≤_, _<_, max}
+use Prim.Native.Nat.{ℕ, suc, _+_, _≤_, _<_, max, _-_}
 use mathlib.Core.Bool.{Bool, true, false, cond, not, _||_}
 use mathlib.Core.Option.{Option, none, some}
 use mathlib.Core.List.{List, [], _∷_, _++_, append-assoc, append-nil}
 use native.Mathlib.Omega.{arith}
-use lib.Dec.{ltb}
-use lib.ListN.{length, getD, set, take, drop, replicate, length-append, length-drop}
+use lib.ListN.{length, getD, set, take, replicate, length-append, length-drop}
 use lib.Seq.{set-at}
 use Rattle.rules.specs.Lists.{any}
 use Rattle.rules.specs.Record.{refusal18}
@@ -14,9 +13,9 @@ use Rattle.rules.specs.Act.{Act, act, Numbered, omitted, running}
 use Rattle.rules.specs.Columns.{moved, after, depths, deepest}
 use Rattle.rules.specs.Check as rules
 use Rattle.rules.specs.Check.{onPlaces, verdict, begin, adapting, anyAdapt, foretold, answered, check, checked, Checks, only, noPlace}
+use Rattle.rules.specs.declared.Place.{Place}
 use Rattle.rules.specs.declared.Step.{Step}
 use Rattle.rules.specs.declared.Direction.{Direction}
-use Rattle.rules.specs.declared.Verdict.{Verdict}
 use Rattle.rules.specs.declared.Verdict.the-variants.{Passes, TooFew, TooMany, Refused}
 use Rattle.rules.specs.declared.Foretold.{Foretold}
 use Rattle.steplaws.specs.Depth.{grown, moved-depth}
@@ -29,12 +28,10 @@ use Rattle.acts.proofs.Visiting.{left-all, left-none, left-next}
 use Rattle.acts.specs.declared.Bad.{Bad}
 use Rattle.acts.specs.declared.Bad.the-variants.{At, Nowhere}
 use Rattle.acts.specs.Tests.{badOf}
-use Rattle.foretell.specs.declared.Traced.{Traced}
-use Rattle.foretell.specs.declared.Sofar.{Sofar}
 use Rattle.foretell.specs.declared.Judged.the-variants.{Few, Many, Goes}
-use Rattle.foretell.specs.Traces.{machine, depth, Whole, Moved, Ready}
-use Rattle.foretell.specs.Steps.{judged, Begun, Went, toldOf}
-use Rattle.foretell.proofs.Judging.{Going, goes-is, verdict-few, verdict-many, verdict-goes}
+use Rattle.foretell.specs.Traces.{placeOf, placesOf, Traced, machine, depth, Whole, Ready}
+use Rattle.foretell.specs.Steps.{judged, Sofar, sofar, Begun, Went, toldOf}
+use Rattle.foretell.proofs.Judging.{goes-is, verdict-few, verdict-many, verdict-goes}
 
 -- what the steps so far have come to
 pub record Gathered (l : List Numbered) (c : Sofar) : Type 0 where
@@ -62,6 +59,10 @@ any-more : (l : List Numbered) (s : Numbered) → anyAdapt (l ++ (s ∷ [])) ≡
 unfolding anyAdapt any
 any-more [] s = or-false (adapting (s .does))
 any-more (x ∷ l) s = ap (λ (b : Bool). adapting (x .does) || b) (any-more l s) ∙ or-assoc (adapting (x .does)) (anyAdapt l) (adapting (s .does))
+
+pub begun : Begun (sofar (2 ∷ 4 ∷ 6 ∷ 8 ∷ []) (replicate 64 0) 64 0 (replicate 64 0) 0 false)
+unfolding placesOf placeOf
+begun = record { exactly = refl }
 
 pub gathered-none : {c : Sofar} → Begun c → Gathered [] c
 unfolding machine after depths deepest anyAdapt any
@@ -220,6 +221,13 @@ told-is {l} {c} g =
       told = not (g .adapts i);
       places = cond (not (g .adapts i)) (g .traced i .tuples) (replicate 4 noPlace);
     }
+
+pub told-so : (c : Sofar) {places : List Place} → places ≡ cond (not (c .adapts)) (c .traced .tuple) (replicate 4 noPlace)
+    → record { verdict = Passes; run = c .run; depths = c .depths; deepest = c .deepest; left = 64 - c .traced .top; told = not (c .adapts); places = places } ≡ toldOf c
+unfolding toldOf depth
+told-so c e =
+    λ i.
+    record { verdict = Passes; run = c .run; depths = c .depths; deepest = c .deepest; left = 64 - c .traced .top; told = not (c .adapts); places = e i }
 
 pub answers-told : {d : Direction} {l : List Step} {k : ℕ} {c : Sofar} → Checking d l k c → length l ≤ k → toldOf c ≡ checked none (running d l)
 unfolding checked answered verdict

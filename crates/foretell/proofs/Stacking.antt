@@ -1,40 +1,30 @@
 -- Columns exchanged, and rolled.
 use mathlib.Core.Path.{_≡_, refl, sym, ap, _∙_, subst}
-use Prim.Native.Nat.{ℕ, zero, suc, _+_, _-_, _*_, _≤_, _<_}
+use Prim.Native.Nat.{ℕ, zero, suc, _+_, _*_, _≤_, _<_, _-_}
 use mathlib.Core.List.{List, [], _∷_, _++_, append-assoc}
 use mathlib.Core.Bool.{Bool, true, false, cond}
 use lib.Dec.{leb, T, leb→le}
 use borrow.Author.Tests.{le-leb, lt-leb}
 use native.Mathlib.Omega.{arith}
 use native.Mathlib.Numerals.{add-one}
-use lib.ListN.{length, getD, set, take, drop, length-set, length-drop, length-take}
-use lib.Seq.{drop-cons, drop-drop, drop-set-add, getD-drop, paste, paste-zero, paste-suc, length-paste, take-paste, drop-paste, drop-at, take-nil, length-take-le, length-paste-head}
-use Rattle.rules.specs.Act.{rolls, swaps}
-use Rattle.rules.specs.Columns.{moved, rolled, swappedTop}
-use Rattle.rules.specs.Check.{noPlace, onPlaces}
+use lib.ListN.{length, getD, set, take, drop, length-drop}
+use lib.Seq.{drop-cons, drop-drop, drop-set-add, getD-drop, paste, paste-zero, paste-suc, take-paste, drop-paste, drop-at, take-nil, length-take-le}
+use Rattle.rules.specs.Columns.{rolled, swappedTop}
+use Rattle.rules.specs.Check.{noPlace}
 use Rattle.rules.specs.declared.Place.{Place}
 use Rattle.steplaws.specs.Rolls.{turnedTop, rolled-is, rolled-again}
-use Rattle.foretell.specs.declared.Traced.{Traced}
-use Rattle.foretell.specs.Traces.{machine, Whole, Moved, Turns}
+use Rattle.foretell.specs.Traces.{Turns}
 use Rattle.foretell.proofs.Tracing.{drop-set}
 
 -- ---- swap
 
-few-stay : (l : List Place) → length l ≤ 1 → l ≡ swappedTop l
+pub few-stay : (l : List Place) → length l ≤ 1 → l ≡ swappedTop l
 unfolding swappedTop
 few-stay [] h = refl
 few-stay (v ∷ []) h = refl
 few-stay (v ∷ w ∷ l) h = absurd (omega (arith, h))
 
-pub swap-few : (t : Traced) → Whole t → 62 < t .top → Moved swaps t t
-unfolding moved machine
-swap-few t w h =
-    record {
-      whole = w;
-      same = ap (λ (c : List Place). record { tuples = t .tuple; columns = c }) (few-stay (drop (t .top) (t .columns)) (rw (length-drop, w .most) (omega (arith, h))));
-    }
-
-swap-two : (c : List Place) (top : ℕ) → top + 1 < length c
+pub swap-two : (c : List Place) (top : ℕ) → top + 1 < length c
     → drop top (set (set c top (getD c (top + 1) noPlace)) (top + 1) (getD c top noPlace)) ≡ swappedTop (drop top c)
 unfolding swappedTop
 swap-two c top h =
@@ -46,19 +36,6 @@ swap-two c top h =
   where
     next : drop (suc top) c ≡ getD c (top + 1) noPlace ∷ drop (suc (top + 1)) c
     next = ap (λ (n : ℕ). drop n c) (sym (add-one top)) ∙ drop-cons c (top + 1) noPlace h
-
-pub swap-some : (t : Traced) → Whole t → t .top ≤ 62
-    → Moved swaps t (record {
-      tuple = t .tuple;
-      columns = set (set (t .columns) (t .top) (getD (t .columns) (t .top + 1) noPlace)) (t .top + 1) (getD (t .columns) (t .top) noPlace);
-      top = t .top;
-    })
-unfolding moved machine
-swap-some t w h =
-    record {
-      whole = record { four = w .four; most = length-set (set (t .columns) (t .top) (getD (t .columns) (t .top + 1) noPlace)) (t .top + 1) (getD (t .columns) (t .top) noPlace) ∙ length-set (t .columns) (t .top) (getD (t .columns) (t .top + 1) noPlace) ∙ w .most; within = w .within };
-      same = ap (λ (c : List Place). record { tuples = t .tuple; columns = c }) (swap-two (t .columns) (t .top) (omega (arith, h, w .most)));
-    }
 
 -- ---- roll
 
@@ -100,7 +77,7 @@ drop-take (suc k) (suc m) (x ∷ l) h = drop-take k m l (omega (arith, h)) ∙ a
     one-less : (m k : ℕ) → m - k ≡ suc m - suc k
     one-less m k = omega arith
 
-roll-columns : (c : List Place) (top m k : ℕ) → length c ≡ 64 → top + m ≤ 64 → k ≤ m
+pub roll-columns : (c : List Place) (top m k : ℕ) → length c ≡ 64 → top + m ≤ 64 → k ≤ m
     → drop top (paste (paste c top (drop (top + k) c) (m - k)) (top + (m - k)) (drop top c) k) ≡ rolled m k (drop top c)
 unfolding turnedTop
 roll-columns c top m k e room h =
@@ -132,32 +109,9 @@ pub turns-none : {m n : ℕ} → n < m → Turns m n n
 turns-none {m} {n} h = record { below = h; alike = rw (lt-leb m n h) refl }
 
 -- a whole turn more comes to the same
-turned-alike : (m n k : ℕ) (l : List Place) → m ≤ length l → Turns m n k → rolled m n l ≡ rolled m k l
+pub turned-alike : (m n k : ℕ) (l : List Place) → m ≤ length l → Turns m n k → rolled m n l ≡ rolled m k l
 turned-alike m n k l b t = go (leb m n) refl ∙ ap (λ (j : ℕ). rolled m j l) (sym (t .alike))
   where
     go : (over : Bool) → leb m n ≡ over → rolled m n l ≡ rolled m (cond over (n - m) n) l
     go true e = rolled-again m n l (leb→le m n (subst T (sym e) tt)) b
     go false e = refl
-
-pub roll-so : (t : Traced) (m n k : ℕ) (others all : List Place) → Whole t → t .top + m ≤ 64 → Turns m n k
-    → others ≡ paste (t .columns) (t .top) (drop (t .top + k) (t .columns)) (m - k)
-    → all ≡ paste others (t .top + (m - k)) (drop (t .top) (t .columns)) k
-    → Moved (rolls m n) t (record { tuple = t .tuple; columns = all; top = t .top })
-unfolding moved machine
-roll-so t m n k others all w room turn o a =
-    let h : k ≤ m = omega (arith, turn .below) in
-    let same = turned-alike m n k (drop (t .top) (t .columns)) (rw (length-drop, w .most) (omega (arith, room))) turn in
-    let c = t .columns in
-    let top = t .top in
-    let one : length others ≡ 64 =
-    ap length o ∙ length-paste c top (drop (top + k) c) (m - k) (omega (arith, room, w .most)) (rw (length-drop, w .most) (omega (arith, room, h))) ∙ w .most in
-    record {
-      whole = record {
-        four = w .four;
-        most = ap length a ∙ length-paste others (top + (m - k)) (drop top c) k (omega (arith, one, room, h)) (rw (length-drop, w .most) (omega (arith, room, h))) ∙ one;
-        within = w .within;
-      };
-      same =
-          ap (λ (x : List Place). record { tuples = t .tuple; columns = x })
-          (ap (drop top) (a ∙ ap (λ (x : List Place). paste x (top + (m - k)) (drop top c) k) o) ∙ roll-columns c top m k (w .most) room h ∙ sym same);
-    }

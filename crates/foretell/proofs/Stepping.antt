@@ -1,8 +1,8 @@
 -- One step: what each act needs, out of what the check has found.
-use mathlib.Core.Path.{_≡_, refl, sym, ap, _∙_, subst}
-use Prim.Native.Nat.{ℕ, suc, _+_, _-_, _*_, _≤_, _<_}
+use mathlib.Core.Path.{_≡_, refl, sym, _∙_, subst}
+use Prim.Native.Nat.{ℕ, _+_, _*_, _≤_, _<_, _-_}
 use mathlib.Core.Bool.{Bool, true, _&&_, not}
-use mathlib.Core.List.{List, [], _∷_}
+use mathlib.Core.List.{List}
 use native.Mathlib.Nat.{le-trans}
 use native.Mathlib.Omega.{arith}
 use borrow.Author.Tests.{le-leb}
@@ -16,13 +16,11 @@ use Rattle.rules.specs.Decimal.{minus}
 use Rattle.rules.specs.Record.{size, isPlace, isOrder}
 use Rattle.rules.specs.Act.{places, pops, popsAll, drops, adapts}
 use Rattle.rules.specs.Columns.{takes, moved}
-use Rattle.rules.specs.Check.{onPlaces}
 use Rattle.steplaws.specs.Depth.{grown}
 use Rattle.steplaws.specs.Tests.{all-so}
 use Rattle.acts.specs.declared.Act.the-variants.{Pushes, Pops, PopsAll, Flips, Rolls, Orders}
 use Rattle.acts.specs.Doings.{does, able}
-use Rattle.foretell.specs.declared.Traced.{Traced}
-use Rattle.foretell.specs.Traces.{machine, depth, isAxis, Whole, Moved, Ready}
+use Rattle.foretell.specs.Traces.{Traced, machine, depth, isAxis, Whole, Moved, Ready}
 use Rattle.foretell.proofs.Tracing.{places-length}
 
 so : {b : Bool} → b ≡ true → T b

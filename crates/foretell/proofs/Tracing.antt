@@ -1,7 +1,7 @@
 -- One place after the other: what the loops over places keep.
 use mathlib.Core.Path.{_≡_, refl, sym, ap, _∙_}
-use Prim.Native.Nat.{ℕ, suc, _+_, _-_, _≤_, _<_}
-use mathlib.Core.List.{List, [], _∷_, _++_}
+use Prim.Native.Nat.{ℕ, suc, _+_, _≤_, _<_, _-_}
+use mathlib.Core.List.{List, [], _∷_}
 use native.Mathlib.Nat.{add-zero, add-assoc}
 use native.Mathlib.Omega.{arith}
 use native.Mathlib.Numerals.{add-one}
@@ -14,8 +14,7 @@ use Rattle.rules.specs.Columns.{Machine, moved, pushed, popped, flipped}
 use Rattle.rules.specs.Check.{noPlace, place, putPlace, onPlaces}
 use Rattle.rules.specs.declared.Place.{Place}
 use Rattle.steplaws.specs.Walk.{pushed-more, popped-more, flipped-more}
-use Rattle.foretell.specs.declared.Traced.{Traced}
-use Rattle.foretell.specs.Traces.{machine, AxisAt, Whole, Moved}
+use Rattle.foretell.specs.Traces.{Traced, machine, AxisAt, Whole, Moved}
 use Rattle.foretell.proofs.Four.{place-is, put-is, places-more}
 
 pub places-length : (l : List ℤ) → length (places l) ≡ length l

@@ -2,6 +2,7 @@
 use mathlib.Core.Path.{_≡_}
 use Prim.Native.Nat.{ℕ, _+_, max}
 use mathlib.Core.Bool.{Bool, false, cond, not, _||_}
+use mathlib.Core.List.{List}
 use lib.ListN.{set, replicate}
 use lib.Dec.{ltb}
 use Rattle.rules.specs.Act.{Act}
@@ -10,14 +11,26 @@ use Rattle.rules.specs.Check.{adapting, noPlace, four, plus}
 use Rattle.steplaws.specs.Depth.{grown}
 use Rattle.foretell.specs.declared.Judged.{Judged}
 use Rattle.foretell.specs.declared.Judged.the-variants.{Few, Many, Goes}
-use Rattle.foretell.specs.declared.Sofar.{Sofar}
-use Rattle.foretell.specs.Traces.{depth, Moved}
+use Rattle.foretell.specs.Traces.{Traced, traced, depth, Moved}
 use Rattle.rules.specs.declared.Foretold.{Foretold}
 use Rattle.rules.specs.declared.Verdict.the-variants.{Passes}
 
 -- too few columns, too many after the act, or so many
 unfoldable pub judged : Act → ℕ → Judged
 judged a depth = cond (tooFew a depth) Few (cond (ltb 64 (grown a depth)) Many (Goes (grown a depth)))
+
+-- what the steps so far have come to: the places, how many ran, the depth after each, the deepest, and whether an
+-- `adapt` step ran
+pub record Sofar : Type 0 where
+  pub traced : Traced
+  pub run : ℕ
+  pub depths : List ℕ
+  pub deepest : ℕ
+  pub adapts : Bool
+
+abbrev pub sofar : List ℕ → List ℕ → ℕ → ℕ → List ℕ → ℕ → Bool → Sofar
+sofar tuple columns top run depths deepest adapts =
+    record { traced = traced tuple columns top; run = run; depths = depths; deepest = deepest; adapts = adapts }
 
 -- before the first step
 pub record Begun (c : Sofar) : Type 0 where

@@ -14,27 +14,22 @@ use rules::Place;
 use rules::Table;
 use rules::Verdict;
 ghost use mathlib.Core.Path.{_≡_};
-ghost use mathlib.Core.Bool.{true, false, _||_};
+ghost use mathlib.Core.Bool.{true, false, cond, not, _||_};
 ghost use mathlib.Core.Option.{none};
 ghost use Prim.Native.Nat.{_+_, _*_, _≤_, _<_, max};
-ghost use lib.ListN.{length, take, drop};
-ghost use lib.Seq.{paste};
+ghost use lib.ListN.{length, take, replicate};
 ghost use Rattle.rules.specs.Lists.{all};
 ghost use Rattle.rules.specs.Record.{refusal18, listed};
-ghost use Rattle.rules.specs.Act.{places, pushes, pops, popsAll, flips, rolls, swaps, orders, running};
-ghost use Rattle.rules.specs.Check.{turnPlace, adapting, only, checked, Checks};
-ghost use Rattle.foretell.specs.Traces.{isAxis, AxisAt, Whole, Moved, Turns, Ordered, Ready};
-ghost use Rattle.foretell.specs.Steps.{judged, Begun, Went, toldOf};
-ghost use Rattle.rules.specs.Columns.{takes};
+ghost use Rattle.rules.specs.Act.{places, pushes, pops, flips, running};
+ghost use Rattle.rules.specs.Check.{noPlace, turnPlace, adapting, only, checked, Checks};
+ghost use Rattle.foretell.specs.Traces.{placeOf, placesOf, traced, isAxis, AxisAt, Whole, Moved, Turned, Turns, Pasted, Ordered, Ready};
+ghost use Rattle.foretell.specs.Steps.{judged};
+ghost use Rattle.rules.specs.Columns.{takes, rolled, swappedTop};
 ghost use Rattle.steplaws.specs.Depth.{grown};
 ghost use Rattle.acts.specs.Doings.{doing};
 
-// Four places, and up to 64 columns of them: the top one at `top`, the others behind it, to the end of the array.
-pub struct Traced {
-    pub tuple: [Place; 4],
-    pub columns: [Place; 64],
-    pub top: usize,
-}
+// A place is held as one number: its axis twice, and one more if its sign is turned; 0 for none. There are four places,
+// and up to 64 columns of them: the top one at `top`, the others behind it, to the end of the array.
 
 // The place, counted from 0, that argument i names.
 fn axis_at(l: &[i32], i: usize) -> usize
@@ -46,63 +41,48 @@ fn axis_at(l: &[i32], i: usize) -> usize
 }
 
 // A column for each place, in their order.
-fn push(t: Traced, l: &[i32]) -> Traced
-    requires { ⌜ Whole t ⌝ }
+fn push(tuple: &[u32; 4], columns: &mut [u32; 64], top: usize, l: &[i32]) -> usize
+    requires { ⌜ Whole (traced (now tuple) (now columns) top) ⌝ }
     requires { ⌜ all isAxis (now l) ≡ true ⌝ }
-    requires { ⌜ length (now l) ≤ t .top ⌝ }
-    ensures { λ r. ⌜ Moved (pushes (places (now (l .entry)))) t r ⌝ }
+    requires { ⌜ length (now l) ≤ top ⌝ }
+    ensures { λ r. ⌜ Moved (pushes (places (now (l .entry)))) (traced (now (tuple .entry)) (now (columns .entry)) top) (traced (now (tuple .entry)) (now (columns .exit)) r) ⌝ }
 {
-    let tuple = t.tuple;
-    let mut columns = t.columns;
-    let mut top = t.top;
+    let mut at = top;
     let mut i = 0;
     while i < l.len() {
         let k = axis_at(l, i);
-        top -= 1;
-        columns[top] = tuple[k];
+        at -= 1;
+        columns[at] = tuple[k];
         i += 1;
     }
-    Traced {
-        tuple: tuple,
-        columns: columns,
-        top: top,
-    }
+    at
 }
 
 // A column into each place, in their order.
-fn pop(t: Traced, l: &[i32]) -> Traced
-    requires { ⌜ Whole t ⌝ }
+fn pop(tuple: &mut [u32; 4], columns: &[u32; 64], top: usize, l: &[i32]) -> usize
+    requires { ⌜ Whole (traced (now tuple) (now columns) top) ⌝ }
     requires { ⌜ all isAxis (now l) ≡ true ⌝ }
-    requires { ⌜ t .top + length (now l) ≤ 64 ⌝ }
-    ensures { λ r. ⌜ Moved (pops (places (now (l .entry)))) t r ⌝ }
+    requires { ⌜ top + length (now l) ≤ 64 ⌝ }
+    ensures { λ r. ⌜ Moved (pops (places (now (l .entry)))) (traced (now (tuple .entry)) (now (columns .entry)) top) (traced (now (tuple .exit)) (now (columns .entry)) r) ⌝ }
 {
-    let mut tuple = t.tuple;
-    let columns = t.columns;
-    let mut top = t.top;
+    let mut at = top;
     let mut i = 0;
     while i < l.len() {
         let k = axis_at(l, i);
-        tuple[k] = columns[top];
-        top += 1;
+        tuple[k] = columns[at];
+        at += 1;
         i += 1;
     }
-    Traced {
-        tuple: tuple,
-        columns: columns,
-        top: top,
-    }
+    at
 }
 
 // Each place exchanged with its column, the top one first.
-fn flip(t: Traced, l: &[i32]) -> Traced
-    requires { ⌜ Whole t ⌝ }
+fn flip(tuple: &mut [u32; 4], columns: &mut [u32; 64], top: usize, l: &[i32])
+    requires { ⌜ Whole (traced (now tuple) (now columns) top) ⌝ }
     requires { ⌜ all isAxis (now l) ≡ true ⌝ }
-    requires { ⌜ t .top + length (now l) ≤ 64 ⌝ }
-    ensures { λ r. ⌜ Moved (flips (places (now (l .entry)))) t r ⌝ }
+    requires { ⌜ top + length (now l) ≤ 64 ⌝ }
+    ensures { λ _. ⌜ Moved (flips (places (now (l .entry)))) (traced (now (tuple .entry)) (now (columns .entry)) top) (traced (now (tuple .exit)) (now (columns .exit)) top) ⌝ }
 {
-    let mut tuple = t.tuple;
-    let mut columns = t.columns;
-    let top = t.top;
     let mut i = 0;
     while i < l.len() {
         let k = axis_at(l, i);
@@ -112,50 +92,37 @@ fn flip(t: Traced, l: &[i32]) -> Traced
         columns[at] = p;
         i += 1;
     }
-    Traced {
-        tuple: tuple,
-        columns: columns,
-        top: top,
-    }
 }
 
 // The two top columns exchanged, if there are two.
-fn swap(t: Traced) -> Traced
-    requires { ⌜ Whole t ⌝ }
-    ensures { λ r. ⌜ Moved swaps t r ⌝ }
+fn swap(columns: &mut [u32; 64], top: usize)
+    requires { ⌜ length (now columns) ≡ 64 ⌝ }
+    ensures { λ _. ⌜ Turned swappedTop top (now (columns .entry)) (now (columns .exit)) ⌝ }
 {
-    let top = t.top;
     if 62 < top {
-        return t;
+        return;
     }
-    let tuple = t.tuple;
-    let mut columns = t.columns;
     let next = top + 1;
     let p = columns[top];
     columns[top] = columns[next];
     columns[next] = p;
-    Traced {
-        tuple: tuple,
-        columns: columns,
-        top: top,
-    }
 }
 
 // n columns of `from`, from `start` on, put over those of `into`, from `at` on.
-fn pasted(into: [Place; 64], at: usize, from: [Place; 64], start: usize, n: usize) -> [Place; 64]
+fn paste(into: &mut [u32; 64], at: usize, from: &[u32; 64], start: usize, n: usize)
+    requires { ⌜ length (now into) ≡ 64 ⌝ }
+    requires { ⌜ length (now from) ≡ 64 ⌝ }
     requires { ⌜ at + n ≤ 64 ⌝ }
     requires { ⌜ start + n ≤ 64 ⌝ }
-    ensures { λ r. ⌜ r ≡ paste into at (drop start from) n ⌝ }
+    ensures { λ _. ⌜ Pasted (now (into .entry)) at (now (from .entry)) start n (now (into .exit)) ⌝ }
 {
-    let mut r = into;
     let mut i = 0;
     while i < n {
         let to = at + i;
         let k = start + i;
-        r[to] = from[k];
+        into[to] = from[k];
         i += 1;
     }
-    r
 }
 
 // How many times n turns of m come to, below m.
@@ -170,95 +137,77 @@ fn turns(m: usize, n: usize) -> usize
 }
 
 // The top column goes under the top m, n times: the first n of them go behind the others.
-fn roll(t: Traced, m: usize, n: usize) -> Traced
-    requires { ⌜ Whole t ⌝ }
-    requires { ⌜ t .top + m ≤ 64 ⌝ }
+fn roll(columns: &mut [u32; 64], top: usize, m: usize, n: usize)
+    requires { ⌜ length (now columns) ≡ 64 ⌝ }
+    requires { ⌜ top + m ≤ 64 ⌝ }
     requires { ⌜ n < 2 * m ⌝ }
-    ensures { λ r. ⌜ Moved (rolls m n) t r ⌝ }
+    ensures { λ _. ⌜ Turned (rolled m n) top (now (columns .entry)) (now (columns .exit)) ⌝ }
 {
     let k = turns(m, n);
-    let top = t.top;
-    let tuple = t.tuple;
-    let columns = t.columns;
-    let others = pasted(columns, top, columns, top + k, m - k);
-    let all = pasted(others, top + (m - k), columns, top, k);
-    Traced {
-        tuple: tuple,
-        columns: all,
-        top: top,
-    }
+    let from = *columns;
+    paste(columns, top, &from, top + k, m - k);
+    paste(columns, top + (m - k), &from, top, k);
 }
 
 // A place with its sign turned, or kept.
-fn turned(minus: bool, p: Place) -> Place
-    ensures { λ r. ⌜ r ≡ turnPlace minus p ⌝ }
+fn turned(minus: bool, p: u32) -> u32
+    ensures { λ r. ⌜ placeOf r ≡ turnPlace minus (placeOf p) ⌝ }
 {
-    if minus {
-        return Place {
-            axis: p.axis,
-            minus: !p.minus,
-        };
+    if !minus {
+        return p;
     }
-    p
+    if p % 2 == 0 {
+        return p + 1;
+    }
+    p - 1
 }
 
 // axisswap forward: output i is the place that the order names, with its sign.
-fn ordered(tuple: [Place; 4], l: &[i32]) -> [Place; 4]
+fn ordered(tuple: &mut [u32; 4], l: &[i32])
+    requires { ⌜ length (now tuple) ≡ 4 ⌝ }
     requires { ⌜ all isAxis (now l) ≡ true ⌝ }
     requires { ⌜ length (now l) ≤ 4 ⌝ }
-    ensures { λ r. ⌜ Ordered false (now (l .entry)) tuple r ⌝ }
+    ensures { λ _. ⌜ Ordered false (now (l .entry)) (placesOf (now (tuple .entry))) (placesOf (now (tuple .exit))) ⌝ }
 {
-    let mut out = tuple;
+    let from = *tuple;
     let mut i = 0;
     while i < l.len() {
         let k = axis_at(l, i);
-        let p = tuple[k];
-        out[i] = turned(minus_at(l, i), p);
+        let p = from[k];
+        tuple[i] = turned(minus_at(l, i), p);
         i += 1;
     }
-    out
 }
 
 // axisswap back: input i goes to the place that the order names, with its sign.
-fn unordered(tuple: [Place; 4], l: &[i32]) -> [Place; 4]
+fn unordered(tuple: &mut [u32; 4], l: &[i32])
+    requires { ⌜ length (now tuple) ≡ 4 ⌝ }
     requires { ⌜ all isAxis (now l) ≡ true ⌝ }
     requires { ⌜ length (now l) ≤ 4 ⌝ }
-    ensures { λ r. ⌜ Ordered true (now (l .entry)) tuple r ⌝ }
+    ensures { λ _. ⌜ Ordered true (now (l .entry)) (placesOf (now (tuple .entry))) (placesOf (now (tuple .exit))) ⌝ }
 {
-    let mut out = tuple;
+    let from = *tuple;
     let mut i = 0;
     while i < l.len() {
         let k = axis_at(l, i);
-        let p = tuple[i];
-        out[k] = turned(minus_at(l, i), p);
+        let p = from[i];
+        tuple[k] = turned(minus_at(l, i), p);
         i += 1;
     }
-    out
 }
 
 // axisswap, forward or back.
-fn order(t: Traced, back: bool, l: &[i32]) -> Traced
-    requires { ⌜ Whole t ⌝ }
+fn order(tuple: &mut [u32; 4], back: bool, l: &[i32])
+    requires { ⌜ length (now tuple) ≡ 4 ⌝ }
     requires { ⌜ all isAxis (now l) ≡ true ⌝ }
     requires { ⌜ length (now l) ≤ 4 ⌝ }
-    ensures { λ r. ⌜ Moved (orders back (now (l .entry))) t r ⌝ }
+    ensures { λ _. ⌜ Ordered back (now (l .entry)) (placesOf (now (tuple .entry))) (placesOf (now (tuple .exit))) ⌝ }
 {
-    let tuple = t.tuple;
-    let columns = t.columns;
     if back {
-        let out = unordered(tuple, l);
-        return Traced {
-            tuple: out,
-            columns: columns,
-            top: t.top,
-        };
+        unordered(tuple, l);
+        return;
     }
-    let out = ordered(tuple, l);
-    Traced {
-        tuple: out,
-        columns: columns,
-        top: t.top,
-    }
+    ordered(tuple, l);
 }
 
 // How many columns the act takes.
@@ -301,25 +250,37 @@ fn grown(d: Doing, depth: usize) -> usize
     }
 }
 
-// One step: the act, which finds enough columns, and room. Adapt moves no place.
-fn step(t: Traced, d: Doing) -> Traced
-    requires { ⌜ Ready t (d .act) (take (d .n) (d .args)) ⌝ }
+// One step: the act, which finds enough columns, and room; and where the top is then. Adapt moves no place.
+fn step(tuple: &mut [u32; 4], columns: &mut [u32; 64], top: usize, d: Doing) -> usize
+    requires { ⌜ Ready (traced (now tuple) (now columns) top) (d .act) (take (d .n) (d .args)) ⌝ }
     requires { ⌜ d .n ≤ 8 ⌝ }
-    ensures { λ r. ⌜ Moved (doing d) t r ⌝ }
+    ensures { λ r. ⌜ Moved (doing d) (traced (now (tuple .entry)) (now (columns .entry)) top) (traced (now (tuple .exit)) (now (columns .exit)) r) ⌝ }
 {
     let act = d.act;
     let args = d.args;
     let n = d.n;
     match act {
-        Act::Pushes => push(t, &args[..n]),
-        Act::Pops => pop(t, &args[..n]),
-        Act::PopsAll => pop(t, &args[..n]),
-        Act::Flips => flip(t, &args[..n]),
-        Act::Rolls { m, n: times } => roll(t, m, times),
-        Act::Swaps => swap(t),
-        Act::Drops => t,
-        Act::Orders { back } => order(t, back, &args[..n]),
-        Act::Adapts { back } => t,
+        Act::Pushes => push(tuple, columns, top, &args[..n]),
+        Act::Pops => pop(tuple, columns, top, &args[..n]),
+        Act::PopsAll => pop(tuple, columns, top, &args[..n]),
+        Act::Flips => {
+            flip(tuple, columns, top, &args[..n]);
+            top
+        }
+        Act::Rolls { m, n: times } => {
+            roll(columns, top, m, times);
+            top
+        }
+        Act::Swaps => {
+            swap(columns, top);
+            top
+        }
+        Act::Drops => top,
+        Act::Orders { back } => {
+            order(tuple, back, &args[..n]);
+            top
+        }
+        Act::Adapts { back } => top,
     }
 }
 
@@ -363,55 +324,6 @@ fn is_adapting(d: Doing) -> bool
     }
 }
 
-// What the steps so far have come to: the places, the depth after each, the deepest, and whether an `adapt` step ran.
-struct Sofar {
-    traced: Traced,
-    run: usize,
-    depths: [usize; 64],
-    deepest: usize,
-    adapts: bool,
-}
-
-fn begin() -> Sofar
-    ensures { λ r. ⌜ Begun r ⌝ }
-{
-    let a = Place {
-        axis: 1,
-        minus: false,
-    };
-    let b = Place {
-        axis: 2,
-        minus: false,
-    };
-    let c = Place {
-        axis: 3,
-        minus: false,
-    };
-    let d = Place {
-        axis: 4,
-        minus: false,
-    };
-    let tuple = [a, b, c, d];
-    let none = Place {
-        axis: 0,
-        minus: false,
-    };
-    let columns = [none; 64];
-    let depths = [0; 64];
-    let traced = Traced {
-        tuple: tuple,
-        columns: columns,
-        top: 64,
-    };
-    Sofar {
-        traced: traced,
-        run: 0,
-        depths: depths,
-        deepest: 0,
-        adapts: false,
-    }
-}
-
 // The deeper of two.
 fn deeper(a: usize, b: usize) -> usize
     ensures { λ r. ⌜ r ≡ max a b ⌝ }
@@ -429,29 +341,6 @@ fn either(a: bool, b: bool) -> bool
         return true;
     }
     b
-}
-
-// One step more, after which there are `depth` columns.
-fn go_on(c: Sofar, d: Doing, depth: usize) -> Sofar
-    requires { ⌜ Ready (c .traced) (d .act) (take (d .n) (d .args)) ⌝ }
-    requires { ⌜ d .n ≤ 8 ⌝ }
-    requires { ⌜ c .run < 64 ⌝ }
-    ensures { λ r. ⌜ Went (doing d) depth c r ⌝ }
-{
-    let at = c.run;
-    let mut depths = c.depths;
-    depths[at] = depth;
-    let before = c.traced;
-    let traced = step(before, d);
-    let deepest = deeper(c.deepest, depth);
-    let adapts = either(c.adapts, is_adapting(d));
-    Sofar {
-        traced: traced,
-        run: at + 1,
-        depths: depths,
-        deepest: deepest,
-        adapts: adapts,
-    }
 }
 
 // An answer that tells no more than its verdict.
@@ -475,40 +364,34 @@ fn only(verdict: Verdict) -> Foretold
     }
 }
 
-// What a pass foretells.
-fn told(c: Sofar) -> Foretold
-    requires { ⌜ Whole (c .traced) ⌝ }
-    ensures { λ r. ⌜ r ≡ toldOf c ⌝ }
+// The place that a number holds.
+fn place_of(p: u32) -> Place
+    ensures { λ r. ⌜ r ≡ placeOf p ⌝ }
 {
-    let depths = c.depths;
-    let traced = c.traced;
-    let left = 64 - traced.top;
-    if c.adapts {
-        let none = Place {
-            axis: 0,
-            minus: false,
-        };
-        let places = [none; 4];
-        return Foretold {
-            verdict: Verdict::Passes,
-            run: c.run,
-            depths: depths,
-            deepest: c.deepest,
-            left: left,
-            told: false,
-            places: places,
-        };
+    Place {
+        axis: p / 2,
+        minus: p % 2 == 1,
     }
-    let places = traced.tuple;
-    Foretold {
-        verdict: Verdict::Passes,
-        run: c.run,
-        depths: depths,
-        deepest: c.deepest,
-        left: left,
-        told: true,
-        places: places,
+}
+
+fn places_of(tuple: [u32; 4]) -> [Place; 4]
+    ensures { λ r. ⌜ r ≡ placesOf tuple ⌝ }
+{
+    let a = place_of(tuple[0]);
+    let b = place_of(tuple[1]);
+    let c = place_of(tuple[2]);
+    let d = place_of(tuple[3]);
+    [a, b, c, d]
+}
+
+// The places that are told, if no `adapt` step ran.
+fn told_places(tuple: [u32; 4], adapts: bool) -> [Place; 4]
+    ensures { λ r. ⌜ r ≡ cond (not adapts) (placesOf tuple) (replicate 4 noPlace) ⌝ }
+{
+    if adapts {
+        return places_of([0; 4]);
     }
+    places_of(tuple)
 }
 
 // The check of records that preparations make.
@@ -517,7 +400,13 @@ fn checked(table: Table, direction: Direction) -> Foretold
     ensures { λ r. ⌜ r ≡ checked none (running direction (listed table)) ⌝ }
 {
     let n = table.n;
-    let mut c = begin();
+    let mut tuple = [2, 4, 6, 8];
+    let mut columns = [0; 64];
+    let mut top = 64;
+    let mut depths = [0; 64];
+    let mut run = 0;
+    let mut deepest = 0;
+    let mut adapts = false;
     let mut k = 0;
     while k < n {
         let i = visited_of(direction, k, n);
@@ -525,7 +414,7 @@ fn checked(table: Table, direction: Direction) -> Foretold
         k += 1;
         if !is_omitted(s, direction) {
             let d = act_of(s, direction);
-            let judged = judge(d, 64 - c.traced.top);
+            let judged = judge(d, 64 - top);
             match judged {
                 Judged::Few => {
                     return only(Verdict::TooFew(i + 1));
@@ -534,12 +423,25 @@ fn checked(table: Table, direction: Direction) -> Foretold
                     return only(Verdict::TooMany(i + 1));
                 }
                 Judged::Goes(after) => {
-                    c = go_on(c, d, after);
+                    top = step(&mut tuple, &mut columns, top, d);
+                    depths[run] = after;
+                    run += 1;
+                    deepest = deeper(deepest, after);
+                    adapts = either(adapts, is_adapting(d));
                 }
             }
         }
     }
-    told(c)
+    let places = told_places(tuple, adapts);
+    Foretold {
+        verdict: Verdict::Passes,
+        run: run,
+        depths: depths,
+        deepest: deepest,
+        left: 64 - top,
+        told: !adapts,
+        places: places,
+    }
 }
 
 // Says of a step table and a direction, without any data: passes, and what it foretells; or the first step at fault.

@@ -1,6 +1,5 @@
 use mathlib.Core.Path.{refl}
 use Rattle.rules.specs.Check.{only}
-use borrow.Author.Needs.{needs}
 use Rattle.foretell.proofs.only.Statement.{statement}
 use Rattle.foretell.proofs.only.Tie as tie
 

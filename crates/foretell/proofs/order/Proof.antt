@@ -1,4 +1,3 @@
-use Rattle.foretell.proofs.Ordering.{order-so}
 use borrow.Author.Needs.{needs}
 use Rattle.foretell.proofs.order.Statement.{statement}
 use Rattle.foretell.proofs.order.Tie as tie
@@ -7,13 +6,13 @@ unordered-requires : tie.Need-unordered-requires
 unordered-requires c κs = search needs
 
 returns : tie.Need-returns
-returns c = rw (c .before .if1 .taken) (order-so (c .before .before .before .before .pre .0) (c .unordered .ensures))
+returns c = rw (c .before .before .if1 .taken) (c .unordered .ensures)
 
 ordered-requires : tie.Need-ordered-requires
 ordered-requires c κs = search needs
 
 returns-2 : tie.Need-returns-2
-returns-2 c = rw (c .before .if1 .left) (order-so (c .before .before .before .before .pre .0) (c .ordered .ensures))
+returns-2 c = rw (c .before .before .if1 .left) (c .ordered .ensures)
 
 pub order-spec : {M : Type 1} → statement M
 order-spec = tie.close (tie.spec unordered-requires returns ordered-requires returns-2)

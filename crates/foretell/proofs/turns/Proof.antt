@@ -1,5 +1,4 @@
 use Rattle.foretell.proofs.Stacking.{turns-over, turns-none}
-use borrow.Author.Needs.{needs}
 use Rattle.foretell.proofs.turns.Statement.{statement}
 use Rattle.foretell.proofs.turns.Tie as tie
 

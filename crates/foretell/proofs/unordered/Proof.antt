@@ -1,18 +1,22 @@
 use Prim.Native.Nat.{_-_}
+use mathlib.Core.Path.{_∙_}
 use lib.ListN.{length}
-use Rattle.foretell.proofs.Ordering.{Unswapping, unswap-none, unswap-next, unswap-all}
+use Rattle.foretell.specs.Traces.{placesOf}
+use Rattle.foretell.proofs.Codes.{many}
+use Rattle.foretell.proofs.Ordering.{Unswapping, unswap-none, unswap-all}
+use Rattle.foretell.proofs.Coding.{unswaps-next}
 use borrow.Author.Needs.{needs}
 use Rattle.foretell.proofs.unordered.Statement.{statement}
 use Rattle.foretell.proofs.unordered.Tie as tie
 
 abbrev Inv-loop : tie.InvT-loop
-Inv-loop l tuple out₀ i₀ out i = Unswapping l tuple out i
+Inv-loop tuple₀ l from i₀ tuple i = Unswapping l (placesOf from) (placesOf tuple) i
 
 abbrev μ-loop : tie.MeasureT-loop
-μ-loop l tuple out₀ i₀ out i = length l - i
+μ-loop tuple₀ l from i₀ tuple i = length l - i
 
 loop-holds : tie.Need-loop-holds Inv-loop μ-loop
-loop-holds c = unswap-none _ _ (c .good .0 .1 .0 .1)
+loop-holds c = unswap-none _ _ (many _ ∙ c .before .pre .0)
 
 axis-at-requires : tie.Need-axis-at-requires Inv-loop μ-loop
 axis-at-requires c κs = search needs
@@ -20,8 +24,8 @@ axis-at-requires c κs = search needs
 mul-p : tie.Need-mul-p Inv-loop μ-loop
 mul-p c = search needs
 
-array-copy-out-p : tie.Need-array-copy-out-p Inv-loop μ-loop
-array-copy-out-p c = search needs
+array-read-p : tie.Need-array-read-p Inv-loop μ-loop
+array-read-p c = search needs
 
 minus-at-requires : tie.Need-minus-at-requires Inv-loop μ-loop
 minus-at-requires c κs = search needs
@@ -29,11 +33,11 @@ minus-at-requires c κs = search needs
 turned-requires : tie.Need-turned-requires Inv-loop μ-loop
 turned-requires c κs = search needs
 
-mul-out : tie.Need-mul-out Inv-loop μ-loop
-mul-out c = search needs
+mul-tuple : tie.Need-mul-tuple Inv-loop μ-loop
+mul-tuple c = search needs
 
-array-set-from-out : tie.Need-array-set-from-out Inv-loop μ-loop
-array-set-from-out c = search needs
+element-write-tuple : tie.Need-element-write-tuple Inv-loop μ-loop
+element-write-tuple c = search needs
 
 add-i : tie.Need-add-i Inv-loop μ-loop
 add-i c = search needs
@@ -42,7 +46,7 @@ loop-less : tie.Need-loop-less Inv-loop μ-loop
 loop-less c = search needs
 
 loop-again : tie.Need-loop-again Inv-loop μ-loop
-loop-again c = unswap-next (c .before .before .before .before .loop-test .taken) (c .before .before .before .before .before .before .pre .1) (c .before .before .before .axis-at .ensures) (c .before .minus-at .ensures) (c .before .before .before .before .before .loop .inv) (c .turned .ensures)
+loop-again c = unswaps-next _ _ _ _ (c .before .before .before .loop-test .taken) (c .before .before .before .before .before .before .pre .1 .1) (c .before .before .axis-at .ensures) (c .before .minus-at .ensures) (c .before .before .before .before .loop .inv) (c .turned .ensures)
 
 returns : tie.Need-returns Inv-loop μ-loop
 returns c = unswap-all (c .before .loop .inv) (c .loop-test .left)
@@ -56,11 +60,11 @@ unordered-spec =
     loop-holds
     axis-at-requires
     mul-p
-    array-copy-out-p
+    array-read-p
     minus-at-requires
     turned-requires
-    mul-out
-    array-set-from-out
+    mul-tuple
+    element-write-tuple
     add-i
     loop-less
     loop-again

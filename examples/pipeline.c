@@ -1,0 +1,73 @@
+/* Prepares, checks and runs definitions through the library.
+ *
+ *     pipeline            reads one definition from standard input and says what becomes of it, and of the tuple 1,2,3,4
+ *     pipeline -x         the same for each line of standard input, which holds a definition in hexadecimal digits
+ *
+ * examples/run builds it.
+ */
+#include <stdio.h>
+#include <string.h>
+
+#include "sakondreno.h"
+
+static void say_check(const char *direction, const sakondreno_step *table, size_t steps, uint8_t inverse)
+{
+    sakondreno_checked c = sakondreno_check(table, steps, inverse);
+    printf("%s: ", direction);
+    if (c.said.number == 0) {
+        printf("deepest %zu left %zu", c.deepest, c.left);
+        for (int i = 0; c.told && i < 4; i++)
+            printf("%s%s%u", i == 0 ? " places " : ",", c.places[i].minus ? "-" : "", (unsigned)c.places[i].axis);
+        printf("\n");
+    } else if (c.said.number == SAKONDRENO_RECORD) {
+        printf("refused 18 %zu\n", c.said.place);
+    } else {
+        printf("step %zu too %s\n", c.said.place, c.said.number == 1 ? "few" : "many");
+    }
+}
+
+static void say_run(const char *direction, const sakondreno_step *table, size_t steps, uint8_t inverse)
+{
+    double tuple[4] = {1, 2, 3, 4}, store[64];
+    sakondreno_done d = sakondreno_run(table, steps, inverse, tuple, 4, store, 64);
+    if (d.number != 0)
+        printf("%s: refused %u %zu\n", direction, d.number, d.place);
+    else
+        printf("%s: %.17g,%.17g,%.17g,%.17g count %zu left %zu\n", direction, tuple[0], tuple[1], tuple[2], tuple[3], d.count, d.left);
+}
+
+static void say(const uint8_t *text, size_t length)
+{
+    sakondreno_step table[64];
+    sakondreno_answer p = sakondreno_prepare(text, length, table, 64);
+    if (p.number != 0) {
+        printf("refused %u %zu\n", p.number, p.place);
+        return;
+    }
+    printf("steps %zu\n", p.length);
+    say_check("check forward", table, p.length, 0);
+    say_check("check inverse", table, p.length, 1);
+    say_run("run forward", table, p.length, 0);
+    say_run("run inverse", table, p.length, 1);
+}
+
+static int digit(int c)
+{
+    return c <= '9' ? c - '0' : (c | 32) - 'a' + 10;
+}
+
+int main(int argc, char **argv)
+{
+    static uint8_t text[65536], line[131075];
+    if (argc < 2 || strcmp(argv[1], "-x") != 0) {
+        say(text, fread(text, 1, sizeof text, stdin));
+        return 0;
+    }
+    while (fgets((char *)line, sizeof line, stdin)) {
+        size_t n = strcspn((char *)line, "\n") / 2;
+        for (size_t i = 0; i < n; i++)
+            text[i] = (uint8_t)(digit(line[2 * i]) << 4 | digit(line[2 * i + 1]));
+        say(text, n);
+    }
+    return 0;
+}

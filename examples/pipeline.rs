@@ -1,0 +1,154 @@
+//! Prepares, checks and runs definitions through the library: the same as pipeline.c, from Rust.
+//!
+//!     pipeline            reads one definition from standard input and says what becomes of it, and of the tuple 1,2,3,4
+//!     pipeline -x         the same for each line of standard input, which holds a definition in hexadecimal digits
+//!
+//! examples/run builds it. `mod sakondreno` is what a Rust program needs of the library: the records and the calls, each in
+//! a safe wrapper. The calls keep no reference, write only to what they are lent, and end on every input.
+
+mod sakondreno {
+    #[repr(C)]
+    #[derive(Clone, Copy, Default)]
+    pub struct Step {
+        pub operator: u8,
+        pub args: [i32; 8],
+        pub n: usize,
+        pub inv: u8,
+        pub omit_fwd: u8,
+        pub omit_inv: u8,
+    }
+
+    #[repr(C)]
+    struct Answer {
+        number: u8,
+        place: usize,
+        length: usize,
+    }
+
+    #[repr(C)]
+    #[derive(Clone, Copy)]
+    pub struct Place {
+        pub axis: u32,
+        pub minus: bool,
+    }
+
+    #[repr(C)]
+    pub struct Said {
+        pub number: u8,
+        pub place: usize,
+    }
+
+    #[repr(C)]
+    pub struct Checked {
+        pub said: Said,
+        pub run: usize,
+        pub depths: [usize; 64],
+        pub deepest: usize,
+        pub left: usize,
+        pub told: bool,
+        pub places: [Place; 4],
+    }
+
+    #[repr(C)]
+    struct Done {
+        number: u8,
+        place: usize,
+        count: usize,
+        left: usize,
+    }
+
+    /// A refusal: its number and its place.
+    pub struct Refused {
+        pub number: u8,
+        pub place: usize,
+    }
+
+    unsafe extern "C" {
+        fn sakondreno_prepare(text: *const u8, length: usize, table: *mut Step, room: usize) -> Answer;
+        fn sakondreno_check(table: *const Step, steps: usize, inverse: u8) -> Checked;
+        fn sakondreno_run(table: *const Step, steps: usize, inverse: u8, tuples: *mut f64, numbers: usize, store: *mut f64, room: usize) -> Done;
+    }
+
+    /// The records of a definition.
+    pub fn prepare(text: &[u8]) -> Result<Vec<Step>, Refused> {
+        let mut table = vec![Step::default(); 64];
+        let a = unsafe { sakondreno_prepare(text.as_ptr(), text.len(), table.as_mut_ptr(), table.len()) };
+        if a.number != 0 {
+            return Err(Refused { number: a.number, place: a.place });
+        }
+        table.truncate(a.length);
+        Ok(table)
+    }
+
+    /// What a run will do.
+    pub fn check(table: &[Step], inverse: bool) -> Checked {
+        unsafe { sakondreno_check(table.as_ptr(), table.len(), inverse as u8) }
+    }
+
+    /// Runs the steps over tuples, in place: the success count and the columns left.
+    pub fn run(table: &[Step], inverse: bool, tuples: &mut [f64], store: &mut [f64]) -> Result<(usize, usize), Refused> {
+        let d = unsafe { sakondreno_run(table.as_ptr(), table.len(), inverse as u8, tuples.as_mut_ptr(), tuples.len(), store.as_mut_ptr(), store.len()) };
+        if d.number != 0 {
+            return Err(Refused { number: d.number, place: d.place });
+        }
+        Ok((d.count, d.left))
+    }
+}
+
+use sakondreno::{Step, check, prepare, run};
+use std::io::{BufRead, Read, Write};
+
+fn say_check(out: &mut impl Write, direction: &str, table: &[Step], inverse: bool) -> std::io::Result<()> {
+    let c = check(table, inverse);
+    write!(out, "{direction}: ")?;
+    match c.said.number {
+        0 => {
+            write!(out, "deepest {} left {}", c.deepest, c.left)?;
+            if c.told {
+                let places: Vec<String> = c.places.iter().map(|p| format!("{}{}", if p.minus { "-" } else { "" }, p.axis)).collect();
+                write!(out, " places {}", places.join(","))?;
+            }
+            writeln!(out)
+        }
+        18 => writeln!(out, "refused 18 {}", c.said.place),
+        n => writeln!(out, "step {} too {}", c.said.place, if n == 1 { "few" } else { "many" }),
+    }
+}
+
+fn say_run(out: &mut impl Write, direction: &str, table: &[Step], inverse: bool) -> std::io::Result<()> {
+    let (mut tuple, mut store) = ([1.0, 2.0, 3.0, 4.0], [0.0; 64]);
+    match run(table, inverse, &mut tuple, &mut store) {
+        Err(r) => writeln!(out, "{direction}: refused {} {}", r.number, r.place),
+        Ok((count, left)) => {
+            let numbers: Vec<String> = tuple.iter().map(|x| x.to_string()).collect();
+            writeln!(out, "{direction}: {} count {count} left {left}", numbers.join(","))
+        }
+    }
+}
+
+fn say(out: &mut impl Write, text: &[u8]) -> std::io::Result<()> {
+    let table = match prepare(text) {
+        Err(r) => return writeln!(out, "refused {} {}", r.number, r.place),
+        Ok(table) => table,
+    };
+    writeln!(out, "steps {}", table.len())?;
+    say_check(out, "check forward", &table, false)?;
+    say_check(out, "check inverse", &table, true)?;
+    say_run(out, "run forward", &table, false)?;
+    say_run(out, "run inverse", &table, true)
+}
+
+fn main() -> std::io::Result<()> {
+    let mut out = std::io::BufWriter::new(std::io::stdout().lock());
+    if std::env::args().nth(1).as_deref() != Some("-x") {
+        let mut text = Vec::new();
+        std::io::stdin().read_to_end(&mut text)?;
+        return say(&mut out, &text);
+    }
+    for line in std::io::stdin().lock().lines() {
+        let line = line?;
+        let text: Vec<u8> = line.as_bytes().chunks_exact(2).map(|d| u8::from_str_radix(std::str::from_utf8(d).unwrap(), 16).unwrap()).collect();
+        say(&mut out, &text)?;
+    }
+    Ok(())
+}

@@ -1,0 +1,146 @@
+/* Sakondreno: coordinate pipelines, read, checked and run.
+ *
+ * Link with libsakondreno.a (`rt staticlib sakondreno` makes it in target/staticlib; for x86-64).
+ *
+ * WHO OWNS WHAT. Every call works in storage that the caller lends for the length of the call: it keeps no pointer and
+ * allocates nothing. A pointer must be valid for the length given behind it, and what a call writes to must not overlap
+ * anything else that it is lent. A length may be 0; the pointer must not be null even then.
+ *
+ * ANSWERS AND REFUSALS. Every call ends, on every input. It answers, or it refuses with a number from the list below and a
+ * place; then all that it was lent is as it was at the call. An answer writes nothing past its own end. A place is that of the
+ * faulty step or record, counted from 1, or 0 where none is at fault.
+ *
+ * TEXTS are bytes, without a zero at the end: ASCII and the ten subscript digits, at most 4,096 bytes.
+ */
+#ifndef SAKONDRENO_H
+#define SAKONDRENO_H
+
+#include <stdbool.h>
+#include <stddef.h>
+#include <stdint.h>
+
+#ifdef __cplusplus
+extern "C" {
+#endif
+
+/* ---- the numbers of refusals */
+enum {
+    SAKONDRENO_LONG = 1,       /* a text, or in preparing one step's text, is over 4,096 bytes */
+    SAKONDRENO_DOMAIN = 2,     /* a byte is neither ASCII nor part of a whole subscript digit */
+    SAKONDRENO_INIT = 3,       /* translate: `init=` stands before `proj=`, or without one, in a step */
+    SAKONDRENO_NESTED = 4,     /* translate: a step after the first is `proj=pipeline` */
+    SAKONDRENO_ONLY_INV = 5,   /* translate: of a step nothing but `inv` is left */
+    SAKONDRENO_MODIFIERS = 6,  /* a step has no words but `inv`, `omit_fwd` or `omit_inv` */
+    SAKONDRENO_ROOM = 7,       /* the whole answer is longer than the lent buffer, or the lent row of records */
+    SAKONDRENO_STEPS = 8,      /* more than 64 steps */
+    SAKONDRENO_KEYS = 9,       /* more than 32 distinct keys in a step, its name included */
+    SAKONDRENO_NAME = 10,      /* a step without a name, or its name is not one of the five operators */
+    SAKONDRENO_KEY = 11,       /* a key that the operator lacks */
+    SAKONDRENO_NUMBER = 12,    /* an element of a series is not a number, or a flag is neither bare nor `=true` */
+    SAKONDRENO_SERIES = 13,    /* a series of more than 8 elements */
+    SAKONDRENO_RULE = 14,      /* the operator's own rule is broken */
+    SAKONDRENO_LIST = 15,      /* run: the list's length is no multiple of 4, or it has over 65,536 tuples */
+    SAKONDRENO_DEPTH = 16,     /* run: more than 64 columns after the step */
+    SAKONDRENO_STORE = 17,     /* run: the store is shorter than the deepest depth times the tuples */
+    SAKONDRENO_RECORD = 18     /* check, run: a record that no preparation makes; at 0: over 64 records */
+};
+
+/* ---- step records */
+
+/* The operators by their numbers. */
+enum {
+    SAKONDRENO_PUSH = 0,         /* args: the places 1 to 4, rising, possibly none */
+    SAKONDRENO_POP = 1,          /* the same; they are popped from the last to the first */
+    SAKONDRENO_STACK_PUSH = 2,   /* args: places 1 to 4, at least one, in the order given, repeats allowed */
+    SAKONDRENO_STACK_POP = 3,
+    SAKONDRENO_STACK_FLIP = 4,
+    SAKONDRENO_STACK_ROLL = 5,   /* args: m and n; n's size is below m, its sign may be minus */
+    SAKONDRENO_STACK_UNROLL = 6,
+    SAKONDRENO_STACK_SWAP = 7,   /* no args */
+    SAKONDRENO_STACK_DROP = 8,
+    SAKONDRENO_AXISSWAP = 9,     /* args: the order, 1 to 4 signed places, each once */
+    SAKONDRENO_ADAPT = 10        /* args: four signed places, each once, and the codes of four factors */
+};
+
+/* A step. `sakondreno_prepare` makes it; a record made otherwise is refused 18 unless preparing could have made it: slots of
+ * args that are not used hold 0, marks are 0 or 1. 56 bytes. */
+typedef struct {
+    uint8_t operator_; /* by its number */
+    int32_t args[8];
+    size_t n;          /* how many of args are used */
+    uint8_t inv;       /* marks */
+    uint8_t omit_fwd;
+    uint8_t omit_inv;
+} sakondreno_step;
+
+/* ---- texts: each call reads `text` and writes its answer to the front of `out` */
+
+typedef struct {
+    uint8_t number; /* 0: an answer; else the refusal's number */
+    size_t place;   /* of the refusal */
+    size_t length;  /* of the answer: bytes, or records */
+} sakondreno_answer;
+
+/* The definition in its normal form. */
+sakondreno_answer sakondreno_normalise(const uint8_t *text, size_t length, uint8_t *out, size_t room);
+/* Its steps, each with a newline after it. */
+sakondreno_answer sakondreno_split(const uint8_t *text, size_t length, uint8_t *out, size_t room);
+/* The parameters of one step, each as key=value with a newline after it, in byte order. */
+sakondreno_answer sakondreno_parameters(const uint8_t *text, size_t length, uint8_t *out, size_t room);
+/* A PROJ text as a definition; a text that is none comes back as it is. */
+sakondreno_answer sakondreno_translate(const uint8_t *text, size_t length, uint8_t *out, size_t room);
+
+/* The next step of a normalised text, from the place `at` on. */
+typedef struct {
+    uint8_t found; /* 1: a step; 0: the end, and all else is 0 */
+    size_t from;   /* its first byte */
+    size_t to;     /* the byte after its last */
+    size_t then;   /* where to go on */
+} sakondreno_part;
+
+sakondreno_part sakondreno_next(const uint8_t *text, size_t length, size_t at);
+
+/* ---- pipelines. `inverse` is 0 for forward; any other number for inverse. */
+
+/* Makes records of a definition, from the first of the lent row on; `length` of the answer is how many. 64 always do. */
+sakondreno_answer sakondreno_prepare(const uint8_t *text, size_t length, sakondreno_step *table, size_t room);
+
+/* A place of a tuple, 1 to 4, and whether its sign is turned. */
+typedef struct {
+    uint32_t axis;
+    bool minus;
+} sakondreno_place;
+
+typedef struct {
+    struct {
+        uint8_t number; /* 0: passes. 1: the step at `place` finds too few columns. 2: it leaves too many. 18: refused */
+        size_t place;
+    } said;
+    /* of a pass; else all of this is 0 */
+    size_t run;                 /* how many steps run */
+    size_t depths[64];          /* how many columns there are after each of them, in running order */
+    size_t deepest;             /* the most of them */
+    size_t left;                /* the last of them */
+    bool told;                  /* are the places told? Not where an `adapt` step runs */
+    sakondreno_place places[4]; /* number i of every tuple after a run is the input's number at places[i - 1] */
+} sakondreno_checked;
+
+/* Says, without any data, what a run will do. */
+sakondreno_checked sakondreno_check(const sakondreno_step *table, size_t steps, uint8_t inverse);
+
+typedef struct {
+    uint8_t number; /* 0: it ran; else the refusal's number */
+    size_t place;
+    size_t count;   /* the success count */
+    size_t left;    /* the columns left, which stand in the store, the bottom one first, each tuple by tuple */
+} sakondreno_done;
+
+/* Runs the steps over a list of tuples, four numbers each (`numbers` of them in all), in place. The store needs room for the
+ * deepest depth, as the check tells it, times the tuples. */
+sakondreno_done sakondreno_run(const sakondreno_step *table, size_t steps, uint8_t inverse,
+                               double *tuples, size_t numbers, double *store, size_t room);
+
+#ifdef __cplusplus
+}
+#endif
+#endif
