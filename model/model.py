@@ -1025,6 +1025,36 @@ def answer_run(direction, store, text, numbers):
     return "ok %d %d %s %s" % (answer.count, answer.left, *shown)
 
 
+# ----- The text of a record (docs/DECISIONS.md, 42) ---------------------------
+
+def signed_letter(place):
+    return ("enuf" if place > 0 else "wsdp")[abs(place) - 1]
+
+
+def written_args(step):
+    name, args = NAMES[step.operator].replace("stack.", ""), used(step)
+    if step.operator in (PUSH, POP):
+        return ["v_%d" % place for place in args]
+    if step.operator == ADAPT:
+        endings = ["", "_deg", "_gon"]
+        letters = "".join(map(signed_letter, args[:4]))
+        return ["from=enuf" + endings[args[4] // 3], "to=" + letters + endings[args[4] % 3]]
+    if not args:
+        return [name]
+    return ["%s=%s" % ("order" if name == "axisswap" else name, joined(args))]
+
+
+def written_step(step):
+    marks = [("inv", step.inv), ("omit_fwd", step.omit_fwd), ("omit_inv", step.omit_inv)]
+    words = [NAMES[step.operator].split(".")[0]] + written_args(step) + [mark for mark, is_set in marks if is_set]
+    return " ".join(words)
+
+
+def answer_write(text):
+    steps = prepare(read_text(text))
+    return show_refusal(steps) if refuses(steps) else "ok " + show_text(" | ".join(map(written_step, steps)).encode())
+
+
 def answer_steps(text):
     return "ok " + show_text(steps_output(read_text(text)))
 
@@ -1044,6 +1074,8 @@ def asked(request, fields):
         return answer_run(*fields)
     if request == "steps" and len(fields) == 1:
         return answer_steps(*fields)
+    if request == "write" and len(fields) == 1:
+        return answer_write(*fields)
     raise What
 
 

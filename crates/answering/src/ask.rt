@@ -11,6 +11,7 @@ use crate::out::say_text;
 use crate::out::say_what;
 use crate::records::answer_prepare;
 use crate::runs::answer_run;
+use crate::writes::answer_write;
 use parameters::parameters;
 use proj::translate;
 use rules::Written;
@@ -23,7 +24,7 @@ use wire::Text;
 pub const UNTOUCHED: u8 = 0xaa;
 
 // The most bytes that are lent.
-const MOST_ROOM: usize = 131072;
+pub const MOST_ROOM: usize = 131072;
 
 // How many bytes behind what is lent are looked at as well.
 const GUARD: usize = 16;
@@ -33,6 +34,7 @@ enum Request {
     Prepare,
     Check,
     Run,
+    Write,
     Nothing,
 }
 
@@ -54,6 +56,9 @@ fn asked(word: &[u8]) -> Request {
     }
     if wire::same(word, b"run") {
         return Request::Run;
+    }
+    if wire::same(word, b"write") {
+        return Request::Write;
     }
     asked_text(word)
 }
@@ -104,6 +109,7 @@ pub fn answer(
         Request::Prepare => answer_prepare(line, text, out, at),
         Request::Check => answer_check(line, text, out, at),
         Request::Run => answer_run(line, text, list, store, out, at),
+        Request::Write => answer_write(line, text, lent, out, at),
         Request::Nothing => say_what(out, at),
     }
 }
@@ -132,7 +138,7 @@ fn answer_text(
     lend(which, &text[..n], room, lent, out, at)
 }
 
-// Lends exactly `room` bytes, calls, looks at what was lent, and says what was answered.
+// Lends exactly `room` bytes, calls, and says what was answered.
 fn lend(
     which: TextCall,
     text: &[u8],
@@ -145,7 +151,17 @@ fn lend(
     requires { ⌜ room ≤ 131072 ⌝ }
     ensures { λ r. ⌜ Filled (now (out .exit)) r ⌝ }
 {
-    match call(which, text, &mut lent[0..room]) {
+    let written = call(which, text, &mut lent[0..room]);
+    say_lent(written, room, lent, out, at)
+}
+
+// Looks at what was lent, `room` bytes, and says what was answered.
+pub fn say_lent(written: Written, room: usize, lent: &mut [u8], out: &mut [u8], at: usize) -> usize
+    requires { ⌜ Storage (now lent) (now out) at ⌝ }
+    requires { ⌜ room ≤ 131072 ⌝ }
+    ensures { λ r. ⌜ Filled (now (out .exit)) r ⌝ }
+{
+    match written {
         Written::Wrote(n) => say_written(n, room, lent, out, at),
         Written::Refused { number, place } => {
             say_refusal(number, place, is_kept(lent, 0, room), out, at)

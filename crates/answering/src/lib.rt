@@ -7,6 +7,7 @@ mod fields;
 mod out;
 mod records;
 mod runs;
+mod writes;
 
 ghost use Prim.Native.Nat.{_≤_, _<_};
 ghost use mathlib.Core.Path.{_≡_};

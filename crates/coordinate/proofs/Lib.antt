@@ -1,5 +1,6 @@
 pub mod Signs
 pub mod Firsts
 pub mod Loading
-pub mod Swapping
+pub mod Placing
+pub mod Ordering
 pub mod Making

@@ -1,6 +1,6 @@
--- An `adapt` step with its factors made does what its arguments say.
-use mathlib.Core.Path.{_≡_, refl, sym, ap, _∙_, subst}
-use Prim.Native.Nat.{ℕ, zero, suc, _≤_}
+-- An `adapt` step with its slots and factors made does what its arguments say.
+use mathlib.Core.Path.{_≡_, refl, sym, ap, _∙_}
+use Prim.Native.Nat.{ℕ, zero, suc, _+_, _≤_}
 use mathlib.Core.Bool.{Bool, true, false}
 use mathlib.Core.List.{List, [], _∷_, map}
 use native.Mathlib.Omega.{arith}
@@ -9,16 +9,17 @@ use lib.ListN.{length, take}
 use lib.Dec.{eqb}
 use lib.IntN.{ℤ}
 use lib.Ieee.{Float, binary64, mul, div}
-use Rattle.rules.specs.Lists.{all}
-use Rattle.rules.specs.Record.{size, arg, isOrder, isAdapt}
+use Rattle.rules.specs.Record.{arg, isOrder, isAdapt}
 use Rattle.rules.specs.Coordinate.{number, put, one, post, mult, output, sets, stays, noop, adaptedIf, adapted}
 use Rattle.rules.specs.declared.Coord.{Coord}
 use Rattle.laws.specs.Separators.{and-left, and-right}
 use Rattle.steplaws.specs.Words.{Sized, order-sized}
-use Rattle.coordinate.specs.Coords.{staying, allStaying, product, forwards, backwards, adaptingIf, adapting, mults, overs, applied, Makes}
-use Rattle.coordinate.specs.declared.Adapting.{Adapting}
+use Rattle.coordinate.specs.Coords.{slot, slotAt, slotsOf, picked, placed, staying, allStaying, mults, overs, scaledBy, scaled, unscaled}
+use Rattle.coordinate.specs.declared.Slots.{Slots}
+use Rattle.coordinate.proofs.Loading.{slot-number, slot-put}
+use Rattle.coordinate.proofs.Ordering.{map-same}
 
--- the four places are from 1 to 4
+-- the first four arguments
 fours : (l : List ℤ) → length l ≡ 8 → take 4 l ≡ arg 1 l ∷ arg 2 l ∷ arg 3 l ∷ arg 4 l ∷ []
 unfolding arg
 fours [] h = absurd (none h)
@@ -39,12 +40,21 @@ fours (a ∷ b ∷ c ∷ []) h = absurd (none h)
     none h = omega arith
 fours (a ∷ b ∷ c ∷ d ∷ l) h = refl
 
-pub places-sized : (l : List ℤ) → isAdapt l ≡ true → Sized (arg 1 l) × Sized (arg 2 l) × Sized (arg 3 l) × Sized (arg 4 l)
-unfolding isAdapt
-places-sized l h =
-    let e = eqb-true (length l) 8 (and-left (eqb (length l) 8) _ h) in
-    let o : isOrder (take 4 l) ≡ true = and-left (isOrder (take 4 l)) _ (and-right (eqb (length l) 8) _ h) in
-    order-sized (arg 1 l) (arg 2 l) (arg 3 l) (arg 4 l) (rw (fours l e) at o)
+-- a place from 1 to 4 by its slot
+slot-place : (i : ℕ) → 1 ≤ i → i ≤ 4 → slot i + 1 ≡ i
+unfolding slot
+slot-place zero h k = absurd (none h)
+  where
+    none : 1 ≤ 0 → ⊥
+    none h = omega arith
+slot-place (suc zero) h k = refl
+slot-place (suc (suc zero)) h k = refl
+slot-place (suc (suc (suc zero))) h k = refl
+slot-place (suc (suc (suc (suc zero)))) h k = refl
+slot-place (suc (suc (suc (suc (suc i))))) h k = absurd (over k)
+  where
+    over : suc (suc (suc (suc (suc i)))) ≤ 4 → ⊥
+    over h = omega arith
 
 -- a factor at a place from 1 to 4, under 1
 over-at : (l : List ℤ) (i : ℕ) → 1 ≤ i → i ≤ 4 → number i (overs (mults l)) ≡ div binary64 one (mult l i)
@@ -62,67 +72,87 @@ over-at l (suc (suc (suc (suc (suc i))))) h k = absurd (over k)
     over : suc (suc (suc (suc (suc i)))) ≤ 4 → ⊥
     over h = omega arith
 
--- the step with its factors made
-abbrev madeOf : Bool → List ℤ → Adapting
-madeOf back l =
-    record {
-      p1 = post l 1;
-      p2 = post l 2;
-      p3 = post l 3;
-      p4 = post l 4;
-      by = applied back (mults l);
-      still = noop l;
-      back = back;
-    }
-
 module _ (l : List ℤ) (h : isAdapt l ≡ true) where
-  back-one : (c : Coord) (j : ℕ) (out : Coord) → 1 ≤ post l j → post l j ≤ 4 → put (post l j) (product c j (overs (mults l)) (post l j)) out ≡ sets l c j out
-  unfolding product sets
-  back-one c j out p q = ap (λ (x : Float). put (post l j) (mul binary64 (number j c) x) out) (over-at l (post l j) p q)
+  long : length l ≡ 8
+  unfolding isAdapt
+  long = eqb-true (length l) 8 (and-left (eqb (length l) 8) _ h)
 
-  made-by : (b back : Bool) (c : Coord) → adaptingIf b back (madeOf back l) c ≡ adaptedIf b back l c
-  unfolding adaptingIf adaptedIf forwards backwards product applied output mults number post
-  made-by true back c = refl
-  made-by false false c = refl
-  made-by false true c =
-      let s = places-sized l h in
-      let o1 = sets l c 1 c in
-      let o2 = sets l c 2 o1 in
-      let o3 = sets l c 3 o2 in
-      let e1 = back-one c 1 c (s .0 .least) (s .0 .most) in
-      let e2 = back-one c 2 o1 (s .1 .least) (s .1 .most) in
-      let e3 = back-one c 3 o2 (s .2 .least) (s .2 .most) in
-      let e4 = back-one c 4 o3 (s .3 .least) (s .3 .most) in
-      let f : ℕ → Coord → Coord = λ j out. put (post l j) (product c j (overs (mults l)) (post l j)) out in
-      ap (λ (x : Coord). f 4 (f 3 (f 2 x))) e1 ∙ ap (λ (x : Coord). f 4 (f 3 x)) e2 ∙ ap (f 4) e3 ∙ e4
+  -- the four places are from 1 to 4
+  places-sized : Sized (arg 1 l) × Sized (arg 2 l) × Sized (arg 3 l) × Sized (arg 4 l)
+  unfolding isAdapt
+  places-sized =
+      let o : isOrder (take 4 l) ≡ true = and-left (isOrder (take 4 l)) _ (and-right (eqb (length l) 8) _ h) in
+      order-sized (arg 1 l) (arg 2 l) (arg 3 l) (arg 4 l) (rw (fours l long) at o)
 
-  -- from what the calls ensure
-  pub making : (back : Bool) (p1 p2 p3 p4 : ℕ) (m by : Coord) (still : Bool) → p1 ≡ size (arg 1 l) → p2 ≡ size (arg 2 l) → p3 ≡ size (arg 3 l) → p4 ≡ size (arg 4 l)
-      → m ≡ mults l → by ≡ applied back m → still ≡ allStaying p1 p2 p3 p4 m
-      → Makes back l (record { p1 = p1; p2 = p2; p3 = p3; p4 = p4; by = by; still = still; back = back })
-  unfolding Makes adapting adapted post noop stays allStaying staying mults
-  making back p1 p2 p3 p4 m by still e1 e2 e3 e4 em eb es =
-      let all : still ≡ noop l = es ∙ (λ i. allStaying (e1 i) (e2 i) (e3 i) (e4 i) (em i)) in
-      let whole : _≡_ {A = Adapting} (record { p1 = p1; p2 = p2; p3 = p3; p4 = p4; by = by; still = still; back = back }) (madeOf back l) =
-      λ i. record { p1 = e1 i; p2 = e2 i; p3 = e3 i; p4 = e4 i; by = (eb ∙ ap (applied back) em) i; still = all i; back = back } in
-      subst (Makes back l) (sym whole) (made-by (noop l) back)
+  -- the slots of a step
+  abbrev slots : Slots
+  slots = record { s1 = slot (post l 1); s2 = slot (post l 2); s3 = slot (post l 3); s4 = slot (post l 4) }
 
--- ---- what a step with its factors made does to a list
+  slots-made : slotsOf (take 4 l) ≡ slots
+  unfolding slotsOf slotAt post
+  slots-made = ap slotsOf (fours l long)
 
-map-same : (f g : Coord → Coord) → ((c : Coord) → f c ≡ g c) → (ts : List Coord) → map f ts ≡ map g ts
-map-same f g e [] = refl
-map-same f g e (t ∷ ts) = λ i. e t i ∷ map-same f g e ts i
+  module _ (c : Coord) where
+    scale-made : scaled slots (mults l) c ≡ adaptedIf false false l c
+    unfolding scaled scaledBy picked mults adaptedIf output
+    scale-made =
+        let at : (i : ℕ) → mul binary64 (number (slot (post l i) + 1) c) (mult l i) ≡ output l c i =
+        λ i. ap (λ (x : Float). mul binary64 x (mult l i)) (slot-number (post l i) c) in
+        λ i. record { a = at 1 i; b = at 2 i; c = at 3 i; d = at 4 i }
 
-map-own : (f : Coord → Coord) → ((c : Coord) → f c ≡ c) → (ts : List Coord) → map f ts ≡ ts
+    -- one number back to its place
+    back-one : (j : ℕ) {out out′ : Coord} → 1 ≤ post l j → post l j ≤ 4 → out ≡ out′
+        → put (slot (post l j) + 1) (mul binary64 (number j c) (number (slot (post l j) + 1) (overs (mults l)))) out ≡ sets l c j out′
+    unfolding sets
+    back-one j {out} {out′} p q e =
+        let f = slot-number (post l j) (overs (mults l)) ∙ over-at l (post l j) p q in
+        (λ i. put (slot (post l j) + 1) (mul binary64 (number j c) (f i)) (e i)) ∙ slot-put (post l j) _ out′
+
+    unscale-made : unscaled slots (picked slots (overs (mults l))) c ≡ adaptedIf false true l c
+    unfolding unscaled scaledBy picked placed adaptedIf number post
+    unscale-made =
+        let s = places-sized in
+        back-one 4 (s .3 .least) (s .3 .most)
+        (back-one 3 (s .2 .least) (s .2 .most)
+        (back-one 2 (s .1 .least) (s .1 .most)
+        (back-one 1 (s .0 .least) (s .0 .most) refl)))
+
+  still-made : allStaying (slots .s1 + 1) (slots .s2 + 1) (slots .s3 + 1) (slots .s4 + 1) (mults l) ≡ noop l
+  unfolding allStaying staying noop stays mults post
+  still-made =
+      let s = places-sized in
+      let e1 = slot-place (post l 1) (s .0 .least) (s .0 .most) in
+      let e2 = slot-place (post l 2) (s .1 .least) (s .1 .most) in
+      let e3 = slot-place (post l 3) (s .2 .least) (s .2 .most) in
+      let e4 = slot-place (post l 4) (s .3 .least) (s .3 .most) in
+      λ i. allStaying (e1 i) (e2 i) (e3 i) (e4 i) (mults l)
+
+-- ---- every coordinate of a list, from what the calls ensure
+
+map-own : (f : Coord → Coord) → ((c : Coord) → c ≡ f c) → (ts : List Coord) → ts ≡ map f ts
 map-own f e [] = refl
 map-own f e (t ∷ ts) = λ i. e t i ∷ map-own f e ts i
 
-module _ (back : Bool) (l : List ℤ) (p : Adapting) (made : Makes back l p) (ts : List Coord) where
-  pub made-all : map (adapting p) ts ≡ map (adapted back l) ts
-  unfolding Makes
-  made-all = map-same (adapting p) (adapted back l) made ts
+module _ (l : List ℤ) (h : isAdapt l ≡ true) (o : Slots) (m : Coord) (b : Bool) (ts : List Coord) (named : o ≡ slotsOf (take 4 l)) (made : m ≡ mults l) (still : b ≡ allStaying (o .s1 + 1) (o .s2 + 1) (o .s3 + 1) (o .s4 + 1) m) where
+  same : o ≡ slots l h
+  same = named ∙ slots-made l h
+
+  noop-is : noop l ≡ b
+  noop-is = sym (still ∙ (λ i. allStaying (same i .s1 + 1) (same i .s2 + 1) (same i .s3 + 1) (same i .s4 + 1) (made i)) ∙ still-made l h)
+
+  by-noop : (back : Bool) (c : Coord) → adaptedIf b back l c ≡ adapted back l c
+  unfolding adapted
+  by-noop back c = ap (λ (z : Bool). adaptedIf z back l c) (sym noop-is)
 
   -- a no-op touches nothing
-  pub made-still : p .still ≡ true → ts ≡ map (adapted back l) ts
-  unfolding Makes adapting adaptingIf
-  made-still h = sym (map-own (adapted back l) (λ c. sym (made c) ∙ ap (λ (b : Bool). adaptingIf b (p .back) p c) h) ts)
+  pub all-still : (back : Bool) → b ≡ true → ts ≡ map (adapted back l) ts
+  unfolding adaptedIf
+  all-still back e = map-own (adapted back l) (λ c. ap (λ (z : Bool). adaptedIf z back l c) (sym e) ∙ by-noop back c) ts
+
+  pub all-scaled : b ≡ false → map (scaled o m) ts ≡ map (adapted false l) ts
+  all-scaled e = map-same (scaled o m) (adapted false l) (λ c. (λ i. scaled (same i) (made i) c) ∙ scale-made l h c ∙ ap (λ (z : Bool). adaptedIf z false l c) (sym e) ∙ by-noop false c) ts
+
+  pub all-unscaled : (w over : Coord) → b ≡ false → over ≡ overs m → w ≡ picked o over → map (unscaled o w) ts ≡ map (adapted true l) ts
+  all-unscaled w over e f g =
+      let by : w ≡ picked (slots l h) (overs (mults l)) = g ∙ (λ i. picked (same i) ((f ∙ ap overs made) i)) in
+      map-same (unscaled o w) (adapted true l) (λ c. (λ i. unscaled (same i) (by i) c) ∙ unscale-made l h c ∙ ap (λ (z : Bool). adaptedIf z true l c) (sym e) ∙ by-noop true c) ts

@@ -1,18 +1,20 @@
 // One coordinate, and a list of them: the numbers by their place, `axisswap`, and `adapt`. Places count from 1.
 use acts::is_minus;
+use acts::minus_at;
+use acts::size_at;
 use acts::size_of;
 use rules::Coord;
 ghost use mathlib.Core.Path.{_≡_};
-ghost use mathlib.Core.Bool.{true, false};
+ghost use mathlib.Core.Bool.{true};
 ghost use mathlib.Core.List.{map};
 ghost use Prim.Native.Nat.{_+_, _*_, _≤_, _<_};
 ghost use lib.ListN.{length, getD, set, take};
 ghost use lib.Ieee.{nan};
 ghost use Rattle.rules.specs.Decimal.{minus};
-ghost use Rattle.rules.specs.Record.{size, isAdapt};
+ghost use Rattle.rules.specs.Record.{size, isOrder, isAdapt};
 ghost use Rattle.rules.specs.Coordinate.{number, put, turn, swapped, angle, factor, adapted};
 ghost use Rattle.rules.specs.Tuples.{tuples};
-ghost use Rattle.coordinate.specs.Coords.{noTuple, slot, staying, product, forwards, backwards, adapting, mults, overs, applied, allStaying, Makes};
+ghost use Rattle.coordinate.specs.Coords.{noTuple, slot, Within, slotAt, slotsOf, turnAt, turnsOf, picked, placed, turnedBy, scaledBy, ordered, unordered, scaled, unscaled, staying, mults, overs, allStaying};
 
 // ---- one number
 
@@ -42,41 +44,6 @@ pub fn number_of(c: Coord, i: usize) -> f64
         c.c
     } else {
         c.d
-    }
-}
-
-// The coordinate with x as its number i.
-pub fn with_number(c: Coord, i: usize, x: f64) -> Coord
-    ensures { λ r. ⌜ r ≡ put i x c ⌝ }
-{
-    if i == 1 {
-        Coord {
-            a: x,
-            b: c.b,
-            c: c.c,
-            d: c.d,
-        }
-    } else if i == 2 {
-        Coord {
-            a: c.a,
-            b: x,
-            c: c.c,
-            d: c.d,
-        }
-    } else if i == 3 {
-        Coord {
-            a: c.a,
-            b: c.b,
-            c: x,
-            d: c.d,
-        }
-    } else {
-        Coord {
-            a: c.a,
-            b: c.b,
-            c: c.c,
-            d: x,
-        }
     }
 }
 
@@ -154,63 +121,149 @@ pub fn set_at(xs: &mut [f64], k: usize, slot: usize, x: f64)
     xs[k * 4 + slot] = x;
 }
 
+// ---- four numbers of a coordinate at once
+
+// A slot for each of four numbers.
+pub struct Slots {
+    pub s1: usize,
+    pub s2: usize,
+    pub s3: usize,
+    pub s4: usize,
+}
+
+// For each of four numbers: is its sign turned?
+pub struct Turns {
+    pub t1: bool,
+    pub t2: bool,
+    pub t3: bool,
+    pub t4: bool,
+}
+
+// The four numbers at given slots of the coordinate at k of a list.
+fn pick(xs: &[f64], k: usize, o: Slots) -> Coord
+    requires { ⌜ k * 4 + 4 ≤ length (now xs) ⌝ }
+    requires { ⌜ Within o ⌝ }
+    ensures { λ r. ⌜ r ≡ picked o (getD (tuples (now (xs .entry))) k noTuple) ⌝ }
+{
+    Coord {
+        a: get_at(xs, k, o.s1),
+        b: get_at(xs, k, o.s2),
+        c: get_at(xs, k, o.s3),
+        d: get_at(xs, k, o.s4),
+    }
+}
+
+// Four numbers stored there, one after the other.
+fn place(xs: &mut [f64], k: usize, o: Slots, v: Coord)
+    requires { ⌜ k * 4 + 4 ≤ length (now xs) ⌝ }
+    requires { ⌜ Within o ⌝ }
+    ensures { λ _. ⌜ tuples (now (xs .exit)) ≡ set (tuples (now (xs .entry))) k (placed o v (getD (tuples (now (xs .entry))) k noTuple)) ⌝ }
+{
+    set_at(xs, k, o.s1, v.a);
+    set_at(xs, k, o.s2, v.b);
+    set_at(xs, k, o.s3, v.c);
+    set_at(xs, k, o.s4, v.d);
+}
+
+// The slot of argument i of an order, counted from 0; past the arguments the number stays.
+fn slot_at(args: &[i32], i: usize) -> usize
+    requires { ⌜ i < 4 ⌝ }
+    ensures { λ r. ⌜ (r < 4) × (r ≡ slotAt (now (args .entry)) i) ⌝ }
+{
+    if i < args.len() {
+        return slot_of(size_at(args, i));
+    }
+    i
+}
+
+// All four.
+fn slots_of(args: &[i32]) -> Slots
+    ensures { λ r. ⌜ Within r × (r ≡ slotsOf (now (args .entry))) ⌝ }
+{
+    Slots {
+        s1: slot_at(args, 0),
+        s2: slot_at(args, 1),
+        s3: slot_at(args, 2),
+        s4: slot_at(args, 3),
+    }
+}
+
 // ---- axisswap
 
-// Forward: output i is the input that the order names, with its sign.
-pub fn swap_one(c: Coord, args: [i32; 8], n: usize) -> Coord
-    requires { ⌜ n ≤ 8 ⌝ }
-    ensures { λ r. ⌜ r ≡ swapped false (take n args) c ⌝ }
+// Is argument i of an order, counted from 0, below zero? Past the arguments the sign stays.
+fn turn_at(args: &[i32], i: usize) -> bool
+    ensures { λ r. ⌜ r ≡ turnAt (now (args .entry)) i ⌝ }
 {
-    let mut out = c;
-    let mut i = 0;
-    while i < n {
-        let x = args[i];
-        let y = number_of(c, size_of(x));
-        out = with_number(out, i + 1, turned(is_minus(x), y));
-        i += 1;
+    if i < args.len() {
+        return minus_at(args, i);
     }
-    out
+    false
 }
 
-// Inverse: input i goes to the place that the order names, with its sign.
-pub fn unswap_one(c: Coord, args: [i32; 8], n: usize) -> Coord
-    requires { ⌜ n ≤ 8 ⌝ }
-    ensures { λ r. ⌜ r ≡ swapped true (take n args) c ⌝ }
+// All four.
+fn turns_of(args: &[i32]) -> Turns
+    ensures { λ r. ⌜ r ≡ turnsOf (now (args .entry)) ⌝ }
 {
-    let mut out = c;
-    let mut i = 0;
-    while i < n {
-        let x = args[i];
-        let y = number_of(c, i + 1);
-        out = with_number(out, size_of(x), turned(is_minus(x), y));
-        i += 1;
-    }
-    out
-}
-
-// Forward or back.
-pub fn axisswap_one(c: Coord, back: bool, args: [i32; 8], n: usize) -> Coord
-    requires { ⌜ n ≤ 8 ⌝ }
-    ensures { λ r. ⌜ r ≡ swapped back (take n args) c ⌝ }
-{
-    if back {
-        unswap_one(c, args, n)
-    } else {
-        swap_one(c, args, n)
+    Turns {
+        t1: turn_at(args, 0),
+        t2: turn_at(args, 1),
+        t3: turn_at(args, 2),
+        t4: turn_at(args, 3),
     }
 }
 
-// Every coordinate of a list.
+// The numbers of a coordinate with their signs turned, or kept.
+fn turned_by(t: Turns, c: Coord) -> Coord
+    ensures { λ r. ⌜ r ≡ turnedBy t c ⌝ }
+{
+    Coord {
+        a: turned(t.t1, c.a),
+        b: turned(t.t2, c.b),
+        c: turned(t.t3, c.c),
+        d: turned(t.t4, c.d),
+    }
+}
+
+// Forward: output i of every coordinate is the number at slot i, with its sign.
+fn order_all(xs: &mut [f64], o: Slots, t: Turns)
+    requires { ⌜ Within o ⌝ }
+    ensures { λ _. ⌜ tuples (now (xs .exit)) ≡ map (ordered o t) (tuples (now (xs .entry))) ⌝ }
+{
+    let n = xs.len() / 4;
+    let mut k = 0;
+    while k < n {
+        let c = pick(xs, k, o);
+        set_coord(xs, k, turned_by(t, c));
+        k += 1;
+    }
+}
+
+// Inverse: number i goes to slot i, with its sign.
+fn unorder_all(xs: &mut [f64], o: Slots, t: Turns)
+    requires { ⌜ Within o ⌝ }
+    ensures { λ _. ⌜ tuples (now (xs .exit)) ≡ map (unordered o t) (tuples (now (xs .entry))) ⌝ }
+{
+    let n = xs.len() / 4;
+    let mut k = 0;
+    while k < n {
+        let c = get_coord(xs, k);
+        place(xs, k, o, turned_by(t, c));
+        k += 1;
+    }
+}
+
+// Every coordinate of a list: the slots and signs are made once.
 pub fn axisswap(xs: &mut [f64], back: bool, args: [i32; 8], n: usize)
     requires { ⌜ n ≤ 8 ⌝ }
+    requires { ⌜ isOrder (take n args) ≡ true ⌝ }
     ensures { λ _. ⌜ tuples (now (xs .exit)) ≡ map (swapped back (take n args)) (tuples (now (xs .entry))) ⌝ }
 {
-    let count = xs.len() / 4;
-    let mut i = 0;
-    while i < count {
-        let c = get_coord(xs, i);
-        set_coord(xs, i, axisswap_one(c, back, args, n));
-        i += 1;
+    let o = slots_of(&args[..n]);
+    let t = turns_of(&args[..n]);
+    if back {
+        unorder_all(xs, o, t);
+    } else {
+        order_all(xs, o, t);
     }
 }
 
@@ -243,30 +296,11 @@ pub fn mult_of(x: i32, code: i32) -> f64
     turned(is_minus(x), factor_of(size_of(code)))
 }
 
-// An `adapt` step with its factors made: post[1] to post[4], the factors that are applied, whether the step is a no-op,
-// and whether it goes back.
-pub struct Adapting {
-    pub p1: usize,
-    pub p2: usize,
-    pub p3: usize,
-    pub p4: usize,
-    pub by: Coord,
-    pub still: bool,
-    pub back: bool,
-}
-
 // Is the number at i the input's own, times 1?
 fn is_staying(p: usize, m: f64, i: usize) -> bool
     ensures { λ r. ⌜ r ≡ staying p m i ⌝ }
 {
     p == i && m == 1.0
-}
-
-// Number i of c times the factor at j.
-fn product_of(c: Coord, i: usize, by: Coord, j: usize) -> f64
-    ensures { λ r. ⌜ r ≡ product c i by j ⌝ }
-{
-    number_of(c, i) * number_of(by, j)
 }
 
 // The four factors of a step.
@@ -309,91 +343,73 @@ pub fn is_noop(p1: usize, p2: usize, p3: usize, p4: usize, m: Coord) -> bool
     is_staying(p4, m.d, 4)
 }
 
-// The factors that are applied: back, 1 over each.
-fn applied_of(back: bool, m: Coord) -> Coord
-    ensures { λ r. ⌜ r ≡ applied back m ⌝ }
+// The numbers of a coordinate at given slots.
+fn picked_of(c: Coord, o: Slots) -> Coord
+    requires { ⌜ Within o ⌝ }
+    ensures { λ r. ⌜ r ≡ picked o c ⌝ }
 {
-    if back { overs_of(m) } else { m }
-}
-
-// The factors of an `adapt` step, made once.
-pub fn adapting_of(back: bool, args: [i32; 8]) -> Adapting
-    requires { ⌜ isAdapt args ≡ true ⌝ }
-    ensures { λ r. ⌜ Makes back args r ⌝ }
-{
-    let p1 = size_of(args[0]);
-    let p2 = size_of(args[1]);
-    let p3 = size_of(args[2]);
-    let p4 = size_of(args[3]);
-    let m = mults_of(args);
-    Adapting {
-        p1: p1,
-        p2: p2,
-        p3: p3,
-        p4: p4,
-        by: applied_of(back, m),
-        still: is_noop(p1, p2, p3, p4, m),
-        back: back,
-    }
-}
-
-// Output i is input post[i] times the factor at i.
-fn forward_one(p: Adapting, c: Coord) -> Coord
-    ensures { λ r. ⌜ r ≡ forwards p c ⌝ }
-{
-    let by = p.by;
     Coord {
-        a: product_of(c, p.p1, by, 1),
-        b: product_of(c, p.p2, by, 2),
-        c: product_of(c, p.p3, by, 3),
-        d: product_of(c, p.p4, by, 4),
+        a: number_of(c, o.s1 + 1),
+        b: number_of(c, o.s2 + 1),
+        c: number_of(c, o.s3 + 1),
+        d: number_of(c, o.s4 + 1),
     }
 }
 
-// Place post[j] is set to number j times the factor at post[j].
-fn backward_one(p: Adapting, c: Coord) -> Coord
-    ensures { λ r. ⌜ r ≡ backwards p c ⌝ }
+// Each number of a coordinate times its factor.
+fn scaled_by(m: Coord, c: Coord) -> Coord
+    ensures { λ r. ⌜ r ≡ scaledBy m c ⌝ }
 {
-    let by = p.by;
-    let out = with_number(c, p.p1, product_of(c, 1, by, p.p1));
-    let out = with_number(out, p.p2, product_of(c, 2, by, p.p2));
-    let out = with_number(out, p.p3, product_of(c, 3, by, p.p3));
-    with_number(out, p.p4, product_of(c, 4, by, p.p4))
-}
-
-// One coordinate adapted.
-pub fn adapt_one(p: Adapting, c: Coord) -> Coord
-    ensures { λ r. ⌜ r ≡ adapting p c ⌝ }
-{
-    if p.still {
-        c
-    } else if p.back {
-        backward_one(p, c)
-    } else {
-        forward_one(p, c)
+    Coord {
+        a: c.a * m.a,
+        b: c.b * m.b,
+        c: c.c * m.c,
+        d: c.d * m.d,
     }
 }
 
-// Every coordinate of a list, with the factors made.
-fn adapt_all(xs: &mut [f64], p: Adapting)
-    ensures { λ _. ⌜ tuples (now (xs .exit)) ≡ map (adapting p) (tuples (now (xs .entry))) ⌝ }
+// Forward: output i of every coordinate is the number at slot i times factor i.
+fn scale_all(xs: &mut [f64], o: Slots, m: Coord)
+    requires { ⌜ Within o ⌝ }
+    ensures { λ _. ⌜ tuples (now (xs .exit)) ≡ map (scaled o m) (tuples (now (xs .entry))) ⌝ }
 {
-    let count = xs.len() / 4;
-    let mut i = 0;
-    while i < count {
-        let c = get_coord(xs, i);
-        set_coord(xs, i, adapt_one(p, c));
-        i += 1;
+    let n = xs.len() / 4;
+    let mut k = 0;
+    while k < n {
+        let c = pick(xs, k, o);
+        set_coord(xs, k, scaled_by(m, c));
+        k += 1;
     }
 }
 
-// Every coordinate of a list. A no-op touches nothing.
+// Inverse: number i times factor i goes to slot i.
+fn unscale_all(xs: &mut [f64], o: Slots, m: Coord)
+    requires { ⌜ Within o ⌝ }
+    ensures { λ _. ⌜ tuples (now (xs .exit)) ≡ map (unscaled o m) (tuples (now (xs .entry))) ⌝ }
+{
+    let n = xs.len() / 4;
+    let mut k = 0;
+    while k < n {
+        let c = get_coord(xs, k);
+        place(xs, k, o, scaled_by(m, c));
+        k += 1;
+    }
+}
+
+// Every coordinate of a list: the slots and factors are made once. A no-op touches nothing. Back, the factor of a number
+// is 1 over that of its place.
 pub fn adapt(xs: &mut [f64], back: bool, args: [i32; 8])
     requires { ⌜ isAdapt args ≡ true ⌝ }
     ensures { λ _. ⌜ tuples (now (xs .exit)) ≡ map (adapted back args) (tuples (now (xs .entry))) ⌝ }
 {
-    let p = adapting_of(back, args);
-    if !p.still {
-        adapt_all(xs, p);
+    let o = slots_of(&args[..4]);
+    let m = mults_of(args);
+    if is_noop(o.s1 + 1, o.s2 + 1, o.s3 + 1, o.s4 + 1, m) {
+        return;
+    }
+    if back {
+        unscale_all(xs, o, picked_of(overs_of(m), o));
+    } else {
+        scale_all(xs, o, m);
     }
 }

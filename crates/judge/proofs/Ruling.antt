@@ -10,14 +10,14 @@ use lib.Dec.{leb, ltb}
 use lib.IntN.{ℤ}
 use Rattle.rules.specs.Ascii.{ascii}
 use Rattle.rules.specs.Lists.{any}
-use Rattle.rules.specs.Text.{Bytes, same, words}
+use Rattle.rules.specs.Text.{Bytes, same}
 use Rattle.rules.specs.Refusal.{Reply, answers, refuses}
 use Rattle.rules.specs.Parameters.{Parameter}
 use Rattle.rules.specs.Reader.{part}
 use Rattle.rules.specs.Decimal.{series}
 use Rattle.rules.specs.Record.{Push, Pop, StackPush, StackPop, StackFlip, StackRoll, StackUnroll, StackSwap, StackDrop, Axisswap, Adapt, numberOf, isPlaces, isRoll, isOrder}
 use Rattle.rules.specs.Adapt as rules
-use Rattle.rules.specs.Keys.{Name, push, pop, stack, axisswap, adapt, aSeries, flag, numbered, worded, everyKey, ownKeys, kindIn, kindOf, unknown, misspelt, tooLong}
+use Rattle.rules.specs.Keys.{Name, stack, axisswap, adapt, aSeries, flag, numbered, worded, everyKey, ownKeys, kindIn, kindOf, unknown, misspelt, tooLong}
 use Rattle.rules.specs.OwnRules.{valueOf, recorded, axes, wholes, actions, order, wordGiven, between, ownRule}
 use Rattle.rules.specs.Prepare.{judged14, judged11, named, judged10, judged}
 use Rattle.rules.specs.declared.Step.{Step}
@@ -28,8 +28,8 @@ use Rattle.decimal.specs.declared.Numbers.{Numbers}
 use Rattle.decimal.specs.Reading.{wholesOf, lowest, Reads}
 use Rattle.operators.specs.declared.Word.{Word}
 use Rattle.operators.specs.Words.{wordAs, wordIs, IsRead, Adapts}
-use Rattle.keys.specs.Faults.{nameAt, lowestOf}
-use Rattle.keys.specs.Finding.{indexOf, Looks}
+use Rattle.keys.specs.Faults.{names, nameAt, lowestOf}
+use Rattle.keys.specs.Finding.{spelled, entries, indexOf, Looks}
 use Rattle.keys.specs.declared.Value.{Value}
 use Rattle.keys.proofs.Numbering.{name-number, name-is}
 use Rattle.keys.proofs.Faulting.{passed, series-passed}
@@ -283,7 +283,7 @@ module _ {s : Bytes} {ps : List Parameter} {v : Value} (m : Looks s ps (ascii "_
   unfolding judged named judged10
   judged-unnamed n h = h ∙ sym (rw (value-not m n))
 
-  module _ (g : v .given ≡ true) {i : ℕ} (k : i ≡ indexOf (part (v .from) (v .to) s) (words (ascii "push pop stack axisswap adapt"))) where
+  module _ (g : v .given ≡ true) {i : ℕ} (k : i ≡ indexOf (part (v .from) (v .to) s) (entries 0 (spelled names))) where
     name-there : named (valueOf (ascii "_name") ps) ≡ cond (ltb i 5) (some (nameAt i)) none
     unfolding named
     name-there = rw (value-there m g) (name-is (part (v .from) (v .to) s) i (name-number (part (v .from) (v .to) s) k))

@@ -15,7 +15,7 @@ use Rattle.rules.specs.Record.{isPlaces, isRoll, isOrder}
 use Rattle.rules.specs.OwnRules.{valueOf}
 use Rattle.rules.specs.declared.Step.{Step}
 use Rattle.table.specs.Parts as parts
-use Rattle.table.specs.declared.Parts.{Parts}
+use Rattle.table.specs.Parts.{Parts}
 use Rattle.decimal.specs.Reading as reading
 use Rattle.decimal.specs.declared.Args.{Args}
 use Rattle.operators.specs.Making.{stepAs}

@@ -14,7 +14,6 @@ use operators::is_roll;
 use operators::step_of;
 use operators::word_of;
 use rules::Step;
-use table::Parts;
 ghost use mathlib.Core.Path.{_≡_};
 ghost use Prim.Native.Nat.{_+_, _≤_, _<_};
 ghost use lib.ListN.{length};
@@ -24,7 +23,7 @@ ghost use Rattle.rules.specs.Decimal.{series};
 ghost use Rattle.rules.specs.Keys.{stack, axisswap, adapt};
 ghost use Rattle.rules.specs.OwnRules.{valueOf, axes, wholes, wordGiven, ownRule};
 ghost use Rattle.rules.specs.Prepare.{judged14, judged};
-ghost use Rattle.table.specs.Parts.{listed};
+ghost use Rattle.table.specs.Parts.{listed, tableIn};
 ghost use Rattle.decimal.specs.Reading.{wholesOf, lowest};
 ghost use Rattle.operators.specs.Words.{IsRead};
 ghost use Rattle.keys.specs.Faults.{nameAt, lowestOf};
@@ -63,23 +62,23 @@ pub fn refused(number: u8) -> Judged
 }
 
 // Is the key given?
-fn is_given(s: &[u8], t: Parts, key: &[u8]) -> bool
-    requires { ⌜ GoodTable (now s) t ⌝ }
-    ensures { λ r. ⌜ r ≡ given (now (key .entry)) (listed (now (s .entry)) t) ⌝ }
+fn is_given(s: &[u8], row: &[usize; 128], n: usize, key: &[u8]) -> bool
+    requires { ⌜ GoodTable (now s) (tableIn (now row) n) ⌝ }
+    ensures { λ r. ⌜ r ≡ given (now (key .entry)) (listed (now (s .entry)) (tableIn (now (row .entry)) n)) ⌝ }
 {
-    let v = value_of(s, t, key);
+    let v = value_of(s, row, n, key);
     v.given
 }
 
 // The record with the operator of that number and these arguments; the marks are the parameters'.
-fn recorded(s: &[u8], t: Parts, operator: u8, a: Args) -> Judged
-    requires { ⌜ GoodTable (now s) t ⌝ }
+fn recorded(s: &[u8], row: &[usize; 128], n: usize, operator: u8, a: Args) -> Judged
+    requires { ⌜ GoodTable (now s) (tableIn (now row) n) ⌝ }
     requires { ⌜ GoodArgs a ⌝ }
-    ensures { λ r. ⌜ replyIs r ≡ answers (recordAt operator (listed (now (s .entry)) t) (wholesOf a)) ⌝ }
+    ensures { λ r. ⌜ replyIs r ≡ answers (recordAt operator (listed (now (s .entry)) (tableIn (now (row .entry)) n)) (wholesOf a)) ⌝ }
 {
-    let inv = is_given(s, t, b"inv");
-    let omit_fwd = is_given(s, t, b"omit_fwd");
-    let omit_inv = is_given(s, t, b"omit_inv");
+    let inv = is_given(s, row, n, b"inv");
+    let omit_fwd = is_given(s, row, n, b"omit_fwd");
+    let omit_inv = is_given(s, row, n, b"omit_inv");
     Judged {
         number: 0,
         step: step_of(operator, a, inv, omit_fwd, omit_inv),
@@ -103,27 +102,27 @@ fn extended(a: Args, axis: u32) -> Args
 }
 
 // The arguments, and the axis behind them if its flag is given.
-fn with_flag(s: &[u8], t: Parts, a: Args, key: &[u8], axis: u32) -> Args
-    requires { ⌜ GoodTable (now s) t ⌝ }
+fn with_flag(s: &[u8], row: &[usize; 128], n: usize, a: Args, key: &[u8], axis: u32) -> Args
+    requires { ⌜ GoodTable (now s) (tableIn (now row) n) ⌝ }
     requires { ⌜ GoodArgs a ⌝ }
     requires { ⌜ (a .n < 8) × (axis ≤ 4) ⌝ }
-    ensures { λ r. ⌜ Flagged a (given (now (key .entry)) (listed (now (s .entry)) t)) axis r ⌝ }
+    ensures { λ r. ⌜ Flagged a (given (now (key .entry)) (listed (now (s .entry)) (tableIn (now (row .entry)) n))) axis r ⌝ }
 {
-    if is_given(s, t, key) {
+    if is_given(s, row, n, key) {
         return extended(a, axis);
     }
     a
 }
 
 // push, pop: "flags in order 1 to 4, possibly none"
-fn axes_of(s: &[u8], t: Parts) -> Args
-    requires { ⌜ GoodTable (now s) t ⌝ }
-    ensures { λ r. ⌜ Axes (axes (listed (now (s .entry)) t)) r ⌝ }
+fn axes_of(s: &[u8], row: &[usize; 128], n: usize) -> Args
+    requires { ⌜ GoodTable (now s) (tableIn (now row) n) ⌝ }
+    ensures { λ r. ⌜ Axes (axes (listed (now (s .entry)) (tableIn (now (row .entry)) n))) r ⌝ }
 {
-    let a = with_flag(s, t, nothing(), b"v_1", 1);
-    let b = with_flag(s, t, a, b"v_2", 2);
-    let c = with_flag(s, t, b, b"v_3", 3);
-    with_flag(s, t, c, b"v_4", 4)
+    let a = with_flag(s, row, n, nothing(), b"v_1", 1);
+    let b = with_flag(s, row, n, a, b"v_2", 2);
+    let c = with_flag(s, row, n, b, b"v_3", 3);
+    with_flag(s, row, n, c, b"v_4", 4)
 }
 
 // Do the arguments keep the rule of that number: 0 for places, 1 for a roll, else for an order?
@@ -142,11 +141,19 @@ fn keeps(rule: u8, a: Args) -> bool
 
 // The record with the numbers of a series, from one place of the text up to another, if they are whole and keep the rule; else
 // 14.
-fn own_series(s: &[u8], t: Parts, operator: u8, rule: u8, from: usize, to: usize) -> Judged
-    requires { ⌜ GoodTable (now s) t ⌝ }
+fn own_series(
+    s: &[u8],
+    row: &[usize; 128],
+    n: usize,
+    operator: u8,
+    rule: u8,
+    from: usize,
+    to: usize,
+) -> Judged
+    requires { ⌜ GoodTable (now s) (tableIn (now row) n) ⌝ }
     requires { ⌜ (from ≤ to) × (to ≤ length (now s)) ⌝ }
     requires { ⌜ lowest (part from to (now s)) ≡ 14 ⌝ }
-    ensures { λ r. ⌜ replyIs r ≡ judged14 (recordedAt operator (listed (now (s .entry)) t) (wholes (ruleAt rule) (series (part from to (now (s .entry)))))) ⌝ }
+    ensures { λ r. ⌜ replyIs r ≡ judged14 (recordedAt operator (listed (now (s .entry)) (tableIn (now (row .entry)) n)) (wholes (ruleAt rule) (series (part from to (now (s .entry)))))) ⌝ }
 {
     let r = series(&s[from..to]);
     let a = r.args;
@@ -156,7 +163,7 @@ fn own_series(s: &[u8], t: Parts, operator: u8, rule: u8, from: usize, to: usize
     if !keeps(rule, a) {
         return refused(14);
     }
-    recorded(s, t, operator, a)
+    recorded(s, row, n, operator, a)
 }
 
 // Which actions of `stack` are given: none, one, or more than one (2); the last of them, and its value.
@@ -168,13 +175,13 @@ struct Choice {
 }
 
 // The choice with the action of that number, whose key this is, if it is given.
-fn with_action(s: &[u8], t: Parts, c: Choice, key: &[u8], action: u8) -> Choice
-    requires { ⌜ GoodTable (now s) t ⌝ }
-    requires { ⌜ Chosen (now s) (listed (now s) t) action c ⌝ }
+fn with_action(s: &[u8], row: &[usize; 128], n: usize, c: Choice, key: &[u8], action: u8) -> Choice
+    requires { ⌜ GoodTable (now s) (tableIn (now row) n) ⌝ }
+    requires { ⌜ Chosen (now s) (listed (now s) (tableIn (now row) n)) action c ⌝ }
     requires { ⌜ (action < 7) × (now key ≡ keyAt action) ⌝ }
-    ensures { λ r. ⌜ Chosen (now (s .entry)) (listed (now (s .entry)) t) (action + 1) r ⌝ }
+    ensures { λ r. ⌜ Chosen (now (s .entry)) (listed (now (s .entry)) (tableIn (now (row .entry)) n)) (action + 1) r ⌝ }
 {
-    let v = value_of(s, t, key);
+    let v = value_of(s, row, n, key);
     if !v.given {
         return c;
     }
@@ -195,9 +202,9 @@ fn with_action(s: &[u8], t: Parts, c: Choice, key: &[u8], action: u8) -> Choice
 }
 
 // "the seven stack actions"
-fn action_of(s: &[u8], t: Parts) -> Choice
-    requires { ⌜ GoodTable (now s) t ⌝ }
-    ensures { λ r. ⌜ Chosen (now (s .entry)) (listed (now (s .entry)) t) 7 r ⌝ }
+fn action_of(s: &[u8], row: &[usize; 128], n: usize) -> Choice
+    requires { ⌜ GoodTable (now s) (tableIn (now row) n) ⌝ }
+    ensures { λ r. ⌜ Chosen (now (s .entry)) (listed (now (s .entry)) (tableIn (now (row .entry)) n)) 7 r ⌝ }
 {
     let none = Choice {
         count: 0,
@@ -205,32 +212,32 @@ fn action_of(s: &[u8], t: Parts) -> Choice
         from: 0,
         to: 0,
     };
-    let a = with_action(s, t, none, b"push", 0);
-    let b = with_action(s, t, a, b"pop", 1);
-    let c = with_action(s, t, b, b"flip", 2);
-    let d = with_action(s, t, c, b"roll", 3);
-    let e = with_action(s, t, d, b"unroll", 4);
-    let f = with_action(s, t, e, b"swap", 5);
-    with_action(s, t, f, b"drop", 6)
+    let a = with_action(s, row, n, none, b"push", 0);
+    let b = with_action(s, row, n, a, b"pop", 1);
+    let c = with_action(s, row, n, b, b"flip", 2);
+    let d = with_action(s, row, n, c, b"roll", 3);
+    let e = with_action(s, row, n, d, b"unroll", 4);
+    let f = with_action(s, row, n, e, b"swap", 5);
+    with_action(s, row, n, f, b"drop", 6)
 }
 
 // "`stack`: exactly one action". Its operators' numbers follow each other from 2 on.
-fn own_stack(s: &[u8], t: Parts) -> Judged
-    requires { ⌜ GoodTable (now s) t ⌝ }
-    requires { ⌜ lowestOf stack (listed (now s) t) ≡ 14 ⌝ }
-    ensures { λ r. ⌜ replyIs r ≡ judged14 (ownRule stack (listed (now (s .entry)) t)) ⌝ }
+fn own_stack(s: &[u8], row: &[usize; 128], n: usize) -> Judged
+    requires { ⌜ GoodTable (now s) (tableIn (now row) n) ⌝ }
+    requires { ⌜ lowestOf stack (listed (now s) (tableIn (now row) n)) ≡ 14 ⌝ }
+    ensures { λ r. ⌜ replyIs r ≡ judged14 (ownRule stack (listed (now (s .entry)) (tableIn (now (row .entry)) n))) ⌝ }
 {
-    let c = action_of(s, t);
+    let c = action_of(s, row, n);
     if c.count != 1 {
         return refused(14);
     }
     if 5 <= c.action {
-        return recorded(s, t, c.action + 2, nothing());
+        return recorded(s, row, n, c.action + 2, nothing());
     }
     if 3 <= c.action {
-        return own_series(s, t, c.action + 2, 1, c.from, c.to);
+        return own_series(s, row, n, c.action + 2, 1, c.from, c.to);
     }
-    own_series(s, t, c.action + 2, 0, c.from, c.to)
+    own_series(s, row, n, c.action + 2, 0, c.from, c.to)
 }
 
 // "Default 1,2,3,4."
@@ -264,24 +271,24 @@ fn all_axes() -> Args
 }
 
 // axisswap: its order
-fn own_order(s: &[u8], t: Parts) -> Judged
-    requires { ⌜ GoodTable (now s) t ⌝ }
-    requires { ⌜ lowestOf axisswap (listed (now s) t) ≡ 14 ⌝ }
-    ensures { λ r. ⌜ replyIs r ≡ judged14 (ownRule axisswap (listed (now (s .entry)) t)) ⌝ }
+fn own_order(s: &[u8], row: &[usize; 128], n: usize) -> Judged
+    requires { ⌜ GoodTable (now s) (tableIn (now row) n) ⌝ }
+    requires { ⌜ lowestOf axisswap (listed (now s) (tableIn (now row) n)) ≡ 14 ⌝ }
+    ensures { λ r. ⌜ replyIs r ≡ judged14 (ownRule axisswap (listed (now (s .entry)) (tableIn (now (row .entry)) n))) ⌝ }
 {
-    let v = value_of(s, t, b"order");
+    let v = value_of(s, row, n, b"order");
     if v.given {
-        return own_series(s, t, 9, 2, v.from, v.to);
+        return own_series(s, row, n, 9, 2, v.from, v.to);
     }
-    recorded(s, t, 9, all_axes())
+    recorded(s, row, n, 9, all_axes())
 }
 
 // adapt: a word that is not given is `enuf`
-fn word_given(s: &[u8], t: Parts, key: &[u8]) -> Word
-    requires { ⌜ GoodTable (now s) t ⌝ }
-    ensures { λ r. ⌜ IsRead (wordGiven (valueOf (now (key .entry)) (listed (now (s .entry)) t))) r ⌝ }
+fn word_given(s: &[u8], row: &[usize; 128], n: usize, key: &[u8]) -> Word
+    requires { ⌜ GoodTable (now s) (tableIn (now row) n) ⌝ }
+    ensures { λ r. ⌜ IsRead (wordGiven (valueOf (now (key .entry)) (listed (now (s .entry)) (tableIn (now (row .entry)) n)))) r ⌝ }
 {
-    let v = value_of(s, t, key);
+    let v = value_of(s, row, n, key);
     let from = v.from;
     let to = v.to;
     if v.given {
@@ -290,60 +297,63 @@ fn word_given(s: &[u8], t: Parts, key: &[u8]) -> Word
     word_of(b"enuf")
 }
 
-fn own_adapt(s: &[u8], t: Parts) -> Judged
-    requires { ⌜ GoodTable (now s) t ⌝ }
-    ensures { λ r. ⌜ replyIs r ≡ judged14 (ownRule adapt (listed (now (s .entry)) t)) ⌝ }
+fn own_adapt(s: &[u8], row: &[usize; 128], n: usize) -> Judged
+    requires { ⌜ GoodTable (now s) (tableIn (now row) n) ⌝ }
+    ensures { λ r. ⌜ replyIs r ≡ judged14 (ownRule adapt (listed (now (s .entry)) (tableIn (now (row .entry)) n))) ⌝ }
 {
-    let from = word_given(s, t, b"from");
-    let to = word_given(s, t, b"to");
+    let from = word_given(s, row, n, b"from");
+    let to = word_given(s, row, n, b"to");
     if !from.is {
         return refused(14);
     }
     if !to.is {
         return refused(14);
     }
-    recorded(s, t, 10, adapted(from, to))
+    recorded(s, row, n, 10, adapted(from, to))
 }
 
 // The own rule of the operator of that number.
-fn own(s: &[u8], t: Parts, name: usize) -> Judged
-    requires { ⌜ GoodTable (now s) t ⌝ }
-    requires { ⌜ lowestOf (nameAt name) (listed (now s) t) ≡ 14 ⌝ }
-    ensures { λ r. ⌜ replyIs r ≡ judged14 (ownRule (nameAt name) (listed (now (s .entry)) t)) ⌝ }
+fn own(s: &[u8], row: &[usize; 128], n: usize, name: usize) -> Judged
+    requires { ⌜ GoodTable (now s) (tableIn (now row) n) ⌝ }
+    requires { ⌜ lowestOf (nameAt name) (listed (now s) (tableIn (now row) n)) ≡ 14 ⌝ }
+    ensures { λ r. ⌜ replyIs r ≡ judged14 (ownRule (nameAt name) (listed (now (s .entry)) (tableIn (now (row .entry)) n))) ⌝ }
 {
     if name == 0 {
-        return recorded(s, t, 0, axes_of(s, t));
+        return recorded(s, row, n, 0, axes_of(s, row, n));
     }
     if name == 1 {
-        return recorded(s, t, 1, axes_of(s, t));
+        return recorded(s, row, n, 1, axes_of(s, row, n));
     }
     if name == 2 {
-        return own_stack(s, t);
+        return own_stack(s, row, n);
     }
     if name == 3 {
-        return own_order(s, t);
+        return own_order(s, row, n);
     }
-    own_adapt(s, t)
+    own_adapt(s, row, n)
 }
 
 // Judges a step's parameters: 10, then the lowest of 11 to 13, then 14.
-pub fn judge(s: &[u8], t: Parts) -> Judged
-    requires { ⌜ GoodTable (now s) t ⌝ }
-    ensures { λ r. ⌜ replyIs r ≡ judged (listed (now (s .entry)) t) ⌝ }
+pub fn judge(s: &[u8], row: &[usize; 128], n: usize) -> Judged
+    requires { ⌜ GoodTable (now s) (tableIn (now row) n) ⌝ }
+    ensures { λ r. ⌜ replyIs r ≡ judged (listed (now (s .entry)) (tableIn (now (row .entry)) n)) ⌝ }
 {
-    let v = value_of(s, t, b"_name");
+    let v = value_of(s, row, n, b"_name");
     if !v.given {
         return refused(10);
     }
     let from = v.from;
     let to = v.to;
-    let name = index_of(&s[from..to], b"push pop stack axisswap adapt");
+    let name = index_of(
+        &s[from..to],
+        b"\x04push\x03pop\x05stack\x08axisswap\x05adapt",
+    );
     if 4 < name {
         return refused(10);
     }
-    let number = lowest(s, t, name);
+    let number = lowest(s, row, n, name);
     if number < 14 {
         return refused(number);
     }
-    own(s, t, name)
+    own(s, row, n, name)
 }

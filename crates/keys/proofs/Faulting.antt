@@ -1,5 +1,5 @@
 -- The refusals 11 to 13: of one parameter, and the loop over all of them.
-use mathlib.Core.Path.{_≡_, refl, sym, _∙_}
+use mathlib.Core.Path.{_≡_, refl, sym, _∙_, ap}
 use Prim.Native.Nat.{ℕ, _+_, _-_, _≤_, _<_}
 use mathlib.Core.Bool.{Bool, true, false, cond, _||_}
 use mathlib.Core.Option.{none, some}
@@ -15,9 +15,8 @@ use Rattle.rules.specs.OwnRules.{valueOf}
 use Rattle.laws.specs.Separators.{or-left, or-right, same-is}
 use Rattle.steplaws.specs.Tests.{never}
 use Rattle.decimal.specs.Reading as reading
-use Rattle.table.specs.Parts.{partOf, keyOf, valueOf as valuePart, listed, Within, Good}
+use Rattle.table.specs.Parts.{Parts, partOf, keyOf, valueOf as valuePart, listed, Within, Good}
 use Rattle.table.specs.declared.Part.{Part}
-use Rattle.table.specs.declared.Parts.{Parts}
 use Rattle.table.proofs.Placing.{good-at}
 use Rattle.keys.specs.Finding.{indexOf}
 use Rattle.keys.specs.Faults.{nameAt, keys, owns, flags, serial, kindBy, faultOf, lower, lowestOf}
@@ -104,6 +103,14 @@ module _ {s : Bytes} {t : Parts} {name i number : ℕ} (m : Lowering s t name i 
         within = omega arith;
         so-far = g ∙ sym (rw (listed-next (m .good) (i - 1) d k, z, lowest-cons (nameAt name) (partOf s (getD (t .parts) (i - 1) d)) (drop i (listed s t)), ← m .so-far, ← e));
       }
+
+  -- the same, by the part that is read
+  module _ {p : Part} (g : p ≡ getD (t .parts) (i - 1) d) where
+    pub lowering-at : Within s p
+    lowering-at = rw g lowering-part
+
+    pub lowering-turn : {f r : ℕ} → f ≡ faultOf (nameAt name) (keyOf s p) (valuePart s p) → r ≡ lower f number → Lowering s t name (i - 1) r
+    lowering-turn e l = lowering-more (e ∙ ap (λ (q : Part). faultOf (nameAt name) (keyOf s q) (valuePart s q)) g) l
 
 pub lowering-end : {s : Bytes} {t : Parts} {name i number : ℕ} → Lowering s t name i number → i ≤ 0 → number ≡ lowestOf (nameAt name) (listed s t)
 lowering-end {s} {t} {name} {i} m h = let z : i ≡ 0 = omega arith in m .so-far ∙ rw z

@@ -9,13 +9,12 @@ use borrow.Author.Tests.{eqb-true, eqb-false, lt-leb, le-leb}
 use lib.ListN.{length}
 use lib.Dec.{leb, ltb, eqb}
 use Rattle.rules.specs.Ascii.{ascii}
-use Rattle.rules.specs.Lists.{kept, nonEmpty}
-use Rattle.rules.specs.Text.{Bytes, Words, white, same, onto, cut, words}
+use Rattle.rules.specs.Text.{Bytes, Words, same}
 use Rattle.rules.specs.Parameters.{Parameter}
 use Rattle.rules.specs.Keys.{Name, push, pop, stack, axisswap, adapt, nameOf, Key, flag, numbered, worded, everyKey, ownKeys, kindIn, kindOf}
 use Rattle.laws.specs.Separators.{same-is}
 use Rattle.steplaws.specs.Tests.{Every}
-use Rattle.keys.specs.Finding.{indexOf}
+use Rattle.keys.specs.Finding.{spelled, entries, indexOf}
 use Rattle.keys.specs.Faults.{names, nameAt, keys, owns, flags, serial, kindBy}
 
 -- ---- names
@@ -158,10 +157,10 @@ kind-is n k p e =
 
 -- ---- as the code spells them
 
-pub key-number : (key : Bytes) {k : ℕ} → k ≡ indexOf key (words (ascii "_name inv omit_fwd omit_inv v_1 v_2 v_3 v_4 push pop flip roll unroll swap drop order from to")) → k ≡ indexOf key keys
-unfolding words kept cut onto white nonEmpty ascii keys
+pub key-number : (key : Bytes) {k : ℕ} → k ≡ indexOf key (entries 0 (spelled keys)) → k ≡ indexOf key keys
+unfolding entries spelled ascii keys
 key-number key e = e
 
-pub name-number : (t : Bytes) {k : ℕ} → k ≡ indexOf t (words (ascii "push pop stack axisswap adapt")) → k ≡ indexOf t names
-unfolding words kept cut onto white nonEmpty ascii names
+pub name-number : (t : Bytes) {k : ℕ} → k ≡ indexOf t (entries 0 (spelled names)) → k ≡ indexOf t names
+unfolding entries spelled ascii names
 name-number t e = e

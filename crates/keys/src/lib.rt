@@ -1,15 +1,12 @@
 // The five operators' names and keys, and the refusals 11 to 13 of one step's parameters, which stand in a table of parts of a
 // text.
 use decimal::series;
-use table::Parts;
-use walk::Kind;
+use table::part_at;
 use walk::is_same;
-use walk::run_end;
 ghost use mathlib.Core.Path.{_≡_};
 ghost use mathlib.Core.Bool.{true};
-ghost use Rattle.rules.specs.Text.{words};
-ghost use Rattle.table.specs.Parts.{listed, Good};
-ghost use Rattle.keys.specs.Finding.{indexOf, Looks};
+ghost use Rattle.table.specs.Parts.{listed, Good, tableIn};
+ghost use Rattle.keys.specs.Finding.{entries, entire, indexOf, Looks};
 ghost use Rattle.keys.specs.Faults.{owns, flags, serial, nameAt, faultOf, lower, lowestOf};
 
 // The value of a key: whether it is given, and its part of the text.
@@ -19,18 +16,16 @@ pub struct Value {
     pub to: usize,
 }
 
-// The place of a word among names that stand between spaces, counted from 0, or how many these are.
+// The place of a word among names, counted from 0, or how many these are. Each name stands behind its length.
 pub fn index_of(word: &[u8], names: &[u8]) -> usize
-    ensures { λ r. ⌜ r ≡ indexOf (now (word .entry)) (words (now (names .entry))) ⌝ }
+    requires { ⌜ entire 0 (now names) ≡ true ⌝ }
+    ensures { λ r. ⌜ r ≡ indexOf (now (word .entry)) (entries 0 (now (names .entry))) ⌝ }
 {
     let mut n = 0;
     let mut k = 0;
     while k < names.len() {
-        let a = run_end(Kind::White, names, k);
-        let e = run_end(Kind::Word, names, a);
-        if e <= a {
-            return n;
-        }
+        let a = k + 1;
+        let e = a + names[k] as usize;
         if is_same(word, &names[a..e]) {
             return n;
         }
@@ -41,14 +36,13 @@ pub fn index_of(word: &[u8], names: &[u8]) -> usize
 }
 
 // The value of a key in a table.
-pub fn value_of(s: &[u8], t: Parts, key: &[u8]) -> Value
-    requires { ⌜ Good (now s) t ⌝ }
-    ensures { λ r. ⌜ Looks (now (s .entry)) (listed (now (s .entry)) t) (now (key .entry)) r ⌝ }
+pub fn value_of(s: &[u8], row: &[usize; 128], n: usize, key: &[u8]) -> Value
+    requires { ⌜ Good (now s) (tableIn (now row) n) ⌝ }
+    ensures { λ r. ⌜ Looks (now (s .entry)) (listed (now (s .entry)) (tableIn (now (row .entry)) n)) (now (key .entry)) r ⌝ }
 {
-    let n = t.n;
     let mut i = 0;
     while i < n {
-        let p = t.parts[i];
+        let p = part_at(row, i);
         let from = p.key;
         let to = p.key_end;
         if is_same(key, &s[from..to]) {
@@ -123,7 +117,7 @@ fn fault_of(name: usize, key: &[u8], value: &[u8]) -> u8
     ensures { λ r. ⌜ r ≡ faultOf (nameAt name) (now (key .entry)) (now (value .entry)) ⌝ }
 {
     let keys =
-        b"_name inv omit_fwd omit_inv v_1 v_2 v_3 v_4 push pop flip roll unroll swap drop order from to";
+        b"\x05_name\x03inv\x08omit_fwd\x08omit_inv\x03v_1\x03v_2\x03v_3\x03v_4\x04push\x03pop\x04flip\x04roll\x06unroll\x04swap\x04drop\x05order\x04from\x02to";
     let k = index_of(key, keys);
     if !is_own(name, k) {
         return 11;
@@ -152,15 +146,15 @@ fn lower_of(a: u8, b: u8) -> u8
 }
 
 // The lowest number of 11 to 14 that a step of that operator may be refused by.
-pub fn lowest(s: &[u8], t: Parts, name: usize) -> u8
-    requires { ⌜ Good (now s) t ⌝ }
-    ensures { λ r. ⌜ r ≡ lowestOf (nameAt name) (listed (now (s .entry)) t) ⌝ }
+pub fn lowest(s: &[u8], row: &[usize; 128], n: usize, name: usize) -> u8
+    requires { ⌜ Good (now s) (tableIn (now row) n) ⌝ }
+    ensures { λ r. ⌜ r ≡ lowestOf (nameAt name) (listed (now (s .entry)) (tableIn (now (row .entry)) n)) ⌝ }
 {
-    let mut i = t.n;
+    let mut i = n;
     let mut number: u8 = 14;
     while 0 < i {
         i -= 1;
-        let p = t.parts[i];
+        let p = part_at(row, i);
         let key = p.key;
         let key_end = p.key_end;
         let value = p.value;

@@ -12,10 +12,8 @@ use Rattle.rules.specs.Reader.{part}
 use Rattle.walk.specs.Runs.{Run}
 use Rattle.walk.proofs.Walking.{other}
 use Rattle.walk.proofs.Leading.{word-there, none-left, words-nil}
-use Rattle.table.specs.Parts.{partOf, listed, Good, Enters}
+use Rattle.table.specs.Parts.{Parts, Entered, partOf, listed, Good, Enters}
 use Rattle.table.specs.declared.Part.{Part}
-use Rattle.table.specs.declared.Parts.{Parts}
-use Rattle.table.specs.declared.Entered.{Entered}
 use Rattle.table.proofs.Growing.{entered-all-longer}
 use Rattle.table.proofs.Entering.{enters-no-room, enters-table, enters-good}
 use Rattle.parameters.specs.Elements.{element, elementsFrom, IsPart, EntersAll}

@@ -13,9 +13,8 @@ use Rattle.rules.specs.Parameters.{Parameter, parameterLine}
 use Rattle.walk.proofs.Walking.{length-part}
 use Rattle.text.specs.Writing.{Wrote, WroteAt}
 use Rattle.text.proofs.Writing.{Sofar, sofar-at, sofar-start, sofar-byte, sofar-byte-room, sofar-part, sofar-part-room, sofar-end, sofar-length}
-use Rattle.table.specs.Parts.{partOf, keyOf, valueOf, held, Within, Good}
+use Rattle.table.specs.Parts.{Parts, partOf, keyOf, valueOf, held, Within, Good}
 use Rattle.table.specs.declared.Part.{Part}
-use Rattle.table.specs.declared.Parts.{Parts}
 use Rattle.table.proofs.Placing.{held-length, held-at, good-at}
 use Rattle.parameters.specs.Elements.{linesOf}
 
@@ -104,6 +103,10 @@ module _ {s : Bytes} {t : Parts} {dst₀ : Bytes} {i o : ℕ} {dst : Bytes} (m :
 
     pub lines-more : {r : ℕ} {last : Bytes} → WroteAt (parameterLine (partOf s (getD (t .parts) i d))) dst o r last → Lines s t dst₀ (i + 1) r last
     lines-more w = record { good = m .good; within = omega arith; sofar = sofar-part (parameterLine (partOf s (getD (t .parts) i d))) here (w .wrote) }
+
+    -- the same, by the part that is read
+    pub lines-turn : {p : Part} {r : ℕ} {last : Bytes} → p ≡ getD (t .parts) i d → WroteAt (parameterLine (partOf s p)) dst o r last → Lines s t dst₀ (i + 1) r last
+    lines-turn {p} {r} {last} e w = lines-more (subst (λ (q : Part). WroteAt (parameterLine (partOf s q)) dst o r last) e w)
 
 -- ---- how long they are
 

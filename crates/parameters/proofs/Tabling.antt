@@ -20,10 +20,8 @@ use Rattle.walk.specs.Runs.{Run, Lead}
 use Rattle.walk.proofs.Walking.{other, words-none, words-blank}
 use Rattle.walk.proofs.Leading.{following-some}
 use Rattle.text.specs.Writing.{Wrote}
-use Rattle.table.specs.Parts.{partOf, held, listed, Within, Good, Empty, Enters}
+use Rattle.table.specs.Parts.{Parts, Entered, partOf, held, listed, Within, Good, Empty, Enters}
 use Rattle.table.specs.declared.Part.{Part}
-use Rattle.table.specs.declared.Parts.{Parts}
-use Rattle.table.specs.declared.Entered.{Entered}
 use Rattle.table.proofs.Placing.{held-length}
 use Rattle.table.proofs.Growing.{entered-all-longer}
 use Rattle.parameters.specs.Elements.{Spelt, elementsFrom, EntersAll, Tabled, linesOf, stepReply, nameReply, textReply}

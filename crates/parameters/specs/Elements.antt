@@ -10,10 +10,8 @@ use Rattle.rules.specs.Text.{Bytes, Words}
 use Rattle.rules.specs.Parameters.{Parameter, parameter, name, elements, enteredAll, tableOf, stepTable, textTable, parameterLine}
 use Rattle.rules.specs.Refusal.{Reply, answers, andThen}
 use Rattle.rules.specs.Reader.{part}
-use Rattle.table.specs.Parts.{partOf, listed, Within, Good}
+use Rattle.table.specs.Parts.{Parts, Entered, partOf, listed, Within, Good}
 use Rattle.table.specs.declared.Part.{Part}
-use Rattle.table.specs.declared.Parts.{Parts}
-use Rattle.table.specs.declared.Entered.{Entered}
 
 -- from n on, the text spells `_name` and `true`, and then it ends
 pub record Spelt (s : Bytes) (n : ℕ) : Type 0 where

@@ -2,9 +2,8 @@
 use rules::Written;
 use table::Entered;
 use table::Part;
-use table::Parts;
-use table::empty;
 use table::enter;
+use table::part_at;
 use text::in_domain;
 use text::put;
 use token::normal_of;
@@ -24,7 +23,7 @@ ghost use Rattle.rules.specs.Split.{modifier};
 ghost use Rattle.rules.specs.Parameters.{parameterLine, parameters};
 ghost use Rattle.laws.specs.Entry.{Lends};
 ghost use Rattle.text.specs.Writing.{Wrote, WroteAt};
-ghost use Rattle.table.specs.Parts.{partOf, Within, Good};
+ghost use Rattle.table.specs.Parts.{partOf, Within, Good, tableIn, enteredIn};
 ghost use Rattle.parameters.specs.Elements.{Spelt, IsPart, elementsFrom, EntersAll, Tabled, linesOf, stepReply, nameReply, textReply};
 
 // "a text .. is over 4,096 bytes": 1
@@ -66,15 +65,23 @@ fn part_of(s: &[u8], from: usize, to: usize, n: usize, first: bool) -> Part
     }
 }
 
-// Enters the words of s from `from` up to `to` into the table, one after the other, until one finds no room. The first of
-// them may be the name.
-fn enter_words(s: &[u8], t: Parts, from: usize, to: usize, n: usize, first: bool) -> Entered
+// Enters the words of s from `from` up to `to` into the table of `count` parts, one after the other, until one finds no room.
+// The first of them may be the name.
+fn enter_words(
+    s: &[u8],
+    row: &mut [usize; 128],
+    count: usize,
+    from: usize,
+    to: usize,
+    n: usize,
+    first: bool,
+) -> Entered
     requires { ⌜ Spelt (now s) n ⌝ }
     requires { ⌜ (from ≤ to) × (to ≤ length (now s)) ⌝ }
-    requires { ⌜ Good (now s) t ⌝ }
-    ensures { λ r. ⌜ EntersAll (now (s .entry)) t (elementsFrom first (words (drop from (take to (now (s .entry)))))) r ⌝ }
+    requires { ⌜ Good (now s) (tableIn (now row) count) ⌝ }
+    ensures { λ r. ⌜ EntersAll (now (s .entry)) (tableIn (now (row .entry)) count) (elementsFrom first (words (drop from (take to (now (s .entry)))))) (enteredIn (now (row .exit)) r) ⌝ }
 {
-    let mut table = t;
+    let mut held = count;
     let mut name = first;
     let mut k = from;
     while k < to {
@@ -83,35 +90,37 @@ fn enter_words(s: &[u8], t: Parts, from: usize, to: usize, n: usize, first: bool
         if e <= a {
             return Entered {
                 full: false,
-                table: table,
+                n: held,
             };
         }
-        let entered = enter(s, table, part_of(s, a, e, n, name));
+        let entered = enter(s, row, held, part_of(s, a, e, n, name));
         if entered.full {
             return entered;
         }
-        table = entered.table;
+        held = entered.n;
         name = false;
         k = e;
     }
     Entered {
         full: false,
-        table: table,
+        n: held,
     }
 }
 
-// The table of a step's words, which stand in the first n bytes of s: those after the modifiers in front, then these.
-pub fn table_of(s: &[u8], n: usize) -> Entered
+// The table of a step's words, which stand in the first n bytes of s: those after the modifiers in front, then these. It is
+// made in a lent row.
+pub fn table_of(s: &[u8], n: usize, row: &mut [usize; 128]) -> Entered
     requires { ⌜ Spelt (now s) n ⌝ }
     requires { ⌜ all modifier (words (take n (now s))) ≡ false ⌝ }
-    ensures { λ r. ⌜ Tabled (now (s .entry)) (words (take n (now (s .entry)))) r ⌝ }
+    requires { ⌜ length (now row) ≡ 128 ⌝ }
+    ensures { λ r. ⌜ Tabled (now (s .entry)) (words (take n (now (s .entry)))) (enteredIn (now (row .exit)) r) ⌝ }
 {
     let k = lead_end(&s[..n]);
-    let first = enter_words(s, empty(), k, n, n, true);
+    let first = enter_words(s, row, 0, k, n, n, true);
     if first.full {
         return first;
     }
-    enter_words(s, first.table, 0, k, n, false)
+    enter_words(s, row, first.n, 0, k, n, false)
 }
 
 // Writes a parameter as `key=value`, with a newline after it.
@@ -132,17 +141,15 @@ fn line_at(s: &[u8], p: Part, dst: &mut [u8], at: usize) -> usize
 }
 
 // Writes all parameters of a table.
-fn lines_of(s: &[u8], t: Parts, dst: &mut [u8]) -> usize
-    requires { ⌜ Good (now s) t ⌝ }
-    requires { ⌜ length (linesOf (now s) t) ≤ length (now dst) ⌝ }
-    ensures { λ r. ⌜ Wrote (linesOf (now (s .entry)) t) (now (dst .entry)) r (now (dst .exit)) ⌝ }
+fn lines_of(s: &[u8], row: &[usize; 128], count: usize, dst: &mut [u8]) -> usize
+    requires { ⌜ Good (now s) (tableIn (now row) count) ⌝ }
+    requires { ⌜ length (linesOf (now s) (tableIn (now row) count)) ≤ length (now dst) ⌝ }
+    ensures { λ r. ⌜ Wrote (linesOf (now (s .entry)) (tableIn (now (row .entry)) count)) (now (dst .entry)) r (now (dst .exit)) ⌝ }
 {
-    let parts = t.parts;
-    let count = t.n;
     let mut i = 0;
     let mut o = 0;
     while i < count {
-        let p = parts[i];
+        let p = part_at(row, i);
         o = line_at(s, p, dst, o);
         i += 1;
     }
@@ -150,17 +157,15 @@ fn lines_of(s: &[u8], t: Parts, dst: &mut [u8]) -> usize
 }
 
 // How many bytes they are.
-fn length_of(s: &[u8], t: Parts) -> usize
-    requires { ⌜ Good (now s) t ⌝ }
+fn length_of(s: &[u8], row: &[usize; 128], count: usize) -> usize
+    requires { ⌜ Good (now s) (tableIn (now row) count) ⌝ }
     requires { ⌜ length (now s) ≤ 40969 ⌝ }
-    ensures { λ r. ⌜ r ≡ length (linesOf (now (s .entry)) t) ⌝ }
+    ensures { λ r. ⌜ r ≡ length (linesOf (now (s .entry)) (tableIn (now (row .entry)) count)) ⌝ }
 {
-    let parts = t.parts;
-    let count = t.n;
     let mut i = 0;
     let mut n = 0;
     while i < count {
-        let p = parts[i];
+        let p = part_at(row, i);
         n += p.key_end - p.key;
         n += p.value_end - p.value;
         n += 2;
@@ -170,19 +175,19 @@ fn length_of(s: &[u8], t: Parts) -> usize
 }
 
 // Writes the parameters of a table into out, or refuses 7.
-fn lines_out(s: &[u8], t: Parts, out: &mut [u8]) -> Written
-    requires { ⌜ Good (now s) t ⌝ }
+fn lines_out(s: &[u8], row: &[usize; 128], count: usize, out: &mut [u8]) -> Written
+    requires { ⌜ Good (now s) (tableIn (now row) count) ⌝ }
     requires { ⌜ length (now s) ≤ 40969 ⌝ }
-    ensures { λ r. ⌜ Lends (answers (linesOf (now (s .entry)) t)) (now (out .entry)) r (now (out .exit)) ⌝ }
+    ensures { λ r. ⌜ Lends (answers (linesOf (now (s .entry)) (tableIn (now (row .entry)) count))) (now (out .entry)) r (now (out .exit)) ⌝ }
 {
-    let m = length_of(s, t);
+    let m = length_of(s, row, count);
     if out.len() < m {
         return Written::Refused {
             number: 7,
             place: 0,
         };
     }
-    Written::Wrote(lines_of(s, t, out))
+    Written::Wrote(lines_of(s, row, count, out))
 }
 
 // Writes the parameters of a step, which stands in the first n bytes of s: 6, 9, then 7.
@@ -200,14 +205,15 @@ fn step_out(s: &[u8], n: usize, out: &mut [u8]) -> Written
             place: 0,
         };
     }
-    let t = table_of(s, n);
+    let mut row = [0; 128];
+    let t = table_of(s, n, &mut row);
     if t.full {
         return Written::Refused {
             number: 9,
             place: 0,
         };
     }
-    lines_out(s, t.table, out)
+    lines_out(s, &row, t.n, out)
 }
 
 // Writes the first n bytes of s as the value of `_name`.
@@ -222,8 +228,9 @@ fn name_out(s: &[u8], n: usize, out: &mut [u8]) -> Written
         value: 0,
         value_end: n,
     };
-    let e = enter(s, empty(), p);
-    lines_out(s, e.table, out)
+    let mut row = [0; 128];
+    let e = enter(s, &mut row, 0, p);
+    lines_out(s, &row, e.n, out)
 }
 
 // Writes the parameters of a normalised text, the first n bytes of s.

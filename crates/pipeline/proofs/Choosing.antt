@@ -10,7 +10,7 @@ use lib.IntN.{ℤ}
 use lib.Ieee.{Float}
 use lib.ListN.{length, take, drop, replicate, length-replicate, length-take}
 use lib.Seq.{take-all}
-use Rattle.rules.specs.Record.{isAdapt}
+use Rattle.rules.specs.Record.{isOrder, isAdapt}
 use Rattle.rules.specs.Coordinate.{swapped, adapted}
 use Rattle.rules.specs.Act as rules
 use Rattle.rules.specs.Act.{places}
@@ -121,9 +121,9 @@ module _ (l : List ℤ) (d : ℕ) where
   unfolding does goes able moved tooFew takes
   way-drop = record { same = λ m e. acted-moved rules.drops m (le-ltb (length (m .columns)) 0 (omega arith)); ready = refl }
 
-  pub way-order : (back : Bool) → Chosen (does (act-is.Orders back) l) l d (Orders back)
-  unfolding does goes able moved tooFew takes
-  way-order back = record { same = λ m e. acted-moved (rules.orders back l) m (le-ltb (length (m .columns)) 0 (omega arith)); ready = refl }
+  pub way-order : (back : Bool) → acts.able (act-is.Orders back) l ≡ true → Chosen (does (act-is.Orders back) l) l d (Orders back)
+  unfolding does goes able moved tooFew takes acts.able
+  way-order back rule = record { same = λ m e. acted-moved (rules.orders back l) m (le-ltb (length (m .columns)) 0 (omega arith)); ready = rule }
 
   pub way-adapt : (back : Bool) → acts.able (act-is.Adapts back) l ≡ true → Chosen (does (act-is.Adapts back) l) l d (Adapts back)
   unfolding does goes able moved tooFew takes acts.able
@@ -193,6 +193,10 @@ module _ (a : rules.Act) (l : List ℤ) (d n : ℕ) (e : length l ≡ n) (xs s :
             ∙ sym (h .same (held xs s d) (held-depth xs s d));
         beyond = refl;
       }
+
+  pub order-ready : (back : Bool) → Chosen a l d (Orders back) → isOrder l ≡ true
+  unfolding able
+  order-ready back h = h .ready
 
   pub order-acted : (back : Bool) (xs′ : List Float) → Chosen a l d (Orders back) → length xs′ ≡ length xs → tuples xs′ ≡ map (swapped back l) (tuples xs) → Acted a d xs s xs′ s
   unfolding goes depthGone held

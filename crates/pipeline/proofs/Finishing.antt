@@ -16,7 +16,7 @@ use Rattle.rules.specs.Record.{refusal18}
 use Rattle.rules.specs.Act.{Numbered, running}
 use Rattle.rules.specs.Columns.{after, deepest}
 use Rattle.rules.specs.Tuples.{State, tuples, numbers, acted}
-use Rattle.rules.specs.Run.{start, count, badList, storeAfter, refused, finished, unless16, unless15, unless18, runs, Runs}
+use Rattle.rules.specs.Run.{start, badList, storeAfter, refused, finished, unless16, unless15, unless18, runs, Runs}
 use Rattle.rules.specs.declared.Step.{Step}
 use Rattle.rules.specs.declared.Direction.{Direction}
 use Rattle.rules.specs.declared.Ran.{Ran}
@@ -25,14 +25,10 @@ use Rattle.laws.specs.Separators.{or-left, or-right}
 use Rattle.steplaws.specs.Tests.{never}
 use Rattle.steplaws.specs.Depth.{depthAfter}
 use Rattle.steplaws.specs.Lengths.{numbers-tuples}
-use Rattle.acts.specs.Tests.{badOf}
-use Rattle.acts.specs.declared.Bad.the-variants.{At, Nowhere}
 use Rattle.columns.specs.Stores.{columnsOf, held}
 use Rattle.columns.proofs.Standing.{columns-length}
 use Rattle.columns.proofs.Zeroing.{columns-flat}
-use Rattle.pipeline.specs.Plans.{passesFrom, deepestFrom, planOf, Gives, Ends}
-use Rattle.pipeline.specs.declared.Ended.{Ended}
-use Rattle.pipeline.specs.declared.Plan.the-variants.{Over, Deepest}
+use Rattle.pipeline.specs.Plans.{passesFrom, deepestFrom, Gives, Ends}
 use Rattle.pipeline.proofs.Planning.{passes-same, deepest-same}
 
 -- ---- sizes
@@ -70,44 +66,19 @@ pub refuses-17 : (l : List Numbered) (xs store : List Float) (used : ℕ) → le
 unfolding finished refused
 refuses-17 l xs store used h = record { exactly = rw (lt-ltb (length store) used h) }
 
-pub refuses-16 : (l : List Numbered) (xs store : List Float) (place : ℕ) → Over place ≡ planOf (passesFrom l 0) (deepestFrom l 0) → Gives (unless15 false l xs store) (Refused 16 place) xs store
-unfolding unless15 unless16 refused planOf
-refuses-16 l xs store place h = record { exactly = rw (passes-same l (start xs)) (go (passesFrom l 0) h) }
-  where
-    go : (o : Option ℕ) → Over place ≡ planOf o (deepestFrom l 0) → record { answer = Refused 16 place; list = xs; store = store } ≡ unless16 o l xs store
-    go none h = absurd (never (cc h))
-    go (some p) h = let e : place ≡ p = cc h in rw e
+pub refuses-16 : (l : List Numbered) (xs store : List Float) (place : ℕ) → passesFrom l 0 ≡ some place → Gives (unless15 false l xs store) (Refused 16 place) xs store
+unfolding unless15 unless16 refused
+refuses-16 l xs store place h = record { exactly = rw (passes-same l (start xs), h) }
 
 pub refuses-15 : (l : List Numbered) (xs store : List Float) → badList xs ≡ true → Gives (unless15 (badList xs) l xs store) (Refused 15 0) xs store
 unfolding unless15 refused
 refuses-15 l xs store h = record { exactly = rw h }
 
-pub refuses-18 : (d : Direction) (t : List Step) (xs store : List Float) (place : ℕ) → At place ≡ badOf (refusal18 t) → Runs d t xs store (Refused 18 place) xs store
-unfolding runs unless18 refused badOf
-refuses-18 d t xs store place h = record { exactly = go (refusal18 t) h }
-  where
-    go : (o : Option ℕ) → At place ≡ badOf o → record { answer = Refused 18 place; list = xs; store = store } ≡ unless18 o d t xs store
-    go none h = absurd (never (cc h))
-    go (some p) h = let e : place ≡ p = cc h in rw e
+pub refuses-18 : (d : Direction) (t : List Step) (xs store : List Float) (place : ℕ) → refusal18 t ≡ some place → Runs d t xs store (Refused 18 place) xs store
+unfolding runs unless18 refused
+refuses-18 d t xs store place h = record { exactly = rw h }
 
 -- ---- and none
-
--- what a plan says that refuses nothing
-pub planned : (l : List Numbered) (deep : ℕ) → Deepest deep ≡ planOf (passesFrom l 0) (deepestFrom l 0) → (passesFrom l 0 ≡ none) × (deep ≡ deepestFrom l 0)
-unfolding planOf
-planned l deep h = go (passesFrom l 0) h
-  where
-    go : (o : Option ℕ) → Deepest deep ≡ planOf o (deepestFrom l 0) → (o ≡ none) × (deep ≡ deepestFrom l 0)
-    go none h = (refl, cc h)
-    go (some p) h = absurd (never (cc h))
-
-pub none-18 : (t : List Step) → Nowhere ≡ badOf (refusal18 t) → refusal18 t ≡ none
-unfolding badOf
-none-18 t h = go (refusal18 t) h
-  where
-    go : (o : Option ℕ) → Nowhere ≡ badOf o → o ≡ none
-    go none h = refl
-    go (some p) h = absurd (never (cc h))
 
 pub past-16 : (l : List Numbered) (xs store : List Float) (deep : ℕ) (r : Ran) (xs′ store′ : List Float) → passesFrom l 0 ≡ none → deep ≡ deepestFrom l 0
     → Gives (finished l xs store (deep * (length xs / 4))) r xs′ store′ → Gives (unless15 false l xs store) r xs′ store′
@@ -132,25 +103,25 @@ past-18 d t xs store r xs′ store′ h g = record { exactly = g .exactly ∙ ap
 -- ---- the end
 
 -- the columns left, then zeros, then what the store held
-pub finishes : (l : List Numbered) (deep : ℕ) (xs s xs′ s′ s″ : List Float) (r : Ended) → badList xs ≡ false → length xs′ ≡ length xs → length s′ ≡ length s
-    → deep * (length xs / 4) ≤ length s → Ends l deep xs s r xs′ s′
-    → s″ ≡ take (r .left * (length xs / 4)) s′ ++ (replicate (deep * (length xs / 4) - r .left * (length xs / 4)) (fin false 0 (pos 0)) ++ drop (deep * (length xs / 4)) s′)
-    → Gives (finished l xs s (deep * (length xs / 4))) (Done (r .count) (r .left)) xs′ s″
+pub finishes : (l : List Numbered) (deep : ℕ) (xs s xs′ s′ s″ : List Float) (c left : ℕ) → badList xs ≡ false → length xs′ ≡ length xs → length s′ ≡ length s
+    → deep * (length xs / 4) ≤ length s → Ends l deep xs s c left xs′ s′
+    → s″ ≡ take (left * (length xs / 4)) s′ ++ (replicate (deep * (length xs / 4) - left * (length xs / 4)) (fin false 0 (pos 0)) ++ drop (deep * (length xs / 4)) s′)
+    → Gives (finished l xs s (deep * (length xs / 4))) (Done c left) xs′ s″
 unfolding finished storeAfter held
-finishes l deep xs s xs′ s′ s″ r bad lx ls room e z =
+finishes l deep xs s xs′ s′ s″ c left bad lx ls room e z =
     let n = length xs / 4 in
     let used = deep * n in
     let end = after acted l (start xs) in
     let same : length xs′ / 4 ≡ n = ap (λ (k : ℕ). k / 4) lx in
-    let cols : columnsOf n (r .left) s′ ≡ end .columns = ap (λ (k : ℕ). columnsOf k (r .left) s′) (sym same) ∙ ap (λ (m : State). m .columns) (e .machine) in
-    let left : r .left ≡ length (end .columns) = sym (columns-length n (r .left) s′) ∙ ap length cols in
+    let cols : columnsOf n left s′ ≡ end .columns = ap (λ (k : ℕ). columnsOf k left s′) (sym same) ∙ ap (λ (m : State). m .columns) (e .machine) in
+    let gone : left ≡ length (end .columns) = sym (columns-length n left s′) ∙ ap length cols in
     let list : xs′ ≡ numbers (end .tuples) = sym (numbers-tuples xs′ (omega (arith, fourfold xs bad))) ∙ ap (λ (m : State). numbers (m .tuples)) (e .machine) in
-    let low : r .left * n ≤ used = mul-le-mul-right {m = r .left} {n = deep} n (e .low) in
-    let flat : take (r .left * n) s′ ≡ flatMap (λ (v : List Float). v) (reverse (end .columns)) =
-    sym (columns-flat n (r .left) s′) ∙ ap (λ (c : List (List Float)). flatMap (λ (v : List Float). v) (reverse c)) cols in
-    let long : r .left * n ≡ length (flatMap (λ (v : List Float). v) (reverse (end .columns))) = sym (length-take-le (r .left * n) s′ (omega arith)) ∙ ap length flat in
+    let low : left * n ≤ used = mul-le-mul-right {m = left} {n = deep} n (e .low) in
+    let flat : take (left * n) s′ ≡ flatMap (λ (v : List Float). v) (reverse (end .columns)) =
+    sym (columns-flat n left s′) ∙ ap (λ (c : List (List Float)). flatMap (λ (v : List Float). v) (reverse c)) cols in
+    let long : left * n ≡ length (flatMap (λ (v : List Float). v) (reverse (end .columns))) = sym (length-take-le (left * n) s′ (omega arith)) ∙ ap length flat in
     let store : s″ ≡ storeAfter used (end .columns) s = z ∙ (λ i. flat i ++ (replicate (used - long i) (fin false 0 (pos 0)) ++ e .beyond i)) in
-    record { exactly = rw (le-ltb (length s) used room) (λ i. record { answer = Done (e .counted i) (left i); list = list i; store = store i }) }
+    record { exactly = rw (le-ltb (length s) used room) (λ i. record { answer = Done (e .counted i) (gone i); list = list i; store = store i }) }
 
 -- ---- the test of 15
 

@@ -1,6 +1,7 @@
 pub mod Depths
 pub mod Choosing
 pub mod Stepping
+pub mod Checking
 pub mod Planning
 pub mod Running
 pub mod Finishing

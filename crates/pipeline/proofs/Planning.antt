@@ -1,6 +1,6 @@
 -- The walk over a table's steps in running order, and the depths that it tells.
 use mathlib.Core.Path.{_≡_, refl, sym, ap, _∙_}
-use Prim.Native.Nat.{ℕ, _+_, _-_, _<_, _≤_, max}
+use Prim.Native.Nat.{ℕ, _+_, _<_, _≤_, max}
 use mathlib.Core.Bool.{Bool, true, false, cond}
 use mathlib.Core.Option.{none, some}
 use mathlib.Core.List.{List, [], _∷_}
@@ -22,8 +22,7 @@ use Rattle.steplaws.specs.Depth.{depthAfter, acted-depth}
 use Rattle.acts.specs.Visits.{visited, leftFrom}
 use Rattle.acts.proofs.Sounding.{sound-so}
 use Rattle.acts.proofs.Visiting.{left-all, left-none, left-next}
-use Rattle.pipeline.specs.Plans.{depthStepped, passesFrom, deepestFrom, planOf}
-use Rattle.pipeline.specs.declared.Plan.the-variants.{Over, Deepest}
+use Rattle.pipeline.specs.Plans.{depthStepped, passesFrom, deepestFrom}
 
 -- ---- a table that is not refused 18
 
@@ -122,20 +121,21 @@ module _ (d : Direction) (l : List Step) where
         }
 
     pub plan-over : (depth′ k : ℕ) → depth′ ≡ depthStepped d s depth → 64 < depth′ → k ≡ visited d i (length l)
-        → Over (k + 1) ≡ planOf (passesFrom (running d l) 0) (deepestFrom (running d l) 0)
-    unfolding depthStepped planOf
+        → passesFrom (running d l) 0 ≡ some (k + 1)
+    unfolding depthStepped
     plan-over depth′ k e w f =
-        let found : passesFrom (running d l) 0 ≡ some (visited d i (length l) + 1) =
-        inv .passes ∙ ap (λ (z : List Numbered). passesFrom z depth) (left-next d l i x h) ∙ passes-over depth′ w (omitted d s) e (leftFrom d (i + 1) l) (visited d i (length l) + 1) in
-        rw (found, f)
+        inv .passes
+        ∙ ap (λ (z : List Numbered). passesFrom z depth) (left-next d l i x h)
+        ∙ passes-over depth′ w (omitted d s) e (leftFrom d (i + 1) l) (visited d i (length l) + 1)
+        ∙ ap (λ (z : ℕ). some (z + 1)) (sym f)
 
-  pub plan-end : (depth deep i : ℕ) → Planning d l depth deep i → length l ≤ i → Deepest deep ≡ planOf (passesFrom (running d l) 0) (deepestFrom (running d l) 0)
-  unfolding planOf passesFrom deepestFrom
+  pub plan-end : (depth deep i : ℕ) → Planning d l depth deep i → length l ≤ i → (passesFrom (running d l) 0 ≡ none) × (deep ≡ deepestFrom (running d l) 0)
+  unfolding passesFrom deepestFrom
   plan-end depth deep i inv h =
       let e = left-none d l i h in
       let p : passesFrom (running d l) 0 ≡ none = inv .passes ∙ ap (λ (z : List Numbered). passesFrom z depth) e in
       let q : deepestFrom (running d l) 0 ≡ deep = inv .deep ∙ ap (λ (z : List Numbered). max deep (deepestFrom z depth)) e ∙ own deep in
-      rw (p, q)
+      (p, sym q)
     where
       own : (n : ℕ) → max n 0 ≡ n
       own n = omega arith
@@ -158,10 +158,10 @@ module _ (t : Table) (full : length (t .steps) ≡ 64) (h : refusal18 (listed t)
     table-turn deep′ f g =
         plan-turn d steps depth deep i x inv (omega (arith, steps-length t full h)) depth′ deep′ (did ∙ ap (λ (s : Step). depthStepped d s depth) (step-is i k x e w)) f g
 
-    pub table-over : 64 < depth′ → Over (k + 1) ≡ planOf (passesFrom (running d (listed t)) 0) (deepestFrom (running d (listed t)) 0)
+    pub table-over : 64 < depth′ → passesFrom (running d (listed t)) 0 ≡ some (k + 1)
     table-over f =
         rw (table-steps t full h)
         (plan-over d steps depth deep i x inv (omega (arith, steps-length t full h)) depth′ k (did ∙ ap (λ (s : Step). depthStepped d s depth) (step-is i k x e w)) f (e ∙ ap (visited d i) (sym (steps-length t full h))))
 
-  pub table-end : (depth deep i : ℕ) → Planning d steps depth deep i → t .n ≤ i → Deepest deep ≡ planOf (passesFrom (running d (listed t)) 0) (deepestFrom (running d (listed t)) 0)
+  pub table-end : (depth deep i : ℕ) → Planning d steps depth deep i → t .n ≤ i → (passesFrom (running d (listed t)) 0 ≡ none) × (deep ≡ deepestFrom (running d (listed t)) 0)
   table-end depth deep i inv b = rw (table-steps t full h) (plan-end d steps depth deep i inv (omega (arith, steps-length t full h)))

@@ -151,7 +151,7 @@ module _ (d : Direction) (l : List Step) (deepest : ℕ) (xs₀ s₀ : List Floa
         }
 
   pub run-end : (xs s : List Float) (c depth i : ℕ) → Running d l deepest xs₀ s₀ xs s c depth i → length l ≤ i
-      → Ends (running d l) deepest xs₀ s₀ (record { count = c; left = depth }) xs s
+      → Ends (running d l) deepest xs₀ s₀ c depth xs s
   unfolding after countFrom
   run-end xs s c depth i inv h =
       let e = left-none d l i h in
@@ -192,5 +192,5 @@ module _ (t : Table) (full : length (t .steps) ≡ 64) (h : refusal18 (listed t)
         (ec ∙ ap (λ (z : Step). countStepped d z depth (length xs₀ / 4) c) here) few (ed ∙ ap (λ (z : Step). depthStepped d z depth) here)
 
   pub table-ends : (xs s : List Float) (c depth i : ℕ) → Running d steps deepest xs₀ s₀ xs s c depth i → t .n ≤ i
-      → Ends (running d (listed t)) deepest xs₀ s₀ (record { count = c; left = depth }) xs s
+      → Ends (running d (listed t)) deepest xs₀ s₀ c depth xs s
   table-ends xs s c depth i inv b = rw (table-steps t full h) (run-end d steps deepest xs₀ s₀ xs s c depth i inv (omega (arith, steps-length t full h)))

@@ -16,9 +16,6 @@ use Rattle.rules.specs.declared.Direction.{Direction}
 use Rattle.rules.specs.declared.Ran.{Ran}
 use Rattle.steplaws.specs.Depth.{depthAfter}
 use Rattle.columns.specs.Stores.{held}
-use Rattle.pipeline.specs.declared.Ended.{Ended}
-use Rattle.pipeline.specs.declared.Plan.{Plan}
-use Rattle.pipeline.specs.declared.Plan.the-variants.{Over, Deepest}
 
 -- ---- one step, which may be omitted
 
@@ -46,11 +43,6 @@ unfoldable pub deepestFrom : List Numbered → ℕ → ℕ
 deepestFrom [] depth = 0
 deepestFrom (s ∷ l) depth = max (depthAfter (s .does) depth) (deepestFrom l (depthAfter (s .does) depth))
 
--- both, in the words of the code
-unfoldable pub planOf : Option ℕ → ℕ → Plan
-planOf (some place) deepest = Over place
-planOf none deepest = Deepest deepest
-
 -- ---- the run
 
 -- what a step of the table leaves in list and store: the machine, and the store untouched beyond
@@ -63,8 +55,8 @@ pub record Gives (o : Outcome) (result : Ran) (xs store : List Float) : Type 0 w
   pub exactly : _≡_ {A = Outcome} (record { answer = result; list = xs; store = store }) o
 
 -- what the steps of a run leave, `deepest` columns deep at the most: the machine, the count, and the store untouched beyond
-pub record Ends (l : List Numbered) (deepest : ℕ) (xs store : List Float) (result : Ended) (xs′ store′ : List Float) : Type 0 where
-  pub machine : held xs′ store′ (result .left) ≡ after acted l (start xs)
-  pub counted : result .count ≡ count l (start xs)
-  pub low : result .left ≤ deepest
+pub record Ends (l : List Numbered) (deepest : ℕ) (xs store : List Float) (c left : ℕ) (xs′ store′ : List Float) : Type 0 where
+  pub machine : held xs′ store′ left ≡ after acted l (start xs)
+  pub counted : c ≡ count l (start xs)
+  pub low : left ≤ deepest
   pub beyond : drop (deepest * (length xs / 4)) store′ ≡ drop (deepest * (length xs / 4)) store

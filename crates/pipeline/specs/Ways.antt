@@ -7,7 +7,7 @@ use lib.ListN.{length, drop}
 use lib.Dec.{ltb}
 use lib.IntN.{ℤ}
 use lib.Ieee.{Float}
-use Rattle.rules.specs.Record.{isAdapt}
+use Rattle.rules.specs.Record.{isOrder, isAdapt}
 use Rattle.rules.specs.Coordinate.{swapped, adapted}
 use Rattle.rules.specs.Act as rules
 use Rattle.rules.specs.Act.{places}
@@ -32,10 +32,10 @@ depthGone (Orders back) n d = d
 depthGone (Adapts back) n d = d
 depthGone Stays n d = d
 
--- is what it asks there: columns enough, or the arguments of an `adapt`?
+-- is what it asks there: columns enough, or the arguments of an `axisswap` or an `adapt`?
 unfoldable pub able : Way → List ℤ → ℕ → Bool
 able (Moves mv) l d = enough mv (length l) d
-able (Orders back) l d = true
+able (Orders back) l d = isOrder l
 able (Adapts back) l d = isAdapt l
 able Stays l d = true
 

@@ -1,10 +1,9 @@
 // The run of a step table over a list of tuples and a lent store of columns, both ways.
 use acts::Act;
-use acts::Bad;
 use acts::Doing;
 use acts::act_of;
 use acts::is_omitted;
-use acts::refusal18;
+use acts::made;
 use acts::visited_of;
 use columns::Move;
 use columns::move_all;
@@ -16,17 +15,16 @@ use rules::Ran;
 use rules::Step;
 use rules::Table;
 ghost use mathlib.Core.Path.{_≡_};
-ghost use mathlib.Core.Bool.{true, false};
-ghost use mathlib.Core.Option.{none};
+ghost use mathlib.Core.Bool.{true};
 ghost use Prim.Native.Nat.{_*_, _≤_, _<_, _/_, max};
 ghost use lib.ListN.{length, take};
-ghost use Rattle.rules.specs.Record.{made, refusal18, listed};
-ghost use Rattle.rules.specs.Act.{act, running};
+ghost use Rattle.rules.specs.Record.{made, listed};
+ghost use Rattle.rules.specs.Act.{act};
 ghost use Rattle.rules.specs.Tuples.{countsNone};
-ghost use Rattle.rules.specs.Run.{badList, finished, unless15, Runs};
+ghost use Rattle.rules.specs.Run.{badList, Runs};
 ghost use Rattle.steplaws.specs.Depth.{depthAfter};
 ghost use Rattle.acts.specs.Doings.{doing, Does};
-ghost use Rattle.pipeline.specs.Plans.{depthStepped, countStepped, passesFrom, deepestFrom, planOf, Stepped, Gives, Ends};
+ghost use Rattle.pipeline.specs.Plans.{depthStepped, countStepped, Stepped};
 ghost use Rattle.pipeline.specs.Ways.{Chosen, Acted, turns};
 
 // ---- one act
@@ -198,130 +196,13 @@ fn run_step(tuples: &mut [f64], columns: &mut [f64], depth: usize, s: Step, dire
     run_act(tuples, columns, depth, act_of(s, direction));
 }
 
-// ---- the depths of a run
-
-// What a pass over the steps tells without numbers: the place of the first step after which there are more than 64
-// columns, or how deep the run goes.
-pub enum Plan {
-    Over(usize),
-    Deepest(usize),
-}
+// ---- the run
 
 // The greater of two.
 fn max_of(a: usize, b: usize) -> usize
     ensures { λ r. ⌜ r ≡ max a b ⌝ }
 {
     if a < b { b } else { a }
-}
-
-// The depths of the whole run.
-fn plan_of(table: Table, direction: Direction) -> Plan
-    requires { ⌜ refusal18 (listed table) ≡ none ⌝ }
-    ensures { λ r. ⌜ r ≡ planOf (passesFrom (running direction (listed table)) 0) (deepestFrom (running direction (listed table)) 0) ⌝ }
-{
-    let n = table.n;
-    let mut depth = 0;
-    let mut deepest = 0;
-    let mut i = 0;
-    while i < n {
-        let k = visited_of(direction, i, n);
-        let s = table.steps[k];
-        depth = step_depth(s, direction, depth);
-        if 64 < depth {
-            return Plan::Over(k + 1);
-        }
-        deepest = max_of(deepest, depth);
-        i += 1;
-    }
-    Plan::Deepest(deepest)
-}
-
-// ---- the run
-
-// What the steps of a run count, and how many columns they leave.
-pub struct Ended {
-    pub count: usize,
-    pub left: usize,
-}
-
-// Every step that runs, one after the other, in running order.
-fn run_steps(
-    table: Table,
-    direction: Direction,
-    tuples: &mut [f64],
-    columns: &mut [f64],
-    deepest: usize,
-) -> Ended
-    requires { ⌜ refusal18 (listed table) ≡ none ⌝ }
-    requires { ⌜ passesFrom (running direction (listed table)) 0 ≡ none ⌝ }
-    requires { ⌜ deepest ≡ deepestFrom (running direction (listed table)) 0 ⌝ }
-    requires { ⌜ deepest * (length (now tuples) / 4) ≤ length (now columns) ⌝ }
-    ensures { λ r. ⌜ Ends (running direction (listed table)) deepest (now (tuples .entry)) (now (columns .entry)) r (now (tuples .exit)) (now (columns .exit)) ⌝ }
-{
-    let n = table.n;
-    let whole = tuples.len() / 4;
-    let mut count = whole;
-    let mut depth = 0;
-    let mut i = 0;
-    while i < n {
-        let k = visited_of(direction, i, n);
-        let s = table.steps[k];
-        count = step_count(s, direction, depth, count, whole);
-        let next = step_depth(s, direction, depth);
-        run_step(tuples, columns, depth, s, direction);
-        depth = next;
-        i += 1;
-    }
-    Ended {
-        count: count,
-        left: depth,
-    }
-}
-
-// 17, or the run, `deepest` columns deep.
-fn run_within(
-    table: Table,
-    direction: Direction,
-    tuples: &mut [f64],
-    columns: &mut [f64],
-    deepest: usize,
-) -> Ran
-    requires { ⌜ refusal18 (listed table) ≡ none ⌝ }
-    requires { ⌜ badList (now tuples) ≡ false ⌝ }
-    requires { ⌜ passesFrom (running direction (listed table)) 0 ≡ none ⌝ }
-    requires { ⌜ deepest ≡ deepestFrom (running direction (listed table)) 0 ⌝ }
-    ensures { λ r. ⌜ Gives (finished (running direction (listed table)) (now (tuples .entry)) (now (columns .entry)) (deepest * (length (now (tuples .entry)) / 4))) r (now (tuples .exit)) (now (columns .exit)) ⌝ }
-{
-    let n = tuples.len() / 4;
-    let used = deepest * n;
-    if columns.len() < used {
-        return Ran::Refused {
-            number: 17,
-            place: 0,
-        };
-    }
-    let end = run_steps(table, direction, tuples, columns, deepest);
-    zero_rest(columns, end.left * n, used);
-    Ran::Done {
-        count: end.count,
-        left: end.left,
-    }
-}
-
-// 16, or the rest of a run.
-fn run_planned(table: Table, direction: Direction, tuples: &mut [f64], columns: &mut [f64]) -> Ran
-    requires { ⌜ refusal18 (listed table) ≡ none ⌝ }
-    requires { ⌜ badList (now tuples) ≡ false ⌝ }
-    ensures { λ r. ⌜ Gives (unless15 false (running direction (listed table)) (now (tuples .entry)) (now (columns .entry))) r (now (tuples .exit)) (now (columns .exit)) ⌝ }
-{
-    let plan = plan_of(table, direction);
-    match plan {
-        Plan::Over(place) => Ran::Refused {
-            number: 16,
-            place: place,
-        },
-        Plan::Deepest(deepest) => run_within(table, direction, tuples, columns, deepest),
-    }
 }
 
 // 15: is the length of a list no multiple of 4, or over 65,536 tuples?
@@ -335,31 +216,77 @@ fn is_bad_list(tuples: &[f64]) -> bool
     65536 < n / 4
 }
 
-// 15, or the rest of a run.
-fn run_made(table: Table, direction: Direction, tuples: &mut [f64], columns: &mut [f64]) -> Ran
-    requires { ⌜ refusal18 (listed table) ≡ none ⌝ }
-    ensures { λ r. ⌜ Gives (unless15 (badList (now (tuples .entry))) (running direction (listed table)) (now (tuples .entry)) (now (columns .entry))) r (now (tuples .exit)) (now (columns .exit)) ⌝ }
+// The run of a table over a list, four numbers per tuple, and a store of columns: the count and how many columns are left, or
+// the refusal. The table is large and given by value: every pass over it stands here, so that it is not copied for each.
+pub fn run(table: Table, direction: Direction, tuples: &mut [f64], columns: &mut [f64]) -> Ran
+    ensures { λ r. ⌜ Runs (direction) (listed (table)) (now (tuples .entry)) (now (columns .entry)) r (now (tuples .exit)) (now (columns .exit)) ⌝ }
 {
+    let n = table.n;
+    if 64 < n {
+        return Ran::Refused {
+            number: 18,
+            place: 0,
+        };
+    }
+    // 18: the first record that no preparation makes
+    let mut i = 0;
+    while i < n {
+        let s = table.steps[i];
+        i += 1;
+        if !made(s) {
+            return Ran::Refused {
+                number: 18,
+                place: i,
+            };
+        }
+    }
     if is_bad_list(tuples) {
         return Ran::Refused {
             number: 15,
             place: 0,
         };
     }
-    run_planned(table, direction, tuples, columns)
-}
-
-// The run of a table over a list, four numbers per tuple, and a store of columns: the count and how many columns are left, or
-// the refusal.
-pub fn run(table: Table, direction: Direction, tuples: &mut [f64], columns: &mut [f64]) -> Ran
-    ensures { λ r. ⌜ Runs (direction) (listed (table)) (now (tuples .entry)) (now (columns .entry)) r (now (tuples .exit)) (now (columns .exit)) ⌝ }
-{
-    let bad = refusal18(table);
-    match bad {
-        Bad::At(place) => Ran::Refused {
-            number: 18,
-            place: place,
-        },
-        Bad::Nowhere => run_made(table, direction, tuples, columns),
+    // 16: the depths, without numbers
+    let mut depth = 0;
+    let mut deepest = 0;
+    let mut i = 0;
+    while i < n {
+        let k = visited_of(direction, i, n);
+        let s = table.steps[k];
+        depth = step_depth(s, direction, depth);
+        if 64 < depth {
+            return Ran::Refused {
+                number: 16,
+                place: k + 1,
+            };
+        }
+        deepest = max_of(deepest, depth);
+        i += 1;
+    }
+    let whole = tuples.len() / 4;
+    let used = deepest * whole;
+    if columns.len() < used {
+        return Ran::Refused {
+            number: 17,
+            place: 0,
+        };
+    }
+    // every step that runs, one after the other, in running order
+    let mut count = whole;
+    let mut left = 0;
+    let mut i = 0;
+    while i < n {
+        let k = visited_of(direction, i, n);
+        let s = table.steps[k];
+        count = step_count(s, direction, left, count, whole);
+        let next = step_depth(s, direction, left);
+        run_step(tuples, columns, left, s, direction);
+        left = next;
+        i += 1;
+    }
+    zero_rest(columns, left * whole, used);
+    Ran::Done {
+        count: count,
+        left: left,
     }
 }

@@ -26,8 +26,7 @@ use Rattle.text.specs.Writing.{Wrote, Holds, WroteAt}
 use Rattle.text.proofs.Writing.{wrote-front}
 use Rattle.walk.specs.Runs.{Run}
 use Rattle.walk.proofs.Walking.{other, words-none, words-blank}
-use Rattle.table.specs.Parts.{partOf, held, listed}
-use Rattle.table.specs.declared.Entered.{Entered}
+use Rattle.table.specs.Parts.{Entered, partOf, held, listed}
 use Rattle.table.proofs.Placing.{held-length}
 use Rattle.parameters.specs.Elements.{Spelt, Tabled}
 use Rattle.parameters.proofs.Cutting.{run-any, run-none}

@@ -39,10 +39,12 @@ ghost use Rattle.prepare.specs.Lending.{Bare, Roomy, stepReply, stepsRep
 // "a text, or in preparing one step's text, is over 4,096 bytes": 1
 const MOST: usize = 4096;
 
-// A text of so few bytes, ten times as long, has room in 1,024, or in 4,096, and one to spare.
+// A text of so few bytes, ten times as long, has room in 1,024, in 4,096, or in 16,384, and one to spare.
 const FEW: usize = 102;
 
 const SOME: usize = 409;
+
+const MORE: usize = 1638;
 
 // What preparing answers, and the table afterwards. The row that is lent are the first `table.n` records.
 pub struct Preparing {
@@ -66,11 +68,12 @@ fn judge_text(s: &[u8], n: usize) -> Judged
     if is_lead(&s[..n]) {
         return refused(6);
     }
-    let t = table_of(s, n);
+    let mut row = [0; 128];
+    let t = table_of(s, n, &mut row);
     if t.full {
         return refused(9);
     }
-    judge(s, t.table)
+    judge(s, &row, t.n)
 }
 
 // Prepares one step's text, which is "normalised again when cut into parameters"; a and b are room to work in.
@@ -208,7 +211,7 @@ fn answer(
     prepare_normal(&a[..n], table, d, b, c)
 }
 
-// The same over buffers of its own, for a text of a few steps, for a short one and for any.
+// The same over buffers of its own, for a text of a few steps, for a short one, for a longer one and for any.
 fn brief(text: &[u8], table: Table) -> Preparing
     requires { ⌜ length (now text) ≤ 102 ⌝ }
     requires { ⌜ inDomain (now text) ≡ true ⌝ }
@@ -231,6 +234,19 @@ fn short(text: &[u8], table: Table) -> Preparing
     let mut a = [0u8; 4096];
     let mut b = [0u8; 4096];
     let mut c = [0u8; 4096];
+    let mut d = [0u8; 4105];
+    answer(text, table, &mut a, &mut b, &mut c, &mut d)
+}
+
+fn longer(text: &[u8], table: Table) -> Preparing
+    requires { ⌜ length (now text) ≤ 1638 ⌝ }
+    requires { ⌜ inDomain (now text) ≡ true ⌝ }
+    requires { ⌜ length (table .steps) ≡ 64 ⌝ }
+    ensures { λ r. ⌜ r ≡ preparing (now (text .entry)) table ⌝ }
+{
+    let mut a = [0u8; 16384];
+    let mut b = [0u8; 16384];
+    let mut c = [0u8; 16384];
     let mut d = [0u8; 4105];
     answer(text, table, &mut a, &mut b, &mut c, &mut d)
 }
@@ -276,6 +292,9 @@ pub fn prepare(text: &[u8], table: Table) -> Preparing
     }
     if text.len() <= SOME {
         return short(text, table);
+    }
+    if text.len() <= MORE {
+        return longer(text, table);
     }
     long(text, table)
 }

@@ -5,29 +5,26 @@ use mathlib.Core.List.{List}
 use Prim.Native.Nat.{ℕ}
 use lib.Dec.{eqb}
 use lib.Ieee.{Float}
-use Rattle.rules.specs.Refusal.{Reply, written}
+use Rattle.rules.specs.Refusal.{Reply, written, prepared}
 use Rattle.rules.specs.declared.Written.{Written}
 use Rattle.rules.specs.declared.Written.the-variants.{Wrote, Refused}
-use Rattle.rules.specs.Record.{listed}
 use Rattle.rules.specs.Check.{check}
 use Rattle.rules.specs.Run as rules
+use Rattle.rules.specs.declared.Step.{Step}
+use Rattle.rules.specs.declared.Found.{Found}
+use Rattle.rules.specs.declared.Found.the-variants as found-is
 use Rattle.rules.specs.declared.Direction.{Direction}
 use Rattle.rules.specs.declared.Direction.the-variants.{Forward, Inverse}
-use Rattle.rules.specs.declared.Table.{Table}
 use Rattle.rules.specs.declared.Verdict.{Verdict}
 use Rattle.rules.specs.declared.Verdict.the-variants as verdict-is
 use Rattle.rules.specs.declared.Foretold.{Foretold}
 use Rattle.rules.specs.declared.Ran.{Ran}
 use Rattle.rules.specs.declared.Ran.the-variants as ran-is
 use Rattle.sakondreno.specs.declared.Answer.{Answer}
+use Rattle.sakondreno.specs.declared.Part.{Part}
 use Rattle.sakondreno.specs.declared.Said.{Said}
 use Rattle.sakondreno.specs.declared.Checked.{Checked}
 use Rattle.sakondreno.specs.declared.Done.{Done}
-use Rattle.sakondreno.specs.declared.Made.{Made}
-use Rattle.sakondreno.specs.declared.Steps.{Steps}
-use Rattle.prepare.specs.declared.Preparing.{Preparing}
-use Rattle.prepare.specs.Lending.{preparing}
-use Rattle.rules.specs.Text.{Bytes}
 use Rattle.rules.specs.declared.Prepared.{Prepared}
 use Rattle.rules.specs.declared.Prepared.the-variants as prepared-is
 
@@ -39,25 +36,21 @@ plain (Refused number place) = record { number = number; place = place; length =
 abbrev pub replied : Reply ℕ → Answer
 replied r = plain (written r)
 
+-- ---- the walk over the steps
+
+-- 1 for a step, 0 for the end
+unfoldable pub plainFound : Found → Part
+plainFound (found-is.Step from to then) = record { found = 1; from = from; to = to; then = then .at }
+plainFound found-is.End = record { found = 0; from = 0; to = 0; then = 0 }
+
 -- ---- step tables
-
--- the table in the words of the library, and back
-unfoldable pub tableOf : Steps → Table
-tableOf s = record { steps = s .steps; n = s .n }
-
-unfoldable pub stepsOf : Table → Steps
-stepsOf t = record { steps = t .steps; n = t .n }
 
 unfoldable pub plainPrepared : Prepared → Answer
 plainPrepared (prepared-is.Steps n) = record { number = 0; place = 0; length = n }
 plainPrepared (prepared-is.Refused number place) = record { number = number; place = place; length = 0 }
 
-unfoldable pub plainTable : Preparing → Made
-plainTable p = record { answer = plainPrepared (p .answer); table = stepsOf (p .table) }
-
--- what preparing promises of its answer and of the table
-pub record PlainPrepares (text : Bytes) (t : Steps) (result : Made) : Type 0 where
-  pub exactly : result ≡ plainTable (preparing text (tableOf t))
+abbrev pub recorded : Reply ℕ → Answer
+recorded r = plainPrepared (prepared r)
 
 -- 0 is forward, any other number inverse
 unfoldable pub directionOf : ℕ → Direction
@@ -83,8 +76,8 @@ plainCheck f =
     }
 
 -- what the check promises of its answer
-pub record PlainChecks (inverse : ℕ) (t : Steps) (result : Checked) : Type 0 where
-  pub exactly : result ≡ plainCheck (check (directionOf inverse) (listed (tableOf t)))
+pub record PlainChecks (inverse : ℕ) (t : List Step) (result : Checked) : Type 0 where
+  pub exactly : result ≡ plainCheck (check (directionOf inverse) t)
 
 unfoldable pub plainRun : Ran → Done
 plainRun (ran-is.Done count left) = record { number = 0; place = 0; count = count; left = left }
@@ -100,5 +93,5 @@ unfoldable pub plainOutcome : rules.Outcome → Outcome
 plainOutcome o = record { answer = plainRun (o .answer); list = o .list; store = o .store }
 
 -- what a run promises of its result, the list and the store, before and after
-pub record PlainRuns (inverse : ℕ) (t : Steps) (xs store : List Float) (result : Done) (xs′ store′ : List Float) : Type 0 where
-  pub exactly : _≡_ {A = Outcome} (record { answer = result; list = xs′; store = store′ }) (plainOutcome (rules.runs (directionOf inverse) (listed (tableOf t)) xs store))
+pub record PlainRuns (inverse : ℕ) (t : List Step) (xs store : List Float) (result : Done) (xs′ store′ : List Float) : Type 0 where
+  pub exactly : _≡_ {A = Outcome} (record { answer = result; list = xs′; store = store′ }) (plainOutcome (rules.runs (directionOf inverse) t xs store))

@@ -1,20 +1,34 @@
-// The public calls, for C and Rust: thin over the library, and nothing else. A `&[u8]` passes as a pointer and then a
-// length. No call has a `requires`.
-use rules::Direction;
-use rules::Place;
-use rules::Prepared;
-use rules::Ran;
-use rules::Step;
-use rules::Table;
-use rules::Verdict;
-use rules::Written;
+// The public calls, and nothing else. For Rattle by their names, each with its contract where it stands; for C and Rust as
+// exports that answer in plain records, thin over the others: a `&[u8]` passes as a pointer and then a length, and so does a row
+// of step records. No call has a `requires`. Those over a row are proved by hand.
+pub use entry::check;
+pub use entry::prepare;
+pub use entry::run;
+pub use parameters::parameters;
+pub use proj::translate;
+pub use reader::Reader;
+pub use reader::next_from;
+pub use rules::Cursor;
+pub use rules::Direction;
+pub use rules::Foretold;
+pub use rules::Found;
+pub use rules::Place;
+pub use rules::Prepared;
+pub use rules::Ran;
+pub use rules::Step;
+pub use rules::Verdict;
+pub use rules::Written;
+pub use split::split;
+pub use token::normalise;
 ghost use mathlib.Core.Path.{_≡_};
 ghost use Rattle.rules.specs.Refusal.{Promised};
 ghost use Rattle.rules.specs.Normal.{normalise};
 ghost use Rattle.rules.specs.Split.{split};
 ghost use Rattle.rules.specs.Parameters.{parameters};
 ghost use Rattle.rules.specs.Translate.{translate};
-ghost use Rattle.sakondreno.specs.Replies.{plain, replied, tableOf, stepsOf, directionOf, plainPrepared, PlainPrepares, plainVerdict, PlainChecks, plainRun, PlainRuns};
+ghost use Rattle.rules.specs.Prepare.{prepare};
+ghost use Rattle.rules.specs.Reader.{next};
+ghost use Rattle.sakondreno.specs.Replies.{plain, replied, plainFound, plainPrepared, recorded, directionOf, plainVerdict, plainCheck, PlainChecks, plainRun, PlainRuns};
 
 // What a text call answers: number 0 and the length of the answer, which stands at the front of the lent buffer; or the
 // refusal's number and place, and the buffer is as it was.
@@ -74,42 +88,46 @@ pub extern "C" fn sakondreno_translate(text: &[u8], out: &mut [u8]) -> Answer
     answered(proj::translate(text, out))
 }
 
-// ---- step tables
+// ---- the walk over the steps
 
-// A step table: n records, the first of 64.
+// What a reader finds: 1 for a step, from its first byte up to the byte after its last, and the place from which to go on; 0
+// for the end, and all else is zero.
 #[repr(C)]
-pub struct Steps {
-    pub steps: [Step; 64],
-    pub n: usize,
+pub struct Part {
+    pub found: u8,
+    pub from: usize,
+    pub to: usize,
+    pub then: usize,
 }
 
-fn table_of(s: Steps) -> Table
-    ensures { λ r. ⌜ r ≡ tableOf s ⌝ }
+fn part_of(found: Found) -> Part
+    ensures { λ r. ⌜ r ≡ plainFound found ⌝ }
 {
-    let steps = s.steps;
-    Table {
-        steps: steps,
-        n: s.n,
+    match found {
+        Found::Step { from, to, then } => Part {
+            found: 1,
+            from: from,
+            to: to,
+            then: then.at,
+        },
+        Found::End => Part {
+            found: 0,
+            from: 0,
+            to: 0,
+            then: 0,
+        },
     }
 }
 
-fn steps_of(t: Table) -> Steps
-    ensures { λ r. ⌜ r ≡ stepsOf t ⌝ }
+// The next step of a normalised text from the place `at` on.
+#[no_mangle]
+pub extern "C" fn sakondreno_next(text: &[u8], at: usize) -> Part
+    ensures { λ r. ⌜ r ≡ plainFound (next (now (text .entry)) at) ⌝ }
 {
-    let steps = t.steps;
-    Steps {
-        steps: steps,
-        n: t.n,
-    }
+    part_of(reader::next_from(text, at))
 }
 
-// What preparing answers: number 0 and how many records it wrote, from the first of the lent table on; or the refusal's
-// number and place, and the table is as it was. The first n of the table's records are lent.
-#[repr(C)]
-pub struct Made {
-    pub answer: Answer,
-    pub table: Steps,
-}
+// ---- step tables: rows of step records that the caller lends
 
 fn counted(p: Prepared) -> Answer
     ensures { λ r. ⌜ r ≡ plainPrepared p ⌝ }
@@ -128,18 +146,14 @@ fn counted(p: Prepared) -> Answer
     }
 }
 
-// Makes step records of a definition.
+// Makes step records of a definition: number 0 and how many they are, and they stand at the front of the lent row; or the
+// refusal's number and place, and the row is as it was.
 #[no_mangle]
-pub extern "C" fn sakondreno_prepare(text: &[u8], table: Steps) -> Made
-    ensures { λ r. ⌜ PlainPrepares (now (text .entry)) table r ⌝ }
+pub extern "C" fn sakondreno_prepare(text: &[u8], table: &mut [Step]) -> Answer
+    ensures { λ r. ⌜ Promised recorded prepare (now (text .entry)) (now (table .entry)) r (now (table .exit)) ⌝ }
 {
-    let p = prepare::prepare(text, table_of(table));
-    let answer = p.answer;
-    let records = p.table;
-    Made {
-        answer: counted(answer),
-        table: steps_of(records),
-    }
+    let p = entry::prepare(text, table);
+    counted(p)
 }
 
 // 0 is forward, any other number inverse.
@@ -196,12 +210,9 @@ fn verdict_of(v: Verdict) -> Said
     }
 }
 
-// Says of a step table and a direction, without any data, what a run will do.
-#[no_mangle]
-pub extern "C" fn sakondreno_check(table: Steps, inverse: u8) -> Checked
-    ensures { λ r. ⌜ PlainChecks inverse table r ⌝ }
+fn checked_of(f: Foretold) -> Checked
+    ensures { λ r. ⌜ r ≡ plainCheck f ⌝ }
 {
-    let f = foretell::check(table_of(table), direction_of(inverse));
     let verdict = f.verdict;
     let depths = f.depths;
     let places = f.places;
@@ -215,6 +226,16 @@ pub extern "C" fn sakondreno_check(table: Steps, inverse: u8) -> Checked
         told: f.told,
         places: places,
     }
+}
+
+// Says of a step table and a direction, without any data, what a run will do.
+#[no_mangle]
+pub extern "C" fn sakondreno_check(table: &[Step], inverse: u8) -> Checked
+    ensures { λ r. ⌜ PlainChecks inverse (now (table .entry)) r ⌝ }
+{
+    let d = direction_of(inverse);
+    let f = entry::check(table, d);
+    checked_of(f)
 }
 
 // What a run answers: number 0, the success count and the columns left; or the refusal's number and place.
@@ -248,12 +269,14 @@ fn ended(ran: Ran) -> Done
 // Runs a step table over a list of tuples, four numbers each, and a store for columns.
 #[no_mangle]
 pub extern "C" fn sakondreno_run(
-    table: Steps,
+    table: &[Step],
     inverse: u8,
     tuples: &mut [f64],
     columns: &mut [f64],
 ) -> Done
-    ensures { λ r. ⌜ PlainRuns inverse table (now (tuples .entry)) (now (columns .entry)) r (now (tuples .exit)) (now (columns .exit)) ⌝ }
+    ensures { λ r. ⌜ PlainRuns inverse (now (table .entry)) (now (tuples .entry)) (now (columns .entry)) r (now (tuples .exit)) (now (columns .exit)) ⌝ }
 {
-    ended(pipeline::run(table_of(table), direction_of(inverse), tuples, columns))
+    let d = direction_of(inverse);
+    let ran = entry::run(table, d, tuples, columns);
+    ended(ran)
 }

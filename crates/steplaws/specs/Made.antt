@@ -59,7 +59,7 @@ prepared-made ps s h = by10 (named (valueOf (ascii "_name") ps)) h
         by13 n (any (unknown n) ps) (any (λ (p : Parameter). misspelt (kindOf n p) (p .value)) ps) (any (λ (p : Parameter). tooLong (kindOf n p) (p .value)) ps) (λ e. e) h
 
 -- what an answer of two calls, one after the other, is made of
-then-answers : {A B : Type 0} (r : Reply A) (next : A → Reply B) (y : B) → andThen r next ≡ answers y → (x : A) × (r ≡ answers x) × (next x ≡ answers y)
+pub then-answers : {A B : Type 0} (r : Reply A) (next : A → Reply B) (y : B) → andThen r next ≡ answers y → (x : A) × (r ≡ answers x) × (next x ≡ answers y)
 unfolding andThen
 then-answers (answers x) next y h = (x, refl, h)
 then-answers (refuses n p) next y h = absurd (never (cc h))
@@ -147,7 +147,7 @@ lent-answers (answers l) table table′ n h = go (ltb (length table) (length l))
         let f : table′ ≡ l ++ drop (length l) table = ap (λ (x : Prepared × List Step). x .1) h in
         rw (e, f, take-append-seam l (drop (length l) table))
 
-tested-answers : (t : Bytes) (l : List Step) → tested prepare t ≡ answers l → prepare t ≡ answers l
+pub tested-answers : (t : Bytes) (l : List Step) → tested prepare t ≡ answers l → prepare t ≡ answers l
 unfolding tested
 tested-answers t l h = go (ltb 4096 (length t)) (not (inDomain t)) h
   where

@@ -6,14 +6,12 @@ use Prim.Native.Nat.{ℕ, zero, suc, _≤_, _<_}
 use native.Mathlib.Decide.{decLt}
 use native.Mathlib.Numerals.{add-one}
 use native.Mathlib.Omega.{arith}
-use lib.ListN.{length, take, drop, set, replicate, length-append, length-drop, length-set, length-map, length-replicate, drop-of-length-le}
+use lib.ListN.{length, take, drop, set, length-append, length-drop, length-set, length-map, drop-of-length-le}
 use lib.Seq.{length-take-le, take-set-lt, set-split, drop-drop}
 use Rattle.rules.specs.Text.{Bytes}
 use Rattle.rules.specs.Parameters.{Parameter, precedes, entered}
 use Rattle.table.specs.declared.Part.{Part}
-use Rattle.table.specs.declared.Parts.{Parts}
-use Rattle.table.specs.declared.Entered.{Entered}
-use Rattle.table.specs.Parts.{keyOf, partOf, held, listed, Within, AllWithin, Good, Empty, goesFirst, isFirst, Place, Inserted, Enters}
+use Rattle.table.specs.Parts.{Parts, Entered, keyOf, partOf, held, listed, Within, AllWithin, Good, goesFirst, isFirst, Place, Inserted, Enters}
 use Rattle.table.proofs.Placing.{map-append, held-length}
 
 -- ---- within the text
@@ -34,12 +32,6 @@ unfolding AllWithin
 within-drop s l zero a = a
 within-drop s [] (suc i) a = tt
 within-drop s (x ∷ l) (suc i) a = within-drop s l i (a .1)
-
--- ---- no parameters
-
-pub empty-is : (p : Part) → Empty (record { parts = replicate 32 p; n = 0 })
-unfolding Empty AllWithin
-empty-is p = λ s. (refl, record { fits = omega arith; size = length-replicate {A = Part} 32 p; within = tt })
 
 -- ---- what is entered, by the place
 

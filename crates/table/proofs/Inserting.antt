@@ -7,8 +7,7 @@ use native.Mathlib.Omega.{arith}
 use lib.ListN.{length, take, drop, getD, set, length-set, drop-of-length-le}
 use lib.Seq.{length-take-le, take-take, take-suc-set, drop-cons, getD-take, take-set-lt, drop-set-lt, append-snoc}
 use Rattle.table.specs.declared.Part.{Part}
-use Rattle.table.specs.declared.Parts.{Parts}
-use Rattle.table.specs.Parts.{Inserted}
+use Rattle.table.specs.Parts.{Parts, noPart, Inserted}
 
 -- The first n of l with p put in at `at`, up to place j: u has them, `carried` comes next, and then what u has from j on.
 pub record Shifts (l : List Part) (n at : ℕ) (p : Part) (u : List Part) (carried : Part) (j : ℕ) : Type 0 where
@@ -58,3 +57,13 @@ shifts-inserted {t} {at} {p} {u} {carried} {j} m h e l = record {
   size = shifts-size m;
   moved = let k : t .n < length (t .parts) = omega arith in shifts-end m k l;
 }
+
+-- ---- the same, by what the calls leave
+
+pub shifts-turn : {l : List Part} {n at : ℕ} {p : Part} {u v : List Part} {carried x : Part} {j : ℕ} → Shifts l n at p u carried j → n < length l → j < n
+    → x ≡ getD u j noPart → v ≡ set u j carried → Shifts l n at p v x (j + 1)
+shifts-turn m k h e f = rw (e, f) (shifts-more m k noPart h)
+
+pub shifts-done : {t : Parts} {at : ℕ} {p : Part} {u v : List Part} {carried : Part} {j : ℕ} → Shifts (t .parts) (t .n) at p u carried j → t .n < 32
+    → length (t .parts) ≡ 32 → t .n ≤ j → v ≡ set u (t .n) carried → Inserted t at p (record { parts = v; n = t .n + 1 })
+shifts-done m h e l f = rw f (shifts-inserted m h e l)

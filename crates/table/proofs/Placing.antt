@@ -12,8 +12,7 @@ use Rattle.rules.specs.Text.{Bytes, same}
 use Rattle.rules.specs.Parameters.{Parameter, precedes, entered}
 use Rattle.laws.specs.Separators.{or-left, or-right}
 use Rattle.table.specs.declared.Part.{Part}
-use Rattle.table.specs.declared.Parts.{Parts}
-use Rattle.table.specs.Parts.{keyOf, partOf, held, Within, AllWithin, Good, goesAt, goesFirst, isFirst, Skips, Place}
+use Rattle.table.specs.Parts.{Parts, keyOf, partOf, held, Within, AllWithin, Good, goesAt, goesFirst, isFirst, Skips, Place}
 
 pub map-append : {A B : Type 0} (f : A → B) (t u : List A) → map f (t ++ u) ≡ map f t ++ map f u
 map-append f [] u = refl

@@ -8,8 +8,34 @@ use Rattle.rules.specs.Text.{Bytes, same}
 use Rattle.rules.specs.Parameters.{Parameter, precedes, entered}
 use Rattle.rules.specs.Reader.{part}
 use Rattle.table.specs.declared.Part.{Part}
-use Rattle.table.specs.declared.Parts.{Parts}
-use Rattle.table.specs.declared.Entered.{Entered}
+use Rattle.table.specs.declared.Entered as code
+
+-- a table: the first n of its parts
+pub record Parts : Type 0 where
+  pub parts : List Part
+  pub n : ℕ
+
+-- what entering a parameter gives
+pub record Entered : Type 0 where
+  pub full : Bool
+  pub table : Parts
+
+abbrev pub noPart : Part
+noPart = record { key = 0; «key_end» = 0; value = 0; «value_end» = 0 }
+
+-- the parts that a row of numbers holds, four numbers each
+unfoldable pub partsIn : List ℕ → List Part
+partsIn [] = []
+partsIn (a ∷ []) = []
+partsIn (a ∷ b ∷ []) = []
+partsIn (a ∷ b ∷ c ∷ []) = []
+partsIn (a ∷ b ∷ c ∷ d ∷ l) = record { key = a; «key_end» = b; value = c; «value_end» = d } ∷ partsIn l
+
+abbrev pub tableIn : List ℕ → ℕ → Parts
+tableIn row n = record { parts = partsIn row; n = n }
+
+abbrev pub enteredIn : List ℕ → code.Entered → Entered
+enteredIn row r = record { full = r .full; table = tableIn row (r .n) }
 
 abbrev pub keyOf : Bytes → Part → Bytes
 keyOf s p = part (p .key) (p .«key_end») s

@@ -1,11 +1,11 @@
 // The sorted map as a fixed table of 32 text parts, kept in byte order as it fills.
 use walk::is_same;
 ghost use mathlib.Core.Path.{_≡_};
-ghost use Prim.Native.Nat.{_≤_, _<_};
-ghost use lib.ListN.{length, drop, set};
+ghost use Prim.Native.Nat.{_+_, _≤_, _<_};
+ghost use lib.ListN.{length, drop, getD, set};
 ghost use Rattle.rules.specs.Text.{same};
 ghost use Rattle.rules.specs.Parameters.{precedes};
-ghost use Rattle.table.specs.Parts.{keyOf, goesAt, isFirst, held, Within, Good, Empty, Place, Inserted, Enters};
+ghost use Rattle.table.specs.Parts.{keyOf, goesAt, isFirst, held, Within, Good, Place, noPart, partsIn, tableIn, enteredIn, Inserted, Enters};
 
 // A parameter as two parts of a text: its key and its value, each from a place up to another.
 pub struct Part {
@@ -15,32 +15,41 @@ pub struct Part {
     pub value_end: usize,
 }
 
-// A table of parameters: the first n of 32.
-pub struct Parts {
-    pub parts: [Part; 32],
+// A table of parameters is a row of 128 numbers, four for each of 32 parts, in the order of `Part`; and how many parts stand
+// in it.
+
+// What entering a parameter gives: how many there are then, or that the table is full.
+pub struct Entered {
+    pub full: bool,
     pub n: usize,
 }
 
-// What entering a parameter gives: the table with it, or that it is full.
-pub struct Entered {
-    pub full: bool,
-    pub table: Parts,
+// Part i of the row.
+pub fn part_at(row: &[usize; 128], i: usize) -> Part
+    requires { ⌜ length (partsIn (now row)) ≡ 32 ⌝ }
+    requires { ⌜ i < 32 ⌝ }
+    ensures { λ r. ⌜ r ≡ getD (partsIn (now (row .entry))) i noPart ⌝ }
+{
+    let k = i * 4;
+    Part {
+        key: row[k],
+        key_end: row[k + 1],
+        value: row[k + 2],
+        value_end: row[k + 3],
+    }
 }
 
-// A table of no parameters.
-pub fn empty() -> Parts
-    ensures { λ r. ⌜ Empty r ⌝ }
+// Puts p into the row as part i.
+fn put_part(row: &mut [usize; 128], i: usize, p: Part)
+    requires { ⌜ length (partsIn (now row)) ≡ 32 ⌝ }
+    requires { ⌜ i < 32 ⌝ }
+    ensures { λ _. ⌜ partsIn (now (row .exit)) ≡ set (partsIn (now (row .entry))) i p ⌝ }
 {
-    let p = Part {
-        key: 0,
-        key_end: 0,
-        value: 0,
-        value_end: 0,
-    };
-    Parts {
-        parts: [p; 32],
-        n: 0,
-    }
+    let k = i * 4;
+    row[k] = p.key;
+    row[k + 1] = p.key_end;
+    row[k + 2] = p.value;
+    row[k + 3] = p.value_end;
 }
 
 // Does a come before b in byte order?
@@ -90,14 +99,14 @@ fn goes_at(s: &[u8], p: Part, q: Part) -> bool
 }
 
 // The place in the table where p goes.
-fn place_of(s: &[u8], t: Parts, p: Part) -> usize
-    requires { ⌜ Good (now s) t ⌝ }
+fn place_of(s: &[u8], row: &[usize; 128], n: usize, p: Part) -> usize
+    requires { ⌜ Good (now s) (tableIn (now row) n) ⌝ }
     requires { ⌜ Within (now s) p ⌝ }
-    ensures { λ r. ⌜ Place (now (s .entry)) (held t) p r ⌝ }
+    ensures { λ r. ⌜ Place (now (s .entry)) (held (tableIn (now (row .entry)) n)) p r ⌝ }
 {
     let mut i = 0;
-    while i < t.n {
-        let q = t.parts[i];
+    while i < n {
+        let q = part_at(row, i);
         if goes_at(s, p, q) {
             return i;
         }
@@ -107,72 +116,52 @@ fn place_of(s: &[u8], t: Parts, p: Part) -> usize
 }
 
 // Has the part at `at`, if there is one, the key of p?
-fn is_there(s: &[u8], t: Parts, p: Part, at: usize) -> bool
-    requires { ⌜ Good (now s) t ⌝ }
+fn is_there(s: &[u8], row: &[usize; 128], n: usize, p: Part, at: usize) -> bool
+    requires { ⌜ Good (now s) (tableIn (now row) n) ⌝ }
     requires { ⌜ Within (now s) p ⌝ }
-    ensures { λ r. ⌜ r ≡ isFirst (now (s .entry)) p (drop at (held t)) ⌝ }
+    ensures { λ r. ⌜ r ≡ isFirst (now (s .entry)) p (drop at (held (tableIn (now (row .entry)) n))) ⌝ }
 {
-    if at < t.n {
-        let q = t.parts[at];
-        return is_same_key(s, p, q);
+    if at < n {
+        return is_same_key(s, p, part_at(row, at));
     }
     false
 }
 
-// The table with p in place of the part at `at`.
-fn replaced(t: Parts, at: usize, p: Part) -> Parts
-    requires { ⌜ at < t .n ⌝ }
-    requires { ⌜ t .n ≤ 32 ⌝ }
-    ensures { λ r. ⌜ (r .n ≡ t .n) × (r .parts ≡ set (t .parts) at p) ⌝ }
+// Puts p in at `at`, and what was from there on is moved up by one.
+fn insert(row: &mut [usize; 128], n: usize, at: usize, p: Part)
+    requires { ⌜ at ≤ n ⌝ }
+    requires { ⌜ n < 32 ⌝ }
+    requires { ⌜ length (partsIn (now row)) ≡ 32 ⌝ }
+    ensures { λ _. ⌜ Inserted (tableIn (now (row .entry)) n) at p (tableIn (now (row .exit)) (n + 1)) ⌝ }
 {
-    let mut u = t;
-    u.parts[at] = p;
-    u
-}
-
-// The table with p put in at `at`, and what was from there on moved up by one.
-fn inserted(t: Parts, at: usize, p: Part) -> Parts
-    requires { ⌜ at ≤ t .n ⌝ }
-    requires { ⌜ t .n < 32 ⌝ }
-    requires { ⌜ length (t .parts) ≡ 32 ⌝ }
-    ensures { λ r. ⌜ Inserted t at p r ⌝ }
-{
-    let n = t.n;
-    let mut u = t;
     let mut carried = p;
     let mut j = at;
     while j < n {
-        let x = u.parts[j];
-        u.parts[j] = carried;
+        let x = part_at(row, j);
+        put_part(row, j, carried);
         carried = x;
         j += 1;
     }
-    u.parts[n] = carried;
-    u.n = n + 1;
-    u
+    put_part(row, n, carried);
 }
 
 // Enters p into the table: in the place of the part with its key, or in front of the first key that comes after its own.
-pub fn enter(s: &[u8], t: Parts, p: Part) -> Entered
-    requires { ⌜ Good (now s) t ⌝ }
+pub fn enter(s: &[u8], row: &mut [usize; 128], n: usize, p: Part) -> Entered
+    requires { ⌜ Good (now s) (tableIn (now row) n) ⌝ }
     requires { ⌜ Within (now s) p ⌝ }
-    ensures { λ r. ⌜ Enters (now (s .entry)) t p r ⌝ }
+    ensures { λ r. ⌜ Enters (now (s .entry)) (tableIn (now (row .entry)) n) p (enteredIn (now (row .exit)) r) ⌝ }
 {
-    let at = place_of(s, t, p);
-    if is_there(s, t, p, at) {
+    let at = place_of(s, row, n, p);
+    if is_there(s, row, n, p, at) {
+        put_part(row, at, p);
+        return Entered { full: false, n: n };
+    }
+    if n < 32 {
+        insert(row, n, at, p);
         return Entered {
             full: false,
-            table: replaced(t, at, p),
+            n: n + 1,
         };
     }
-    if t.n < 32 {
-        return Entered {
-            full: false,
-            table: inserted(t, at, p),
-        };
-    }
-    Entered {
-        full: true,
-        table: t,
-    }
+    Entered { full: true, n: n }
 }

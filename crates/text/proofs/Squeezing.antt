@@ -22,7 +22,7 @@ left (suc zero) t = cond (inWord t) (joined (words t)) (spaced (words t))
 left (suc (suc zero)) t = spaced (words t)
 left (suc (suc (suc k))) t = joined (words t)
 
-left-end : (k : ℕ) → left k [] ≡ []
+pub left-end : (k : ℕ) → left k [] ≡ []
 unfolding left words kept nonEmpty cut inWord joined joinedBy afterEach
 left-end zero = refl
 left-end (suc zero) = refl
@@ -62,20 +62,25 @@ module _ (x : ℕ) (t : Bytes) where
   left-white (suc (suc zero)) n e = rw (words-cons x t, e)
   left-white (suc (suc (suc k))) n e = rw (words-cons x t, e)
 
-  left-after : white x ≡ true → left 1 (x ∷ t) ≡ left 2 t
+  pub left-after : white x ≡ true → left 1 (x ∷ t) ≡ left 2 t
   unfolding left inWord
   left-after e = rw (words-cons x t, e)
 
-  left-word : (k : ℕ) → (k ≡ 2 → ⊥) → white x ≡ false → left k (x ∷ t) ≡ x ∷ left 1 t
+  pub left-word : (k : ℕ) → (k ≡ 2 → ⊥) → white x ≡ false → left k (x ∷ t) ≡ x ∷ left 1 t
   unfolding left inWord
   left-word zero n e = rw (words-cons x t, e) (joined-grow x t)
   left-word (suc zero) n e = rw (words-cons x t, e) (joined-grow x t)
   left-word (suc (suc zero)) n e = absurd (n refl)
   left-word (suc (suc (suc k))) n e = rw (words-cons x t, e) (joined-grow x t)
 
-  left-space : white x ≡ false → left 2 (x ∷ t) ≡ 32 ∷ x ∷ left 1 t
+  pub left-space : white x ≡ false → left 2 (x ∷ t) ≡ 32 ∷ x ∷ left 1 t
   unfolding left
   left-space e = rw (words-cons x t, e, spaced-grow) (ap (λ (l : Bytes). 32 ∷ l) (joined-grow x t))
+
+-- before the first word, all words are left
+pub left-start : (t : Bytes) → left 0 t ≡ joined (words t)
+unfolding left
+left-start t = refl
 
 -- ---- `squeeze_into`: what is left of `src` from i on is still to be written
 

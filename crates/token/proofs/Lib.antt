@@ -1,3 +1,4 @@
 pub mod Weighing
 pub mod Running
 pub mod Answering
+pub mod Calming

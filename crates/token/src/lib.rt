@@ -19,6 +19,7 @@ ghost use Rattle.rules.specs.Refusal.{Writes};
 ghost use Rattle.laws.specs.Sizes.{weight};
 ghost use Rattle.text.specs.Writing.{Wrote, Holds};
 ghost use Rattle.token.specs.Table.{table};
+ghost use Rattle.token.specs.Calm.{kind, follows, calmFrom};
 
 // "a text .. is over 4,096 bytes": 1
 const MOST: usize = 4096;
@@ -79,9 +80,80 @@ fn cleaned(text: &[u8], a: &mut [u8], b: &mut [u8]) -> usize
     squeeze_into(&a[..n], b)
 }
 
-// The normal form of a text, into the first bytes of a; b is room to work in. `>` and `<` grow tenfold, and no text on
-// the way weighs more than the one that came in.
-pub fn normal_of(text: &[u8], a: &mut [u8], b: &mut [u8]) -> usize
+// What a byte is to the test below: 0, plain; 1, one of `= : , | $`, next to which no space may stand; 2, a space; 3, a byte
+// that is not passed over.
+fn kind_of(b: u8) -> u8
+    ensures { λ r. ⌜ r ≡ kind b ⌝ }
+{
+    if b == 32 {
+        return 2;
+    }
+    if b < 32 {
+        return 3;
+    }
+    if 127 < b {
+        return 3;
+    }
+    if b == 60 {
+        return 3;
+    }
+    if b == 62 {
+        return 3;
+    }
+    if b == 61 {
+        return 1;
+    }
+    if b == 58 {
+        return 1;
+    }
+    if b == 44 {
+        return 1;
+    }
+    if b == 124 {
+        return 1;
+    }
+    if b == 36 {
+        return 1;
+    }
+    0
+}
+
+// May a byte of kind k follow one of the kind `last`?
+fn may_follow(last: u8, k: u8) -> bool
+    ensures { λ r. ⌜ r ≡ follows last k ⌝ }
+{
+    if 2 < k {
+        return false;
+    }
+    if k == 2 {
+        return last == 0;
+    }
+    if k == 1 {
+        return last != 2;
+    }
+    true
+}
+
+// Is it seen at once that the text is its own normal form? Most steps of a normalised text are.
+fn is_calm(text: &[u8]) -> bool
+    ensures { λ r. ⌜ r ≡ calmFrom 2 (now (text .entry)) ⌝ }
+{
+    let mut last: u8 = 2;
+    let mut i = 0;
+    while i < text.len() {
+        let k = kind_of(text[i]);
+        if !may_follow(last, k) {
+            return false;
+        }
+        last = k;
+        i += 1;
+    }
+    last == 0
+}
+
+// The normal form of a text, worked out, into the first bytes of a; b is room to work in. `>` and `<` grow tenfold, and no
+// text on the way weighs more than the one that came in.
+fn worked_out(text: &[u8], a: &mut [u8], b: &mut [u8]) -> usize
     requires { ⌜ weight (trimmed white (now text)) ≤ length (now a) ⌝ }
     requires { ⌜ weight (trimmed white (now text)) ≤ length (now b) ⌝ }
     ensures { λ r. ⌜ Holds (normal (now (text .entry))) r (now (a .exit)) ⌝ }
@@ -91,6 +163,18 @@ pub fn normal_of(text: &[u8], a: &mut [u8], b: &mut [u8]) -> usize
     let n = cleaned(text, a, b);
     let m = run_all(rules, b, n, a);
     squeeze_into(&b[..m], a)
+}
+
+// The normal form of a text, into the first bytes of a; b is room to work in.
+pub fn normal_of(text: &[u8], a: &mut [u8], b: &mut [u8]) -> usize
+    requires { ⌜ weight (trimmed white (now text)) ≤ length (now a) ⌝ }
+    requires { ⌜ weight (trimmed white (now text)) ≤ length (now b) ⌝ }
+    ensures { λ r. ⌜ Holds (normal (now (text .entry))) r (now (a .exit)) ⌝ }
+{
+    if is_calm(text) {
+        return put(text, a, 0);
+    }
+    worked_out(text, a, b)
 }
 
 // The answer for a text that is neither too long nor outside the domain: its normal form in out, or 7. a and b are room

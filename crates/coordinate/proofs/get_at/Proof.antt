@@ -2,26 +2,19 @@ use Rattle.coordinate.proofs.Loading.{get-slot}
 use borrow.Author.Needs.{needs}
 use Rattle.coordinate.proofs.get_at.Statement.{statement}
 use Rattle.coordinate.proofs.get_at.Tie as tie
-use Rattle.coordinate.proofs.get_at.Reads as reads
-use Rattle.coordinate.proofs.get_at.Lts as lts
 
--- src/lib.rt:146:8
 mul-result : tie.Need-mul-result
 mul-result c = search needs
 
--- src/lib.rt:146:8
 add-result : tie.Need-add-result
 add-result c = search needs
 
--- src/lib.rt:146:5
 mul-result-2 : tie.Need-mul-result-2
 mul-result-2 c = search needs
 
--- src/lib.rt:146:5
 shared-slice-read-result : tie.Need-shared-slice-read-result
 shared-slice-read-result c = search needs
 
--- src/lib.rt:141:1
 returns : tie.Need-returns
 returns c = get-slot (c .before .args .xs .now) (c .before .args .k) (c .before .pre .0) (c .before .args .slot) (c .before .pre .1)
 

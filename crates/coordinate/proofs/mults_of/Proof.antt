@@ -3,8 +3,7 @@ use lib.IntN.{pos}
 use Rattle.rules.specs.Record.{arg}
 use Rattle.rules.specs.Coordinate.{mult}
 use Rattle.coordinate.specs.Coords.{mults}
-use Rattle.coordinate.proofs.Signs.{as-is}
-use Rattle.coordinate.proofs.Swapping.{mult-made}
+use Rattle.coordinate.proofs.Signs.{as-is, mult-made}
 use borrow.Author.Needs.{needs}
 use Rattle.coordinate.proofs.mults_of.Statement.{statement}
 use Rattle.coordinate.proofs.mults_of.Tie as tie

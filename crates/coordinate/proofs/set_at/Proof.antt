@@ -2,30 +2,22 @@ use Rattle.coordinate.proofs.Loading.{set-slot}
 use borrow.Author.Needs.{needs}
 use Rattle.coordinate.proofs.set_at.Statement.{statement}
 use Rattle.coordinate.proofs.set_at.Tie as tie
-use Rattle.coordinate.proofs.set_at.Reads as reads
-use Rattle.coordinate.proofs.set_at.Lts as lts
 
--- src/lib.rt:155:8
 mul-xs : tie.Need-mul-xs
 mul-xs c = search needs
 
--- src/lib.rt:155:8
 add-xs : tie.Need-add-xs
 add-xs c = search needs
 
--- src/lib.rt:155:5
 mul-xs-2 : tie.Need-mul-xs-2
 mul-xs-2 c = search needs
 
--- src/lib.rt:155:5
 slice-write-xs : tie.Need-slice-write-xs
 slice-write-xs c = search needs
 
--- src/lib.rt:150:1
 same-length : tie.Need-same-length
 same-length c = search needs
 
--- src/lib.rt:150:1
 returns : tie.Need-returns
 returns c = set-slot (c .args .xs .now) (c .args .k) (c .pre .0) (c .args .slot) (c .args .x) (c .pre .1)
 

@@ -1,8 +1,10 @@
+use mathlib.Core.Path.{refl}
 use native.Mathlib.Omega.{arith}
 use Rattle.rules.specs.Ascii.{ascii}
 use borrow.Author.Tests.{not-true, not-false}
-use Rattle.table.specs.Parts.{listed}
-use Rattle.keys.specs.Faults.{nameAt}
+use Rattle.table.specs.Parts.{listed, tableIn}
+use Rattle.keys.specs.Finding.{spelled, entire}
+use Rattle.keys.specs.Faults.{names, nameAt}
 use Rattle.judge.proofs.Ruling.{lowest-least, lowest-most, judged-unnamed, judged-other, judged-low, judged-own}
 use borrow.Author.Needs.{needs}
 use Rattle.judge.proofs.judge.Statement.{statement}
@@ -34,30 +36,31 @@ slice-aggregate-index-of : tie.Need-slice-aggregate-index-of
 slice-aggregate-index-of c = search needs
 
 index-of-requires : tie.Need-index-of-requires
-index-of-requires c κs = search needs
+unfolding entire
+index-of-requires c κs = refl
 
 refused-requires-2 : tie.Need-refused-requires-2
 refused-requires-2 c κs = search needs
 
 returns-2 : tie.Need-returns-2
-unfolding ascii
+unfolding ascii spelled names
 returns-2 c = judged-other (c .before .before .before .before .before .before .before .value-of .ensures) (not-false _ (c .before .before .before .before .before .if1 .left)) (c .before .before .index-of .ensures) (c .before .if2 .taken) (c .refused2 .ensures)
 
 lowest-requires : tie.Need-lowest-requires
 lowest-requires c κs = search needs
 
 refused-requires-3 : tie.Need-refused-requires-3
-refused-requires-3 c κs = omega (arith, c .before .lowest .ensures, lowest-least (nameAt (c .before .before .before .index-of .result)) (listed (c .before .before .before .before .before .before .before .before .before .before .before .args .s .now) (c .before .before .before .before .before .before .before .before .before .before .before .args .t)))
+refused-requires-3 c κs = omega (arith, c .before .lowest .ensures, lowest-least (nameAt (c .before .before .before .index-of .result)) (listed (c .before .before .before .before .before .before .before .before .before .before .before .args .s .now) (tableIn (c .before .before .before .before .before .before .before .before .before .before .before .args .row .now) (c .before .before .before .before .before .before .before .before .before .before .before .args .n))))
 
 returns-3 : tie.Need-returns-3
-unfolding ascii
+unfolding ascii spelled names
 returns-3 c = judged-low (c .before .before .before .before .before .before .before .before .before .value-of .ensures) (not-false _ (c .before .before .before .before .before .before .before .if1 .left)) (c .before .before .before .before .index-of .ensures) (c .before .before .before .if2 .left) (c .before .before .lowest .ensures) (c .before .if3 .taken) (c .refused3 .ensures)
 
 own-requires : tie.Need-own-requires
-own-requires c κs = (c .before .before .before .before .before .before .before .before .before .before .before .pre, omega (arith, c .before .lowest .ensures, c .if3 .left, lowest-most (nameAt (c .before .before .before .index-of .result)) (listed (c .before .before .before .before .before .before .before .before .before .before .before .args .s .now) (c .before .before .before .before .before .before .before .before .before .before .before .args .t))))
+own-requires c κs = (c .before .before .before .before .before .before .before .before .before .before .before .pre, omega (arith, c .before .lowest .ensures, c .if3 .left, lowest-most (nameAt (c .before .before .before .index-of .result)) (listed (c .before .before .before .before .before .before .before .before .before .before .before .args .s .now) (tableIn (c .before .before .before .before .before .before .before .before .before .before .before .args .row .now) (c .before .before .before .before .before .before .before .before .before .before .before .args .n)))))
 
 returns-4 : tie.Need-returns-4
-unfolding ascii
+unfolding ascii spelled names
 returns-4 c = judged-own (c .before .before .before .before .before .before .before .before .before .value-of .ensures) (not-false _ (c .before .before .before .before .before .before .before .if1 .left)) (c .before .before .before .before .index-of .ensures) (c .before .before .before .if2 .left) (c .before .before .lowest .ensures) (c .before .if3 .left) (c .own .ensures)
 
 pub judge-spec : {M : Type 1} → statement M

@@ -1,6 +1,6 @@
 use Rattle.rules.specs.Ascii.{ascii}
 use borrow.Author.Tests.{not-true, not-false}
-use Rattle.table.specs.Parts.{listed}
+use Rattle.table.specs.Parts.{listed, tableIn}
 use Rattle.judge.proofs.Ruling.{adapt-from, adapt-to, adapt-good, adapt-so}
 use borrow.Author.Needs.{needs}
 use Rattle.judge.proofs.own_adapt.Statement.{statement}
@@ -37,7 +37,7 @@ adapted-requires c κs = (c .before .before .before .before .before .before .wor
 
 recorded-requires : tie.Need-recorded-requires
 unfolding ascii
-recorded-requires c κs = (c .before .before .before .before .before .before .before .before .before .before .pre, adapt-good (listed (c .before .before .before .before .before .before .before .before .before .before .args .s .now) (c .before .before .before .before .before .before .before .before .before .before .args .t)) (c .before .before .before .before .before .before .before .word-given .ensures) (c .before .before .before .before .before .word-given2 .ensures) (not-false _ (c .before .before .before .if1 .left)) (not-false _ (c .before .if2 .left)) (c .adapted .ensures))
+recorded-requires c κs = (c .before .before .before .before .before .before .before .before .before .before .pre, adapt-good (listed (c .before .before .before .before .before .before .before .before .before .before .args .s .now) (tableIn (c .before .before .before .before .before .before .before .before .before .before .args .row .now) (c .before .before .before .before .before .before .before .before .before .before .args .n))) (c .before .before .before .before .before .before .before .word-given .ensures) (c .before .before .before .before .before .word-given2 .ensures) (not-false _ (c .before .before .before .if1 .left)) (not-false _ (c .before .if2 .left)) (c .adapted .ensures))
 
 returns-3 : tie.Need-returns-3
 unfolding ascii

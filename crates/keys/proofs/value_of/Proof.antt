@@ -1,40 +1,38 @@
-use Rattle.parameters.proofs.Lining.{no-part}
 use Prim.Native.Nat.{_-_}
 use mathlib.Core.Path.{sym, _∙_}
-use Rattle.keys.proofs.Looking.{Looking, looking-none, looking-part, looking-here, looking-more, looking-end}
+use Rattle.table.specs.Parts.{tableIn}
+use Rattle.parameters.proofs.Lining.{no-part}
+use Rattle.keys.proofs.Looking.{Looking, looking-none, looking-at, looking-found, looking-past, looking-end}
 use borrow.Author.Needs.{needs}
 use Rattle.keys.proofs.value_of.Statement.{statement}
 use Rattle.keys.proofs.value_of.Tie as tie
 
 abbrev Inv-loop : tie.InvT-loop
-Inv-loop s key t n i₀ i = Looking s t key i
+Inv-loop s row n key i₀ i = Looking s (tableIn row n) key i
 
 abbrev μ-loop : tie.MeasureT-loop
-μ-loop s key t n i₀ i = t .n - i
+μ-loop s row n key i₀ i = n - i
 
 loop-holds : tie.Need-loop-holds Inv-loop μ-loop
 loop-holds c = looking-none _ (c .before .before .pre)
 
-mul-p : tie.Need-mul-p Inv-loop μ-loop
-mul-p c = search needs
-
-element-copy-out-p : tie.Need-element-copy-out-p Inv-loop μ-loop
-element-copy-out-p c = search needs
+part-at-requires : tie.Need-part-at-requires Inv-loop μ-loop
+part-at-requires c κs = search needs
 
 sub-is-same : tie.Need-sub-is-same Inv-loop μ-loop
-sub-is-same c = looking-part (c .before .before .loop .inv) _ (c .before .loop-test .taken) .key-ahead
+sub-is-same c = looking-at (c .before .before .loop .inv) no-part (c .before .loop-test .taken) (c .part-at .ensures) .key-ahead
 
 part-is-same-start : tie.Need-part-is-same-start Inv-loop μ-loop
-part-is-same-start c = let h = looking-part (c .before .before .loop .inv) no-part (c .before .loop-test .taken) in search (needs, h)
+part-is-same-start c = let h = looking-at (c .before .before .loop .inv) no-part (c .before .loop-test .taken) (c .part-at .ensures) in search (needs, h)
 
 part-is-same-end : tie.Need-part-is-same-end Inv-loop μ-loop
-part-is-same-end c = let h = looking-part (c .before .before .loop .inv) no-part (c .before .loop-test .taken) in search (needs, h)
+part-is-same-end c = let h = looking-at (c .before .before .loop .inv) no-part (c .before .loop-test .taken) (c .part-at .ensures) in search (needs, h)
 
 is-same-requires : tie.Need-is-same-requires Inv-loop μ-loop
 is-same-requires c κs = search needs
 
 returns : tie.Need-returns Inv-loop μ-loop
-returns c = looking-here (c .before .before .before .before .before .loop .inv) _ (c .before .before .before .before .loop-test .taken) (sym (c .before .is-same .ensures) ∙ c .if1 .taken)
+returns c = looking-found (c .before .before .before .before .before .loop .inv) no-part (c .before .before .before .before .loop-test .taken) (c .before .before .before .part-at .ensures) (sym (c .before .is-same .ensures) ∙ c .if1 .taken)
 
 add-i : tie.Need-add-i Inv-loop μ-loop
 add-i c = search needs
@@ -43,7 +41,7 @@ loop-less : tie.Need-loop-less Inv-loop μ-loop
 loop-less c = search needs
 
 loop-again : tie.Need-loop-again Inv-loop μ-loop
-loop-again c = looking-more (c .before .before .before .before .before .loop .inv) _ (c .before .before .before .before .loop-test .taken) (sym (c .before .is-same .ensures) ∙ c .if1 .left)
+loop-again c = looking-past (c .before .before .before .before .before .loop .inv) no-part (c .before .before .before .before .loop-test .taken) (c .before .before .before .part-at .ensures) (sym (c .before .is-same .ensures) ∙ c .if1 .left)
 
 returns-2 : tie.Need-returns-2 Inv-loop μ-loop
 returns-2 c = looking-end (c .before .loop .inv) (c .loop-test .left)
@@ -55,8 +53,7 @@ value-of-spec =
     Inv-loop
     μ-loop
     loop-holds
-    mul-p
-    element-copy-out-p
+    part-at-requires
     sub-is-same
     part-is-same-start
     part-is-same-end

@@ -1,26 +1,24 @@
 use Prim.Native.Nat.{_-_}
-use Rattle.parameters.proofs.Lining.{Lines, lines-start, lines-part, lines-room, lines-more, lines-kept, lines-done}
+use Rattle.table.specs.Parts.{tableIn}
+use Rattle.parameters.proofs.Lining.{Lines, no-part, lines-start, lines-part, lines-room, lines-turn, lines-kept, lines-done}
 use borrow.Author.Needs.{needs}
 use Rattle.parameters.proofs.lines_of.Statement.{statement}
 use Rattle.parameters.proofs.lines_of.Tie as tie
 
 abbrev Inv-loop : tie.InvT-loop
-Inv-loop s dst₀ parts count i₀ o₀ dst i o = Lines s (record { parts = parts; n = count }) dst₀ i o dst
+Inv-loop s row count dst₀ i₀ o₀ dst i o = Lines s (tableIn row count) dst₀ i o dst
 
 abbrev μ-loop : tie.MeasureT-loop
-μ-loop s dst₀ parts count i₀ o₀ dst i o = count - i
+μ-loop s row count dst₀ i₀ o₀ dst i o = count - i
 
 loop-holds : tie.Need-loop-holds Inv-loop μ-loop
-loop-holds c = lines-start _ _ _ (c .before .before .before .pre .0) (c .before .before .before .pre .1)
+loop-holds c = lines-start _ _ _ (c .before .before .pre .0) (c .before .before .pre .1)
 
-mul-p : tie.Need-mul-p Inv-loop μ-loop
-mul-p c = search needs
-
-array-copy-out-p : tie.Need-array-copy-out-p Inv-loop μ-loop
-array-copy-out-p c = search needs
+part-at-requires : tie.Need-part-at-requires Inv-loop μ-loop
+part-at-requires c κs = search needs
 
 line-at-requires : tie.Need-line-at-requires Inv-loop μ-loop
-line-at-requires c κs = (lines-part (c .before .before .before .loop .inv) _ (c .before .before .loop-test .taken), lines-room (c .before .before .before .loop .inv) _ (c .before .before .loop-test .taken))
+line-at-requires c κs = rw (c .before .part-at .ensures) (lines-part (c .before .before .before .loop .inv) no-part (c .before .before .loop-test .taken), lines-room (c .before .before .before .loop .inv) no-part (c .before .before .loop-test .taken))
 
 add-i : tie.Need-add-i Inv-loop μ-loop
 add-i c = search needs
@@ -29,7 +27,7 @@ loop-less : tie.Need-loop-less Inv-loop μ-loop
 loop-less c = search needs
 
 loop-again : tie.Need-loop-again Inv-loop μ-loop
-loop-again c = lines-more (c .before .before .before .before .before .before .loop .inv) _ (c .before .before .before .before .before .loop-test .taken) (c .before .before .line-at .ensures)
+loop-again c = lines-turn (c .before .before .before .before .before .before .loop .inv) no-part (c .before .before .before .before .before .loop-test .taken) (c .before .before .before .before .part-at .ensures) (c .before .before .line-at .ensures)
 
 same-length : tie.Need-same-length Inv-loop μ-loop
 same-length c = lines-kept (c .before .loop .inv)
@@ -44,8 +42,7 @@ lines-of-spec =
     Inv-loop
     μ-loop
     loop-holds
-    mul-p
-    array-copy-out-p
+    part-at-requires
     line-at-requires
     add-i
     loop-less

@@ -2,7 +2,7 @@ use mathlib.Core.Path.{_≡_, sym, _∙_}
 use lib.ListN.{length, take, length-map}
 use Rattle.acts.specs.Doings.{doing}
 use Rattle.pipeline.proofs.Depths.{args-length}
-use Rattle.pipeline.proofs.Choosing.{move-ready, move-acted, order-acted, adapt-ready, adapt-gone, stay-acted, chosen-as}
+use Rattle.pipeline.proofs.Choosing.{move-ready, move-acted, order-ready, order-acted, adapt-ready, adapt-gone, stay-acted, chosen-as}
 use borrow.Author.Needs.{needs}
 use Rattle.pipeline.proofs.run_act.Statement.{statement}
 use Rattle.pipeline.proofs.run_act.Tie as tie
@@ -20,6 +20,12 @@ move-all-requires c κs =
     let d = s .args .d in
     move-ready (doing d) (take (d .n) (d .args)) (s .args .depth) (d .n) (long s) (s .args .tuples .now) (s .args .columns .now) _ _ _ (chosen-as (c .before .before .before .way .given .1) (c .before .before .before .before .before .way-of .ensures))
     (s .pre .1 .0 .slots) (s .pre .0) (s .pre .1 .1 .0) (s .pre .1 .1 .1)
+
+axisswap-requires : tie.Need-axisswap-requires
+axisswap-requires c κs =
+    let s = c .before .before .before .before .before .before .before .before in
+    let d = s .args .d in
+    (s .pre .1 .0 .slots, order-ready (doing d) (take (d .n) (d .args)) (s .args .depth) (d .n) (long s) (s .args .tuples .now) (s .args .columns .now) _ (chosen-as (c .before .before .way2 .given .1) (c .before .before .before .before .way-of .ensures)))
 
 adapt-requires : tie.Need-adapt-requires
 adapt-requires c κs =
@@ -62,7 +68,7 @@ run-act-spec =
     (λ c. search needs)
     move-all-requires
     (λ c. search needs)
-    (λ c κs. c .before .before .before .before .before .before .before .before .pre .1 .0 .slots)
+    axisswap-requires
     (λ c. search needs)
     adapt-requires
     (λ c. search needs)

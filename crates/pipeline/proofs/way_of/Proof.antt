@@ -50,6 +50,12 @@ returns-8 c =
     let told = c .before .before .before .act .given in
     way-found (s .args .d) (told .1) (way-roll _ (s .args .depth) (told .0 .0) (told .0 .1 .0) _ (c .before .if3 .left) (s .pre .0) (ruled s (told .1)) (c .turns-of .ensures))
 
+returns-11 : tie.Need-returns-11
+returns-11 c =
+    let s = c .before .before .before in
+    let told = c .before .act2 .given in
+    way-found (s .args .d) (told .1) (way-order _ (s .args .depth) (told .0 .0) (ruled s (told .1)))
+
 returns-12 : tie.Need-returns-12
 returns-12 c =
     let s = c .before .before .before in
@@ -80,5 +86,5 @@ way-of-spec =
     returns-8
     (λ c. way-found (c .before .before .args .d) (c .enum-told5 .given .1) (way-swap _ (c .before .before .args .depth)))
     (λ c. way-found (c .before .before .args .d) (c .enum-told6 .given .1) (way-drop _ (c .before .before .args .depth)))
-    (λ c. way-found (c .before .before .before .args .d) (c .before .act2 .given .1) (way-order _ (c .before .before .before .args .depth) (c .before .act2 .given .0 .0)))
+    returns-11
     returns-12)

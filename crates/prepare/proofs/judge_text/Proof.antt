@@ -1,4 +1,4 @@
-use mathlib.Core.Path.{sym, _∙_}
+use mathlib.Core.Path.{refl, sym, _∙_}
 use Rattle.parameters.proofs.Tabling.{spelt-front}
 use Rattle.prepare.proofs.Stepping.{text-parted, text-blank, text-modifiers, text-full, text-table}
 use borrow.Author.Needs.{needs}
@@ -42,19 +42,19 @@ returns-3 : tie.Need-returns-3
 returns-3 c = text-modifiers (c .before .before .before .before .before .before .before .before .before .before .before .pre) (c .before .before .before .before .before .before .before .before .run-end .ensures) (c .before .before .before .before .before .before .before .if1 .left) (sym (c .before .before .before .before .before .is-blank .ensures) ∙ c .before .before .before .before .if2 .left) (sym (c .before .before .is-lead .ensures) ∙ c .before .if3 .taken) (c .refused3 .ensures)
 
 table-of-requires : tie.Need-table-of-requires
-table-of-requires c κs = (c .before .before .before .before .before .before .before .before .before .before .pre, sym (c .before .is-lead .ensures) ∙ c .if3 .left)
+table-of-requires c κs = (c .before .before .before .before .before .before .before .before .before .before .before .pre, (sym (c .before .before .is-lead .ensures) ∙ c .before .if3 .left, refl))
 
 refused-requires-4 : tie.Need-refused-requires-4
 refused-requires-4 c κs = search needs
 
 returns-4 : tie.Need-returns-4
-returns-4 c = text-full (c .before .before .before .before .before .before .before .before .before .before .before .before .before .pre) (c .before .before .before .before .before .before .before .before .before .before .run-end .ensures) (c .before .before .before .before .before .before .before .before .before .if1 .left) (sym (c .before .before .before .before .before .before .before .is-blank .ensures) ∙ c .before .before .before .before .before .before .if2 .left) (sym (c .before .before .before .before .is-lead .ensures) ∙ c .before .before .before .if3 .left) (c .before .before .table-of .ensures .no-room (c .before .if4 .taken)) (c .refused4 .ensures)
+returns-4 c = text-full (c .before .before .before .before .before .before .before .before .before .before .before .before .before .before .pre) (c .before .before .before .before .before .before .before .before .before .before .before .run-end .ensures) (c .before .before .before .before .before .before .before .before .before .before .if1 .left) (sym (c .before .before .before .before .before .before .before .before .is-blank .ensures) ∙ c .before .before .before .before .before .before .before .if2 .left) (sym (c .before .before .before .before .before .is-lead .ensures) ∙ c .before .before .before .before .if3 .left) (c .before .before .table-of .ensures .no-room (c .before .if4 .taken)) (c .refused4 .ensures)
 
 judge-requires : tie.Need-judge-requires
-judge-requires c κs = c .before .table-of .ensures .good (c .if4 .left)
+judge-requires c κs = c .before .before .table-of .ensures .good (c .before .if4 .left)
 
 returns-5 : tie.Need-returns-5
-returns-5 c = text-table (c .before .before .before .before .before .before .before .before .before .before .before .before .before .pre) (c .before .before .before .before .before .before .before .before .before .before .run-end .ensures) (c .before .before .before .before .before .before .before .before .before .if1 .left) (sym (c .before .before .before .before .before .before .before .is-blank .ensures) ∙ c .before .before .before .before .before .before .if2 .left) (sym (c .before .before .before .before .is-lead .ensures) ∙ c .before .before .before .if3 .left) (c .before .before .table-of .ensures) (c .before .if4 .left) (c .judge .ensures)
+returns-5 c = text-table (c .before .before .before .before .before .before .before .before .before .before .before .before .before .before .before .pre) (c .before .before .before .before .before .before .before .before .before .before .before .before .run-end .ensures) (c .before .before .before .before .before .before .before .before .before .before .before .if1 .left) (sym (c .before .before .before .before .before .before .before .before .before .is-blank .ensures) ∙ c .before .before .before .before .before .before .before .before .if2 .left) (sym (c .before .before .before .before .before .before .is-lead .ensures) ∙ c .before .before .before .before .before .if3 .left) (c .before .before .before .table-of .ensures) (c .before .before .if4 .left) (c .judge .ensures)
 
 pub judge-text-spec : {M : Type 1} → statement M
 judge-text-spec =

@@ -27,11 +27,17 @@ short-requires c κs = (c .if4 .taken, (sym (c .before .before .before .in-domai
 returns-4 : tie.Need-returns-4
 returns-4 c = c .short .ensures
 
-long-requires : tie.Need-long-requires
-long-requires c κs = (c .before .before .before .before .if1 .left, (sym (c .before .before .before .in-domain .ensures) ∙ not-false _ (c .before .before .if2 .left), sym (length-map (c .before .before .before .before .before .before .args .table .steps) _) ∙ c .before .before .before .before .before .before .good .1 .0 .1 .1 .0 .1 .0 .1))
+longer-requires : tie.Need-longer-requires
+longer-requires c κs = (c .if5 .taken, (sym (c .before .before .before .before .in-domain .ensures) ∙ not-false _ (c .before .before .before .if2 .left), sym (length-map (c .before .before .before .before .before .before .before .args .table .steps) _) ∙ c .before .before .before .before .before .before .before .good .1 .0 .1 .1 .0 .1 .0 .1))
 
 returns-5 : tie.Need-returns-5
-returns-5 c = c .long .ensures
+returns-5 c = c .longer .ensures
+
+long-requires : tie.Need-long-requires
+long-requires c κs = (c .before .before .before .before .before .if1 .left, (sym (c .before .before .before .before .in-domain .ensures) ∙ not-false _ (c .before .before .before .if2 .left), sym (length-map (c .before .before .before .before .before .before .before .args .table .steps) _) ∙ c .before .before .before .before .before .before .before .good .1 .0 .1 .1 .0 .1 .0 .1))
+
+returns-6 : tie.Need-returns-6
+returns-6 c = c .long .ensures
 
 pub prepare-spec : {M : Type 1} → statement M
 prepare-spec =
@@ -44,5 +50,7 @@ prepare-spec =
     returns-3
     short-requires
     returns-4
+    longer-requires
+    returns-5
     long-requires
-    returns-5)
+    returns-6)

@@ -1,7 +1,6 @@
 use mathlib.Core.Path.{refl}
 use borrow.Author.Tests.{eq-eqb, ne-eqb}
 use Rattle.sakondreno.specs.Replies.{directionOf}
-use borrow.Author.Needs.{needs}
 use Rattle.sakondreno.proofs.direction_of.Statement.{statement}
 use Rattle.sakondreno.proofs.direction_of.Tie as tie
 

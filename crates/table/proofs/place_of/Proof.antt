@@ -1,30 +1,28 @@
 use Prim.Native.Nat.{_-_}
-use mathlib.Core.Path.{sym, _∙_}
+use mathlib.Core.Path.{sym, ap, _∙_}
+use Rattle.table.specs.Parts.{noPart, tableIn, goesAt}
 use Rattle.table.proofs.Placing.{Seeks, seeks-none, seeks-at, seeks-more, seeks-here, seeks-end}
 use borrow.Author.Needs.{needs}
 use Rattle.table.proofs.place_of.Statement.{statement}
 use Rattle.table.proofs.place_of.Tie as tie
 
 abbrev Inv-loop : tie.InvT-loop
-Inv-loop s p t i₀ i = Seeks s t p i
+Inv-loop s row n p i₀ i = Seeks s (tableIn row n) p i
 
 abbrev μ-loop : tie.MeasureT-loop
-μ-loop s p t i₀ i = t .n - i
+μ-loop s row n p i₀ i = n - i
 
 loop-holds : tie.Need-loop-holds Inv-loop μ-loop
 loop-holds c = seeks-none (c .before .pre .0)
 
-mul-q : tie.Need-mul-q Inv-loop μ-loop
-mul-q c = search needs
-
-element-copy-out-q : tie.Need-element-copy-out-q Inv-loop μ-loop
-element-copy-out-q c = search needs
+part-at-requires : tie.Need-part-at-requires Inv-loop μ-loop
+part-at-requires c κs = search needs
 
 goes-at-requires : tie.Need-goes-at-requires Inv-loop μ-loop
-goes-at-requires c κs = (c .before .before .before .before .pre .1, seeks-at (c .before .before .loop .inv) _ (c .before .loop-test .taken))
+goes-at-requires c κs = (c .before .before .before .before .pre .1, rw (c .part-at .ensures) (seeks-at (c .before .before .loop .inv) noPart (c .before .loop-test .taken)))
 
 returns : tie.Need-returns Inv-loop μ-loop
-returns c = let t = c .before .before .before in seeks-here (t .before .loop .inv) _ (t .loop-test .taken) (sym (c .before .goes-at .ensures) ∙ c .if1 .taken)
+returns c = let t = c .before .before .before .before .before .before .args in seeks-here (c .before .before .before .before .loop .inv) noPart (c .before .before .before .loop-test .taken) (ap (goesAt (t .s .now) (t .p)) (sym (c .before .before .part-at .ensures)) ∙ sym (c .before .goes-at .ensures) ∙ c .if1 .taken)
 
 add-i : tie.Need-add-i Inv-loop μ-loop
 add-i c = search needs
@@ -33,7 +31,7 @@ loop-less : tie.Need-loop-less Inv-loop μ-loop
 loop-less c = search needs
 
 loop-again : tie.Need-loop-again Inv-loop μ-loop
-loop-again c = let t = c .before .before .before in seeks-more (t .before .loop .inv) _ (t .loop-test .taken) (sym (c .before .goes-at .ensures) ∙ c .if1 .left)
+loop-again c = let t = c .before .before .before .before .before .before .args in seeks-more (c .before .before .before .before .loop .inv) noPart (c .before .before .before .loop-test .taken) (ap (goesAt (t .s .now) (t .p)) (sym (c .before .before .part-at .ensures)) ∙ sym (c .before .goes-at .ensures) ∙ c .if1 .left)
 
 returns-2 : tie.Need-returns-2 Inv-loop μ-loop
 returns-2 c = seeks-end (c .before .loop .inv) (c .loop-test .left)
@@ -45,8 +43,7 @@ place-of-spec =
     Inv-loop
     μ-loop
     loop-holds
-    mul-q
-    element-copy-out-q
+    part-at-requires
     goes-at-requires
     returns
     add-i

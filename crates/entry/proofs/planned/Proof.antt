@@ -1,0 +1,19 @@
+use borrow.Author.Needs.{needs}
+use Rattle.entry.specs.Planning.{planned-by}
+use Rattle.entry.proofs.planned.Statement.{statement}
+use Rattle.entry.proofs.planned.Tie as tie
+
+empty-requires : tie.Need-empty-requires
+empty-requires c κs = search needs
+
+prepare-requires : tie.Need-prepare-requires
+prepare-requires c κs = search needs
+
+count-of-requires : tie.Need-count-of-requires
+count-of-requires c κs = search needs
+
+returns : tie.Need-returns
+returns c = planned-by _ _ (c .before .before .before .before .empty .ensures) (c .before .before .before .prepare .ensures) (c .count-of .ensures)
+
+pub planned-spec : {M : Type 1} → statement M
+planned-spec = tie.close (tie.spec empty-requires prepare-requires count-of-requires returns)

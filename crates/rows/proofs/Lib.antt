@@ -1,0 +1,3 @@
+pub mod Rec
+pub mod Recs
+pub mod Tab

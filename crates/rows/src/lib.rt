@@ -1,0 +1,74 @@
+// A row of step records that the caller lends, and the table of 64 by value: the one read from the other, and the one
+// written from the other. The two functions over the row are proved by hand; what they call goes by value.
+use rules::Step;
+use rules::Table;
+ghost use mathlib.Core.Path.{_≡_};
+ghost use Prim.Native.Nat.{min};
+ghost use Rattle.rows.specs.Row.{blanks, tabled, emptied, laid, loaded, Fits};
+
+// 64 records with nothing in them.
+pub fn blank_row() -> [Step; 64]
+    ensures { λ r. ⌜ r ≡ blanks ⌝ }
+{
+    let s = Step {
+        operator: 0,
+        args: [0i32; 8],
+        n: 0,
+        inv: 0,
+        omit_fwd: 0,
+        omit_inv: 0,
+    };
+    [s; 64]
+}
+
+// A table of them, for a row of n records.
+pub fn empty(n: usize) -> Table
+    ensures { λ r. ⌜ r ≡ emptied n ⌝ }
+{
+    let steps = blank_row();
+    table_of(steps, n)
+}
+
+// The table that has these records, for a row of n.
+fn table_of(steps: [Step; 64], n: usize) -> Table
+    ensures { λ r. ⌜ r ≡ tabled steps n ⌝ }
+{
+    Table { steps: steps, n: n }
+}
+
+// How many of n records have room in a table.
+fn least(n: usize) -> usize
+    ensures { λ r. ⌜ r ≡ min n 64 ⌝ }
+{
+    if n < 64 {
+        return n;
+    }
+    64
+}
+
+// The table that stands for a lent row: as many of its records as have room, and its true length.
+pub fn load(table: &[Step]) -> Table
+    ensures { λ r. ⌜ r ≡ loaded (now (table .entry)) ⌝ }
+{
+    let n = table.len();
+    let m = least(n);
+    let mut steps = blank_row();
+    let mut i = 0;
+    while i < m {
+        steps[i] = table[i];
+        i += 1;
+    }
+    table_of(steps, n)
+}
+
+// Writes the first n of 64 records over the first of the lent row; those behind them stay.
+pub fn store(table: &mut [Step], steps: [Step; 64], n: usize)
+    requires { ⌜ Fits n (now table) ⌝ }
+    ensures { λ _. ⌜ now (table .exit) ≡ laid steps n (now (table .entry)) ⌝ }
+{
+    let mut i = 0;
+    while i < n {
+        table[i] = steps[i];
+        i += 1;
+    }
+}

@@ -1,0 +1,5 @@
+pub mod Callee
+pub mod Close
+pub mod Owned
+pub mod Fields
+pub mod Counting

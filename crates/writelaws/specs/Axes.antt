@@ -1,0 +1,187 @@
+-- push and pop: rising places are a choice of the four axes, and their flags are read as that choice.
+use mathlib.Core.Path.{_≡_, refl, sym, ap, _∙_}
+use Prim.Native.Nat.{ℕ, suc, _≤_, _<_}
+use Prim.Native.String.{String}
+use mathlib.Core.Bool.{Bool, true, false, cond, not, _&&_, false≢true}
+use mathlib.Core.Option.{Option, none, some}
+use mathlib.Core.List.{List, [], _∷_, _++_, map}
+use native.Mathlib.Omega.{arith}
+use borrow.Author.Tests.{leb-true, ltb-true, lt-ltb, eqb-true, eqb-false}
+use lib.Dec.{leb, ltb, eqb}
+use lib.IntN.{ℤ, pos, negsuc}
+use Rattle.rules.specs.Ascii.{ascii}
+use Rattle.rules.specs.Lists.{any, all, isNone}
+use Rattle.rules.specs.Text.{Bytes, Words, same}
+use Rattle.rules.specs.Decimal.{minus}
+use Rattle.rules.specs.Refusal.{answers}
+use Rattle.rules.specs.Parameters.{Parameter, parameter, name}
+use Rattle.rules.specs.Record.{Operator, Push, Pop, size, operator, args, isPlace, isRising}
+use Rattle.rules.specs.Keys.{Name, push, pop, nameOf, flag, numbered, worded, everyKey, ownKeys, kindIn, kindOf, unknown, misspelt, tooLong}
+use Rattle.rules.specs.OwnRules.{isGiven, recordOf, flagged, axes, ownRule}
+use Rattle.rules.specs.Prepare.{named, judged}
+use Rattle.rules.specs.declared.Step.{Step}
+use Rattle.laws.specs.Separators.{and-left, and-right}
+use Rattle.writelaws.specs.Writing.{flagOf}
+use Rattle.writelaws.specs.Settled.{lacks}
+use Rattle.writelaws.specs.Given.{Flag, chosen, bare, picked, bareFlags, latest, latest-chosen, any-chosen, faulty, tableFrom, look, looked, table-judged}
+use Rattle.writelaws.specs.Records.{IsMade, marksOf, marks-bare, Unmarked, given-back, record-again}
+
+-- ---- a choice of axes
+
+-- each from its own list, the next behind it
+unfoldable pub before : Bool → ℤ → List ℤ → List ℤ
+before b x l = cond b (x ∷ l) l
+
+-- places that rise from k on: k + 1 or not, and places that rise from there
+record Next (k : ℕ) (l : List ℤ) : Type 0 where
+  has : Bool
+  rest : List ℤ
+  is-it : l ≡ before has (pos (suc k)) rest
+  rises : isRising (suc k) rest ≡ true
+
+place-pos : (x : ℤ) → isPlace x ≡ true → x ≡ pos (size x)
+unfolding isPlace minus
+place-pos (pos n) h = refl
+place-pos (negsuc n) h = absurd (false≢true h)
+
+rising-next : (k : ℕ) (l : List ℤ) → isRising k l ≡ true → Next k l
+unfolding isRising before
+rising-next k [] h = record { has = false; rest = []; is-it = refl; rises = refl }
+rising-next k (x ∷ l) h = go (eqb (size x) (suc k)) refl
+  where
+    p : isPlace x ≡ true
+    p = and-left (isPlace x) _ h
+
+    r : ltb k (size x) && isRising (size x) l ≡ true
+    r = and-right (isPlace x) _ h
+
+    go : (b : Bool) → eqb (size x) (suc k) ≡ b → Next k (x ∷ l)
+    go true e =
+        let q : size x ≡ suc k = eqb-true (size x) (suc k) e in
+        let y : x ≡ pos (suc k) = place-pos x p ∙ ap pos q in
+        record { has = true; rest = l; is-it = ap (λ (z : ℤ). z ∷ l) y; rises = rw q at (and-right (ltb k (size x)) _ r) }
+    go false e =
+        let n = eqb-false (size x) (suc k) e in
+        let m = ltb-true k (size x) (and-left (ltb k (size x)) _ r) in
+        let t : suc k < size x = omega arith in
+        record { has = false; rest = x ∷ l; is-it = refl; rises = rw (p, lt-ltb (suc k) (size x) t) (and-right (ltb k (size x)) _ r) }
+
+rising-end : (l : List ℤ) → isRising 4 l ≡ true → l ≡ []
+unfolding isRising isPlace
+rising-end [] h = refl
+rising-end (x ∷ l) h = absurd (none (leb-true (size x) 4 (and-right (leb 1 (size x)) _ (and-right (not (minus x)) _ (and-left (isPlace x) _ h)))) (ltb-true 4 (size x) (and-left (ltb 4 (size x)) _ (and-right (isPlace x) _ h))))
+  where
+    none : size x ≤ 4 → 4 < size x → ⊥
+    none a b = omega arith
+
+unfoldable pub axesOn : Bool → Bool → Bool → Bool → List ℤ
+axesOn a b c d = before a (pos 1) (before b (pos 2) (before c (pos 3) (before d (pos 4) [])))
+
+pub record Chosen (l : List ℤ) : Type 0 where
+  pub a : Bool
+  pub b : Bool
+  pub c : Bool
+  pub d : Bool
+  pub are : l ≡ axesOn a b c d
+
+pub rising-chosen : (l : List ℤ) → isRising 0 l ≡ true → Chosen l
+unfolding axesOn
+rising-chosen l h =
+    let n1 = rising-next 0 l h in
+    let n2 = rising-next 1 (n1 .rest) (n1 .rises) in
+    let n3 = rising-next 2 (n2 .rest) (n2 .rises) in
+    let n4 = rising-next 3 (n3 .rest) (n3 .rises) in
+    record {
+      a = n1 .has;
+      b = n2 .has;
+      c = n3 .has;
+      d = n4 .has;
+      are = n1 .is-it ∙ ap (before (n1 .has) (pos 1)) (n2 .is-it ∙ ap (before (n2 .has) (pos 2)) (n3 .is-it ∙ ap (before (n3 .has) (pos 3)) (n4 .is-it ∙ ap (before (n4 .has) (pos 4)) (rising-end (n4 .rest) (n4 .rises)))));
+    }
+
+-- ---- its flags
+
+unfoldable pub axisFlag : String → Bool → Flag
+axisFlag key b = record { word = ascii key; given = b }
+
+unfoldable pub axisFlags : Bool → Bool → Bool → Bool → List Flag
+axisFlags a b c d = axisFlag "v_1" a ∷ axisFlag "v_2" b ∷ axisFlag "v_3" c ∷ axisFlag "v_4" d ∷ []
+
+map-before : (b : Bool) (x : ℤ) (l : List ℤ) → map flagOf (before b x l) ≡ cond b (flagOf x ∷ map flagOf l) (map flagOf l)
+unfolding before
+map-before true x l = refl
+map-before false x l = refl
+
+pub flags-chosen : (a b c d : Bool) → map flagOf (axesOn a b c d) ≡ chosen (axisFlags a b c d)
+unfolding axesOn axisFlags axisFlag chosen flagOf ascii
+flags-chosen a b c d =
+    map-before a (pos 1) _
+    ∙ ap (λ (w : Words). cond a (flagOf (pos 1) ∷ w) w) (map-before b (pos 2) _ ∙ ap (λ (w : Words). cond b (flagOf (pos 2) ∷ w) w) (map-before c (pos 3) _ ∙ ap (λ (w : Words). cond c (flagOf (pos 3) ∷ w) w) (map-before d (pos 4) [])))
+
+axis-bare : (a b c d : Bool) → bareFlags (axisFlags a b c d) ≡ true
+unfolding bareFlags axisFlags axisFlag all lacks any ascii
+axis-bare a b c d = refl
+
+-- ---- the judgement
+
+module _ (s : Step) (m : IsMade s) (ch : Chosen (args s)) where
+  abbrev flags : List Flag
+  flags = axisFlags (ch .a) (ch .b) (ch .c) (ch .d)
+
+  abbrev own : List Parameter
+  own = map parameter (chosen flags)
+
+  given-own : (k : Bytes) (r : Option Bytes) → latest k own r ≡ picked k flags r
+  given-own k r = latest-chosen k flags r (axis-bare (ch .a) (ch .b) (ch .c) (ch .d))
+
+  unmarked : Unmarked own
+  unfolding picked axisFlags axisFlag same ascii
+  unmarked = record { no-inv = given-own (ascii "inv") none; no-fwd = given-own (ascii "omit_fwd") none; no-back = given-own (ascii "omit_inv") none }
+
+  looks : (w : Bytes) (k : Bytes) → look w own (marksOf s) k ≡ picked k (marksOf s) (picked k flags (cond (same k (ascii "_name")) (some w) none))
+  unfolding look
+  looks w k = ap (picked k (marksOf s)) (given-own k (cond (same k (ascii "_name")) (some w) none))
+
+  look-name : (w : Bytes) → look w own (marksOf s) (ascii "_name") ≡ some w
+  look-name w = looks w (ascii "_name") ∙ unfold picked marksOf axisFlags axisFlag same ascii in refl
+
+  is-flag : (w : Bytes) (key : String) (b : Bool) → look w own (marksOf s) (ascii key) ≡ cond b (some (ascii "true")) none → isGiven key (tableFrom w own (marksOf s)) ≡ b
+  unfolding isGiven
+  is-flag w key b h = rw (looked w own (marksOf s) (marks-bare s) (ascii key), h) (given-back b (ascii "true"))
+
+  axes-again : (w : Bytes) → axes (tableFrom w own (marksOf s)) ≡ args s
+  unfolding axes flagged
+  axes-again w =
+      rw (
+        is-flag w "v_1" (ch .a) (looks w (ascii "v_1") ∙ unfold picked marksOf axisFlags axisFlag same ascii in refl),
+        is-flag w "v_2" (ch .b) (looks w (ascii "v_2") ∙ unfold picked marksOf axisFlags axisFlag same ascii in refl),
+        is-flag w "v_3" (ch .c) (looks w (ascii "v_3") ∙ unfold picked marksOf axisFlags axisFlag same ascii in refl),
+        is-flag w "v_4" (ch .d) (looks w (ascii "v_4") ∙ unfold picked marksOf axisFlags axisFlag same ascii in refl),
+      )
+      (go (ch .a) (ch .b) (ch .c) (ch .d) ∙ sym (ch .are))
+    where
+      one : (b : Bool) (x : ℤ) (l : List ℤ) → cond b (x ∷ []) [] ++ l ≡ before b x l
+      one true x l = unfold before in refl
+      one false x l = unfold before in refl
+
+      go : (a b c d : Bool) → cond a (pos 1 ∷ []) [] ++ (cond b (pos 2 ∷ []) [] ++ (cond c (pos 3 ∷ []) [] ++ cond d (pos 4 ∷ []) [])) ≡ axesOn a b c d
+      go a b c d = unfold axesOn in one a (pos 1) _ ∙ ap (before a (pos 1)) (one b (pos 2) _ ∙ ap (before b (pos 2)) (one c (pos 3) _ ∙ ap (before c (pos 3)) (unfold before in refl)))
+
+  axes-judged : (n : Name) (o : Operator) (w : Bytes) → nameOf w ≡ some n → faulty n (name w) ≡ false → any (λ (f : Flag). faulty n (bare (f .word))) flags ≡ false
+      → any (λ (f : Flag). faulty n (bare (f .word))) (marksOf s) ≡ false → ((ps : List Parameter) → ownRule n ps ≡ some (recordOf o ps (axes ps)))
+      → operator s ≡ o → judged (tableFrom w own (marksOf s)) ≡ answers s
+  unfolding named
+  axes-judged n o w i f g k r e =
+      table-judged w own (marksOf s) (marks-bare s) n s
+      (rw (look-name w) i)
+      (unfold any in rw f (any-chosen (faulty n) flags (axis-bare (ch .a) (ch .b) (ch .c) (ch .d)) g))
+      k
+      (rw (r (tableFrom w own (marksOf s)), axes-again w, ← e) (ap some (record-again s w own unmarked m)))
+
+  pub push-judged : operator s ≡ Push → judged (tableFrom (ascii "push") own (marksOf s)) ≡ answers s
+  unfolding nameOf any faulty unknown misspelt tooLong kindOf kindIn everyKey ownKeys flag numbered worded name bare marksOf axisFlags axisFlag same ascii isNone ownRule
+  push-judged e = axes-judged push Push (ascii "push") refl refl refl refl (λ ps. refl) e
+
+  pub pop-judged : operator s ≡ Pop → judged (tableFrom (ascii "pop") own (marksOf s)) ≡ answers s
+  unfolding nameOf any faulty unknown misspelt tooLong kindOf kindIn everyKey ownKeys flag numbered worded name bare marksOf axisFlags axisFlag same ascii isNone ownRule
+  pop-judged e = axes-judged pop Pop (ascii "pop") refl refl refl refl (λ ps. refl) e

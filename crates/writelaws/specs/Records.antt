@@ -1,0 +1,157 @@
+-- What a record is that passes `made`: the one that its operator, its arguments and its marks make.
+use mathlib.Core.Path.{_≡_, refl, ap, _∙_}
+use Prim.Native.Nat.{ℕ, zero, suc, _-_, _≤_}
+use Prim.Native.String.{String}
+use mathlib.Core.Bool.{Bool, true, false, cond, not}
+use mathlib.Core.Option.{none, some}
+use mathlib.Core.List.{List, [], _∷_, _++_}
+use native.Mathlib.Omega.{arith}
+use borrow.Author.Tests.{leb-true, eqb-true}
+use lib.ListN.{length, take, drop, replicate, take-append-drop, length-take, length-drop}
+use lib.Seq.{length-take-le}
+use lib.Dec.{leb, eqb}
+use lib.IntN.{ℤ, pos, negsuc}
+use Rattle.rules.specs.Ascii.{ascii}
+use Rattle.rules.specs.Lists.{any, all, isNone}
+use Rattle.rules.specs.Text.{Bytes, Words, same}
+use Rattle.rules.specs.Parameters.{Parameter}
+use Rattle.rules.specs.Record.{numberOf, size, operator, args, unused, isSet, nineDigits, made}
+use Rattle.rules.specs.OwnRules.{isGiven, mark, recordOf}
+use Rattle.rules.specs.declared.Step.{Step}
+use Rattle.laws.specs.Separators.{and-left, and-right}
+use Rattle.steplaws.specs.Operators.{number-operator}
+use Rattle.steplaws.specs.Slots.{Kept}
+use Rattle.writelaws.specs.Writing.{markWord, markWords}
+use Rattle.writelaws.specs.Given.{Flag, chosen, picked, bareFlags, latest, tableFrom, look, looked}
+use Rattle.writelaws.specs.Settled.{lacks}
+
+-- ---- the parts of `made`
+
+zeros : (l : List ℤ) → all (λ (x : ℤ). eqb (size x) 0) l ≡ true → l ≡ replicate (length l) (pos 0)
+unfolding all
+zeros [] h = refl
+zeros (pos n ∷ l) h =
+    let e : n ≡ 0 = eqb-true n 0 (and-left (eqb n 0) _ h) in
+    rw (e, ← zeros l (and-right (eqb n 0) _ h))
+zeros (negsuc n ∷ l) h = absurd (none n (eqb-true (suc n) 0 (and-left (eqb (suc n) 0) _ h)))
+  where
+    none : (n : ℕ) → suc n ≡ 0 → ⊥
+    none n e = omega arith
+
+mark-again : (m : ℕ) → leb m 1 ≡ true → cond (isSet m) 1 0 ≡ m
+unfolding isSet
+mark-again zero h = refl
+mark-again (suc zero) h = refl
+mark-again (suc (suc m)) h = absurd (none m (leb-true (suc (suc m)) 1 h))
+  where
+    none : (m : ℕ) → suc (suc m) ≤ 1 → ⊥
+    none m h = omega arith
+
+-- A record with eight slots, as every record of the code has, that passes the test.
+pub record IsMade (s : Step) : Type 0 where
+  pub number : numberOf (operator s) ≡ s .operator
+  pub slots : args s ++ replicate (8 - length (args s)) (pos 0) ≡ s .args
+  pub many : length (args s) ≡ s .n
+  pub inv-again : cond (isSet (s .inv)) 1 0 ≡ s .inv
+  pub fwd-again : cond (isSet (s .«omit_fwd»)) 1 0 ≡ s .«omit_fwd»
+  pub back-again : cond (isSet (s .«omit_inv»)) 1 0 ≡ s .«omit_inv»
+  pub keeps : Kept (operator s) (args s)
+
+slots-again : (l : List ℤ) (n : ℕ) → length l ≡ 8 → n ≤ 8 → all (λ (x : ℤ). eqb (size x) 0) (drop n l) ≡ true → take n l ++ replicate (8 - length (take n l)) (pos 0) ≡ l
+slots-again l n e h z =
+    let a = length-take-le n l (omega arith) in
+    let b : 8 - length (take n l) ≡ length (drop n l) = omega (arith, length-drop n l) in
+    rw (b, ← zeros (drop n l) z) (take-append-drop n l)
+
+-- its arguments keep their rule
+pub made-keeps : (s : Step) → made s ≡ true → Kept (operator s) (args s)
+unfolding made operator args unused
+made-keeps s h =
+    let h1 = and-right (leb (s .operator) 10) _ h in
+    let h2 = and-right (leb (s .n) 8) _ h1 in
+    let h3 = and-right (leb (s .inv) 1) _ h2 in
+    let h4 = and-right (leb (s .«omit_fwd») 1) _ h3 in
+    let h5 = and-right (leb (s .«omit_inv») 1) _ h4 in
+    let h6 = and-right (all (λ (x : ℤ). eqb (size x) 0) (drop (s .n) (s .args))) _ h5 in
+    let few = leb-true (s .n) 8 (and-left (leb (s .n) 8) _ h1) in
+    record {
+      fit = omega (arith, length-take (s .n) (s .args));
+      nines = and-left (all nineDigits (take (s .n) (s .args))) _ h6;
+      rule = and-right (all nineDigits (take (s .n) (s .args))) _ h6;
+    }
+
+pub made-is : (s : Step) → length (s .args) ≡ 8 → made s ≡ true → IsMade s
+unfolding made operator args unused
+made-is s e h =
+    let h1 = and-right (leb (s .operator) 10) _ h in
+    let h2 = and-right (leb (s .n) 8) _ h1 in
+    let h3 = and-right (leb (s .inv) 1) _ h2 in
+    let h4 = and-right (leb (s .«omit_fwd») 1) _ h3 in
+    let h5 = and-right (leb (s .«omit_inv») 1) _ h4 in
+    let few = leb-true (s .n) 8 (and-left (leb (s .n) 8) _ h1) in
+    record {
+      number = number-operator (s .operator) (leb-true (s .operator) 10 (and-left (leb (s .operator) 10) _ h));
+      slots = slots-again (s .args) (s .n) e few (and-left (all (λ (x : ℤ). eqb (size x) 0) (drop (s .n) (s .args))) _ h5);
+      many = length-take-le (s .n) (s .args) (omega arith);
+      inv-again = mark-again (s .inv) (and-left (leb (s .inv) 1) _ h2);
+      fwd-again = mark-again (s .«omit_fwd») (and-left (leb (s .«omit_fwd») 1) _ h3);
+      back-again = mark-again (s .«omit_inv») (and-left (leb (s .«omit_inv») 1) _ h4);
+      keeps = made-keeps s h;
+    }
+
+-- ---- the marks
+
+unfoldable pub marksOf : Step → List Flag
+marksOf s =
+    record { word = ascii "inv"; given = isSet (s .inv) }
+    ∷ record { word = ascii "omit_fwd"; given = isSet (s .«omit_fwd») }
+    ∷ record { word = ascii "omit_inv"; given = isSet (s .«omit_inv») }
+    ∷ []
+
+cond-append : (b : Bool) (w : Bytes) (ws : Words) → cond b (w ∷ []) [] ++ ws ≡ cond b (w ∷ ws) ws
+cond-append true w ws = refl
+cond-append false w ws = refl
+
+pub mark-words : (s : Step) → markWords s ≡ chosen (marksOf s)
+unfolding markWords markWord marksOf chosen
+mark-words s =
+    cond-append (isSet (s .inv)) (ascii "inv") _
+    ∙ ap (λ (ws : Words). cond (isSet (s .inv)) (ascii "inv" ∷ ws) ws) (cond-append (isSet (s .«omit_fwd»)) (ascii "omit_fwd") _)
+
+pub marks-bare : (s : Step) → bareFlags (marksOf s) ≡ true
+unfolding bareFlags marksOf all lacks any ascii
+marks-bare s = refl
+
+-- parameters that are no marks
+pub record Unmarked (own : List Parameter) : Type 0 where
+  pub no-inv : latest (ascii "inv") own none ≡ none
+  pub no-fwd : latest (ascii "omit_fwd") own none ≡ none
+  pub no-back : latest (ascii "omit_inv") own none ≡ none
+
+pub given-back : (b : Bool) (v : Bytes) → not (isNone (cond b (some v) none)) ≡ b
+unfolding isNone
+given-back true v = refl
+given-back false v = refl
+
+module _ (s : Step) (w : Bytes) (own : List Parameter) (u : Unmarked own) where
+  look-inv : look w own (marksOf s) (ascii "inv") ≡ cond (isSet (s .inv)) (some (ascii "true")) none
+  unfolding look marksOf picked same ascii
+  look-inv = rw (u .no-inv)
+
+  look-fwd : look w own (marksOf s) (ascii "omit_fwd") ≡ cond (isSet (s .«omit_fwd»)) (some (ascii "true")) none
+  unfolding look marksOf picked same ascii
+  look-fwd = rw (u .no-fwd)
+
+  look-back : look w own (marksOf s) (ascii "omit_inv") ≡ cond (isSet (s .«omit_inv»)) (some (ascii "true")) none
+  unfolding look marksOf picked same ascii
+  look-back = rw (u .no-back)
+
+  marked : (key : String) (b : Bool) → look w own (marksOf s) (ascii key) ≡ cond b (some (ascii "true")) none → mark key (tableFrom w own (marksOf s)) ≡ cond b 1 0
+  unfolding mark isGiven
+  marked key b h = rw (looked w own (marksOf s) (marks-bare s) (ascii key), h, given-back b (ascii "true"))
+
+  -- the record that is made of these marks and the record's arguments is the record
+  pub record-again : IsMade s → recordOf (operator s) (tableFrom w own (marksOf s)) (args s) ≡ s
+  unfolding recordOf
+  record-again m =
+      rw (m .number, m .slots, m .many, marked "inv" (isSet (s .inv)) look-inv, marked "omit_fwd" (isSet (s .«omit_fwd»)) look-fwd, marked "omit_inv" (isSet (s .«omit_inv»)) look-back, m .inv-again, m .fwd-again, m .back-again)

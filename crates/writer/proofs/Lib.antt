@@ -1,0 +1,5 @@
+pub mod Putting
+pub mod Going
+pub mod Numbers
+pub mod Texts
+pub mod Stepping
