@@ -11,6 +11,7 @@ use crate::out::say_text;
 use crate::out::say_what;
 use crate::records::answer_prepare;
 use crate::runs::answer_run;
+use crate::shows::answer_steps;
 use crate::writes::answer_write;
 use parameters::parameters;
 use proj::translate;
@@ -35,6 +36,7 @@ enum Request {
     Check,
     Run,
     Write,
+    Steps,
     Nothing,
 }
 
@@ -59,6 +61,9 @@ fn asked(word: &[u8]) -> Request {
     }
     if wire::same(word, b"write") {
         return Request::Write;
+    }
+    if wire::same(word, b"steps") {
+        return Request::Steps;
     }
     asked_text(word)
 }
@@ -110,6 +115,7 @@ pub fn answer(
         Request::Check => answer_check(line, text, out, at),
         Request::Run => answer_run(line, text, list, store, out, at),
         Request::Write => answer_write(line, text, lent, out, at),
+        Request::Steps => answer_steps(line, text, out, at),
         Request::Nothing => say_what(out, at),
     }
 }

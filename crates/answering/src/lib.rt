@@ -7,6 +7,7 @@ mod fields;
 mod out;
 mod records;
 mod runs;
+mod shows;
 mod writes;
 
 ghost use Prim.Native.Nat.{_≤_, _<_};

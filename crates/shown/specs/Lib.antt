@@ -1,0 +1,5 @@
+-- What the program `steps` prints.
+pub mod Showing
+pub mod Spelling
+pub mod Examples
+pub mod Lines
