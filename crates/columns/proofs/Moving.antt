@@ -18,10 +18,8 @@ use Rattle.rules.specs.Columns.{pushed, flipped, topped}
 use Rattle.rules.specs.Tuples.{State, column, stored, onNumbers, drained}
 use Rattle.rules.specs.declared.Coord.{Coord}
 use Rattle.steplaws.specs.Walk.{pushed-more, flipped-more}
-use Rattle.coordinate.specs.Coords.{slot}
 use Rattle.columns.specs.Stores.{col, columnsOf, Stacked}
 use Rattle.columns.proofs.Standing.{under, not-over, drop-same, columns-length, columns-at, columns-same, columns-are, put-own, put-else, put-after}
-use Rattle.columns.proofs.Slots.{column-slot, stored-slot, nan-slot}
 
 -- ---- the places of the first arguments
 
@@ -81,12 +79,12 @@ module _ (n d : ℕ) (l : List ℤ) (ts : List Coord) (s₀ : List Float) where
       own d = omega arith
 
   pub push-turn : (s s′ : List Float) (j r : ℕ) → Pushing n d l ts s₀ s j → j < length l → length ts ≡ n → (length l + d) * n ≤ length s₀
-      → r ≡ slot (size (getD l j (pos 0))) → length s′ ≡ length s → s′ ≡ paste s ((d + j) * n) (column (r + 1) ts) n
+      → r ≡ size (getD l j (pos 0)) → length s′ ≡ length s → s′ ≡ paste s ((d + j) * n) (column r ts) n
       → Pushing n d l ts s₀ s′ (j + 1)
   unfolding pushed columnsOf column
   push-turn s s′ j r inv h many room er len e =
       let i = size (getD l j (pos 0)) in
-      let v = column (r + 1) ts in
+      let v = column r ts in
       let long : length v ≡ n = length-map ts _ ∙ many in
       let fits : (d + j) * n + n ≤ length s = omega (arith, under (d + j) (length l + d) n (omega arith), inv .same-length) in
       let lower : columnsOf n (d + j) s′ ≡ columnsOf n (d + j) s =
@@ -95,7 +93,7 @@ module _ (n d : ℕ) (l : List ℤ) (ts : List Coord) (s₀ : List Float) where
         here =
             ap (λ (q : ℕ). columnsOf n q s′) (one d j)
             ∙ (λ t. put-own n (d + j) s s′ v e fits long len t ∷ lower t)
-            ∙ (λ t. (ap (λ (z : ℕ). column (z + 1) ts) er ∙ column-slot i ts) t ∷ (ap (λ (q : ℕ). columnsOf n q s) (back d j) ∙ inv .here) t)
+            ∙ (λ t. ap (λ (z : ℕ). column z ts) er t ∷ (ap (λ (q : ℕ). columnsOf n q s) (back d j) ∙ inv .here) t)
             ∙ sym (pushed-more onNumbers (places (take j l)) (i ∷ []) ts (columnsOf n d s₀))
             ∙ ap (λ (is : List ℕ). pushed onNumbers is ts (columnsOf n d s₀)) (sym (places-more l j h));
         beyond = λ x b. put-after n (d + j) s s′ v e fits long x (omega (arith, under (d + j) (length l + d) n (omega arith))) ∙ inv .beyond x b;
@@ -133,24 +131,23 @@ module _ (n d : ℕ) (l : List ℤ) (s : List Float) where
       own : (d : ℕ) → d - 0 ≡ d
       own d = omega arith
 
-  module _ (ts ts′ : List Coord) (j r : ℕ) (h : j < length l) (er : r ≡ slot (size (getD l j (pos 0)))) where
+  module _ (ts ts′ : List Coord) (j r : ℕ) (h : j < length l) (er : r ≡ size (getD l j (pos 0))) where
     -- a column more
-    pub pop-turn : j < d → ts′ ≡ stored (r + 1) (col n (d - 1 - j) s) ts → popsLeft n d l ts s j ≡ popsLeft n d l ts′ s (j + 1)
+    pub pop-turn : j < d → ts′ ≡ stored r (col n (d - 1 - j) s) ts → popsLeft n d l ts s j ≡ popsLeft n d l ts′ s (j + 1)
     unfolding drained columnsOf
     pop-turn g made =
         let top : d - j ≡ suc (d - 1 - j) = omega arith in
         let low : d - 1 - j ≡ d - (j + 1) = omega arith in
         (λ t. drained (places-next l j h t) ts (columnsOf n (top t) s))
-        ∙ (λ t. drained (places (drop (j + 1) l)) (sym (made ∙ ap (λ (z : ℕ). stored (z + 1) (col n (d - 1 - j) s) ts) er ∙ stored-slot (size (getD l j (pos 0))) (col n (d - 1 - j) s) ts) t) (columnsOf n (low t) s))
+        ∙ (λ t. drained (places (drop (j + 1) l)) (sym (made ∙ ap (λ (z : ℕ). stored z (col n (d - 1 - j) s) ts) er) t) (columnsOf n (low t) s))
 
     -- no column
-    pub pop-stops : d ≤ j → ts′ ≡ map (put (r + 1) nan) ts → ts′ ≡ popsLeft n d l ts s j .tuples
+    pub pop-stops : d ≤ j → ts′ ≡ map (put r nan) ts → ts′ ≡ popsLeft n d l ts s j .tuples
     unfolding drained columnsOf
     pop-stops g made =
         let none : d - j ≡ 0 = omega arith in
         made
-        ∙ ap (λ (z : ℕ). map (put (z + 1) nan) ts) er
-        ∙ nan-slot (size (getD l j (pos 0))) ts
+        ∙ ap (λ (z : ℕ). map (put z nan) ts) er
         ∙ sym (λ t. drained (places-next l j h t) ts (columnsOf n (none t) s) .tuples)
 
   pub pop-end : (ts : List Coord) (j : ℕ) → length l ≤ j → ts ≡ popsLeft n d l ts s j .tuples
@@ -187,8 +184,8 @@ module _ (n d : ℕ) (l : List ℤ) (ts₀ : List Coord) (s₀ : List Float) whe
   flip-none = record { tuples = refl; here = refl; beyond = λ i h. refl; same-length = refl; upto = omega arith }
 
   pub flip-turn : (ts ts′ : List Coord) (s s′ : List Float) (j r : ℕ) → Flipping n d l ts₀ s₀ ts s j → j < length l → length l ≤ d → length ts ≡ n → d * n ≤ length s₀
-      → r ≡ slot (size (getD l j (pos 0))) → length s′ ≡ length s
-      → ts′ ≡ stored (r + 1) (col n (d - 1 - j) s) ts → s′ ≡ paste s ((d - 1 - j) * n) (column (r + 1) ts) n
+      → r ≡ size (getD l j (pos 0)) → length s′ ≡ length s
+      → ts′ ≡ stored r (col n (d - 1 - j) s) ts → s′ ≡ paste s ((d - 1 - j) * n) (column r ts) n
       → Flipping n d l ts₀ s₀ ts′ s′ (j + 1)
   unfolding column
   flip-turn ts ts′ s s′ j r inv h deep many room er len et es =
@@ -197,7 +194,7 @@ module _ (n d : ℕ) (l : List ℤ) (ts₀ : List Coord) (s₀ : List Float) whe
       let c₀ = columnsOf n d s₀ in
       let f = flipped onNumbers is ts₀ c₀ in
       let q = d - 1 - j in
-      let v = column (r + 1) ts in
+      let v = column r ts in
       let long : length v ≡ n = length-map ts _ ∙ many in
       let fits : q * n + n ≤ length s = omega (arith, under q d n (omega arith), inv .same-length) in
       let count : length is ≡ j = places-length l j (omega arith) in
@@ -209,13 +206,12 @@ module _ (n d : ℕ) (l : List ℤ) (ts₀ : List Coord) (s₀ : List Float) whe
       record {
         tuples =
             et
-            ∙ ap (λ (z : ℕ). stored (z + 1) (col n q s) ts) er
-            ∙ stored-slot i (col n q s) ts
+            ∙ ap (λ (z : ℕ). stored z (col n q s) ts) er
             ∙ (λ t. stored i (was t) (inv .tuples t))
             ∙ sym (ap (λ (z : State). z .tuples) whole);
         here =
             now
-            ∙ (λ t. set (inv .here t) (sym count t) ((ap (λ (z : ℕ). column (z + 1) ts) er ∙ column-slot i ts ∙ ap (column i) (inv .tuples)) t))
+            ∙ (λ t. set (inv .here t) (sym count t) ((ap (λ (z : ℕ). column z ts) er ∙ ap (column i) (inv .tuples)) t))
             ∙ sym (ap (λ (z : State). z .columns) whole);
         beyond = λ x b. put-after n q s s′ v es fits long x (omega (arith, under q d n (omega arith))) ∙ inv .beyond x b;
         same-length = len ∙ inv .same-length;

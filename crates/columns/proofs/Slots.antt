@@ -1,4 +1,4 @@
--- A slot of every tuple: read into a column, and stored from one.
+-- One number of every tuple: read into a column, and stored from one.
 use mathlib.Core.Path.{_≡_, refl, sym, ap, _∙_}
 use Prim.Native.Nat.{ℕ, zero, suc, _+_, _/_, _<_, _≤_}
 use mathlib.Core.List.{List, [], _∷_, map}
@@ -12,26 +12,9 @@ use Rattle.rules.specs.Coordinate.{number, put}
 use Rattle.rules.specs.Tuples.{tuples, column, stored}
 use Rattle.rules.specs.declared.Coord.{Coord}
 use Rattle.steplaws.specs.Lengths.{tuples-length}
-use Rattle.coordinate.specs.Coords.{noTuple, slot}
+use Rattle.coordinate.specs.Coords.{noTuple}
 use Rattle.coordinate.proofs.Firsts.{eachFrom, firstsFrom, firsts-at, firsts-turn, firsts-all}
 use Rattle.columns.proofs.Standing.{paste-after}
-use Rattle.coordinate.proofs.Loading.{slot-number, slot-put}
-
--- a column by the slot of its place
-pub column-slot : (i : ℕ) (ts : List Coord) → column (slot i + 1) ts ≡ column i ts
-unfolding column
-column-slot i [] = refl
-column-slot i (t ∷ ts) = λ k. slot-number i t k ∷ column-slot i ts k
-
-pub stored-slot : (i : ℕ) (v : List Float) (ts : List Coord) → stored (slot i + 1) v ts ≡ stored i v ts
-unfolding stored
-stored-slot i v [] = refl
-stored-slot i [] (t ∷ ts) = refl
-stored-slot i (x ∷ v) (t ∷ ts) = λ k. slot-put i x t k ∷ stored-slot i v ts k
-
-pub nan-slot : (i : ℕ) (ts : List Coord) → map (put (slot i + 1) nan) ts ≡ map (put i nan) ts
-nan-slot i [] = refl
-nan-slot i (t ∷ ts) = λ k. slot-put i nan t k ∷ nan-slot i ts k
 
 -- the number of tuple k in a column
 pub column-at : (i k : ℕ) (ts : List Coord) → k < length ts → number i (getD ts k noTuple) ≡ getD (column i ts) k nan

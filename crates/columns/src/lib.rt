@@ -1,12 +1,12 @@
 // Whole columns between a list of tuples and a lent store. Column q of n numbers stands in the store from q * n on. A step
-// goes column by column: it reads and writes only the numbers that it moves.
+// goes column by column: each tuple is a record of four numbers that goes by value, and one number of it moves.
 use acts::size_at;
-use coordinate::get_at;
+use coordinate::get_coord;
 use coordinate::no_coord;
 use coordinate::not_a_number;
-use coordinate::set_at;
+use coordinate::number_of;
 use coordinate::set_coord;
-use coordinate::slot_of;
+use coordinate::with_number;
 ghost use mathlib.Core.Path.{_≡_};
 ghost use Prim.Native.Nat.{_+_, _-_, _*_, _≤_, _<_, _/_};
 ghost use mathlib.Core.Bool.{false};
@@ -20,7 +20,7 @@ ghost use Rattle.rules.specs.Act.{places};
 ghost use Rattle.rules.specs.Coordinate.{put};
 ghost use Rattle.rules.specs.Columns.{pushed, flipped, rolled, swappedTop};
 ghost use Rattle.rules.specs.Tuples.{tuples, column, stored, onNumbers, drained};
-ghost use Rattle.coordinate.specs.Coords.{noTuple, slot};
+ghost use Rattle.coordinate.specs.Coords.{noTuple};
 ghost use Rattle.columns.specs.Stores.{col, columnsOf, Stacked, Exchanged, Reversed};
 ghost use Rattle.columns.specs.Moves.{Ready, Moved};
 
@@ -34,70 +34,62 @@ pub enum Move {
     Stomp,
 }
 
-// The slot that argument j names.
-fn slot_at(args: &[i32], j: usize) -> usize
-    requires { ⌜ j < length (now args) ⌝ }
-    ensures { λ r. ⌜ (r < 4) × (r ≡ slot (size (getD (now (args .entry)) j (pos 0)))) ⌝ }
-{
-    slot_of(size_at(args, j))
-}
-
 // ---- one column
 
-// The number at a slot of every tuple into the store, from `at` on.
-fn push_column(xs: &[f64], store: &mut [f64], at: usize, slot: usize)
+// Number i of every tuple into the store, from `at` on.
+fn push_column(xs: &[f64], store: &mut [f64], at: usize, i: usize)
     requires { ⌜ at + length (now xs) / 4 ≤ length (now store) ⌝ }
-    requires { ⌜ slot < 4 ⌝ }
-    ensures { λ _. ⌜ now (store .exit) ≡ paste (now (store .entry)) at (column (slot + 1) (tuples (now (xs .entry)))) (length (now (xs .entry)) / 4) ⌝ }
+    ensures { λ _. ⌜ now (store .exit) ≡ paste (now (store .entry)) at (column i (tuples (now (xs .entry)))) (length (now (xs .entry)) / 4) ⌝ }
 {
     let n = xs.len() / 4;
     let mut k = 0;
     while k < n {
-        store[at + k] = get_at(xs, k, slot);
+        let c = get_coord(xs, k);
+        store[at + k] = number_of(c, i);
         k += 1;
     }
 }
 
-// The store's numbers from `at` on into a slot of every tuple.
-fn pop_column(xs: &mut [f64], store: &[f64], at: usize, slot: usize)
+// The store's numbers from `at` on into number i of every tuple.
+fn pop_column(xs: &mut [f64], store: &[f64], at: usize, i: usize)
     requires { ⌜ at + length (now xs) / 4 ≤ length (now store) ⌝ }
-    requires { ⌜ slot < 4 ⌝ }
-    ensures { λ _. ⌜ tuples (now (xs .exit)) ≡ stored (slot + 1) (take (length (now (xs .entry)) / 4) (drop at (now (store .entry)))) (tuples (now (xs .entry))) ⌝ }
+    ensures { λ _. ⌜ tuples (now (xs .exit)) ≡ stored i (take (length (now (xs .entry)) / 4) (drop at (now (store .entry)))) (tuples (now (xs .entry))) ⌝ }
 {
     let n = xs.len() / 4;
     let mut k = 0;
     while k < n {
+        let c = get_coord(xs, k);
         let x = store[at + k];
-        set_at(xs, k, slot, x);
+        set_coord(xs, k, with_number(c, i, x));
         k += 1;
     }
 }
 
 // The two exchanged.
-fn flip_column(xs: &mut [f64], store: &mut [f64], at: usize, slot: usize)
+fn flip_column(xs: &mut [f64], store: &mut [f64], at: usize, i: usize)
     requires { ⌜ at + length (now xs) / 4 ≤ length (now store) ⌝ }
-    requires { ⌜ slot < 4 ⌝ }
-    ensures { λ _. ⌜ (tuples (now (xs .exit)) ≡ stored (slot + 1) (take (length (now (xs .entry)) / 4) (drop at (now (store .entry)))) (tuples (now (xs .entry)))) × (now (store .exit) ≡ paste (now (store .entry)) at (column (slot + 1) (tuples (now (xs .entry)))) (length (now (xs .entry)) / 4)) ⌝ }
+    ensures { λ _. ⌜ (tuples (now (xs .exit)) ≡ stored i (take (length (now (xs .entry)) / 4) (drop at (now (store .entry)))) (tuples (now (xs .entry)))) × (now (store .exit) ≡ paste (now (store .entry)) at (column i (tuples (now (xs .entry)))) (length (now (xs .entry)) / 4)) ⌝ }
 {
     let n = xs.len() / 4;
     let mut k = 0;
     while k < n {
+        let c = get_coord(xs, k);
         let x = store[at + k];
-        store[at + k] = get_at(xs, k, slot);
-        set_at(xs, k, slot, x);
+        store[at + k] = number_of(c, i);
+        set_coord(xs, k, with_number(c, i, x));
         k += 1;
     }
 }
 
-// Not a number at a slot of every tuple.
-fn nan_column(xs: &mut [f64], slot: usize)
-    requires { ⌜ slot < 4 ⌝ }
-    ensures { λ _. ⌜ tuples (now (xs .exit)) ≡ map (put (slot + 1) nan) (tuples (now (xs .entry))) ⌝ }
+// Number i of every tuple is not one.
+fn nan_column(xs: &mut [f64], i: usize)
+    ensures { λ _. ⌜ tuples (now (xs .exit)) ≡ map (put i nan) (tuples (now (xs .entry))) ⌝ }
 {
     let n = xs.len() / 4;
     let mut k = 0;
     while k < n {
-        set_at(xs, k, slot, not_a_number());
+        let c = get_coord(xs, k);
+        set_coord(xs, k, with_number(c, i, not_a_number()));
         k += 1;
     }
 }
@@ -130,7 +122,7 @@ fn push(xs: &[f64], store: &mut [f64], depth: usize, args: &[i32])
     let n = xs.len() / 4;
     let mut j = 0;
     while j < args.len() {
-        push_column(xs, store, (depth + j) * n, slot_at(args, j));
+        push_column(xs, store, (depth + j) * n, size_at(args, j));
         j += 1;
     }
 }
@@ -143,12 +135,12 @@ fn pop(xs: &mut [f64], store: &[f64], depth: usize, args: &[i32])
     let n = xs.len() / 4;
     let mut j = 0;
     while j < args.len() {
-        let slot = slot_at(args, j);
+        let i = size_at(args, j);
         if depth <= j {
-            nan_column(xs, slot);
+            nan_column(xs, i);
             return;
         }
-        pop_column(xs, store, (depth - 1 - j) * n, slot);
+        pop_column(xs, store, (depth - 1 - j) * n, i);
         j += 1;
     }
 }
@@ -162,7 +154,7 @@ fn flip(xs: &mut [f64], store: &mut [f64], depth: usize, args: &[i32])
     let n = xs.len() / 4;
     let mut j = 0;
     while j < args.len() {
-        flip_column(xs, store, (depth - 1 - j) * n, slot_at(args, j));
+        flip_column(xs, store, (depth - 1 - j) * n, size_at(args, j));
         j += 1;
     }
 }

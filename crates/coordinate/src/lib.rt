@@ -47,6 +47,41 @@ pub fn number_of(c: Coord, i: usize) -> f64
     }
 }
 
+// The coordinate with x as its number i.
+pub fn with_number(c: Coord, i: usize, x: f64) -> Coord
+    ensures { λ r. ⌜ r ≡ put i x c ⌝ }
+{
+    if i == 1 {
+        Coord {
+            a: x,
+            b: c.b,
+            c: c.c,
+            d: c.d,
+        }
+    } else if i == 2 {
+        Coord {
+            a: c.a,
+            b: x,
+            c: c.c,
+            d: c.d,
+        }
+    } else if i == 3 {
+        Coord {
+            a: c.a,
+            b: c.b,
+            c: x,
+            d: c.d,
+        }
+    } else {
+        Coord {
+            a: c.a,
+            b: c.b,
+            c: c.c,
+            d: x,
+        }
+    }
+}
+
 // A coordinate of which no number is one.
 pub fn no_coord() -> Coord
     ensures { λ r. ⌜ r ≡ noTuple ⌝ }

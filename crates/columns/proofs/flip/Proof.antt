@@ -1,23 +1,19 @@
 use lib.Seq.{paste}
-use Rattle.rules.specs.Tuples.{stored, column}
 use Rattle.columns.proofs.Moving.{Flipping, flip-none, flip-turn, flip-end}
 use Rattle.steplaws.specs.Lengths.{tuples-length}
-use Rattle.columns.proofs.Standing.{under, not-over}
-use Rattle.columns.specs.Stores.{columnsOf, col, Exchanged}
-use Rattle.rules.specs.Tuples.{tuples, drained}
-use mathlib.Core.List.{List}
-use lib.Ieee.{Float, nan}
+use Rattle.columns.proofs.Standing.{under}
+use Rattle.rules.specs.Tuples.{tuples, stored, column}
 use native.Mathlib.Omega.{arith}
-use lib.ListN.{length, getD, set, take, drop, length-set}
+use lib.ListN.{length, getD, take, drop}
 use Prim.Native.Nat.{ℕ, _+_, _-_, _*_, _/_, _≤_, _<_}
-use mathlib.Core.Path.{_≡_, refl, sym, ap, _∙_, subst}
+use mathlib.Core.Path.{_≡_, refl, sym, ap, _∙_}
 use borrow.Author.Needs.{needs}
 use Rattle.columns.proofs.flip.Statement.{statement}
 use Rattle.columns.proofs.flip.Tie as tie
 use Rattle.columns.proofs.flip.Reads as reads
 use Rattle.columns.proofs.flip.Lts as lts
+use Rattle.acts.proofs.size_at.Reads as size-at-reads
 use Rattle.columns.proofs.flip_column.Reads as flip-column-reads
-use Rattle.columns.proofs.slot_at.Reads as slot-at-reads
 
 abbrev Inv-loop : tie.InvT-loop
 Inv-loop xs₀ store₀ depth args n j₀ xs store j = Flipping n depth args (tuples xs₀) store₀ (tuples xs) store j × (length xs ≡ length xs₀)
@@ -25,46 +21,37 @@ Inv-loop xs₀ store₀ depth args n j₀ xs store j = Flipping n depth args (tu
 abbrev μ-loop : tie.MeasureT-loop
 μ-loop xs₀ store₀ depth args n j₀ xs store j = length args - j
 
--- src/lib.rt:164:5
 loop-holds : tie.Need-loop-holds Inv-loop μ-loop
 loop-holds c = (flip-none _ _ _ _ _, refl)
 
--- src/lib.rt:165:33
 sub-flip-column : tie.Need-sub-flip-column Inv-loop μ-loop
 sub-flip-column c = search needs
 
--- src/lib.rt:165:33
 sub-flip-column-2 : tie.Need-sub-flip-column-2 Inv-loop μ-loop
 sub-flip-column-2 c = search needs
 
--- src/lib.rt:165:32
 mul-flip-column : tie.Need-mul-flip-column Inv-loop μ-loop
 mul-flip-column c =
     let head = c .before .before .before in
     let a = c .before .before .before .before .before .before .args in
     omega (arith, under (a .depth - 1 - head .loop .j) (a .depth) (length (a .xs .now) / 4) (omega arith))
 
--- src/lib.rt:165:53
-slot-at-requires : tie.Need-slot-at-requires Inv-loop μ-loop
-slot-at-requires c κs = search needs
+size-at-requires : tie.Need-size-at-requires Inv-loop μ-loop
+size-at-requires c κs = search needs
 
--- src/lib.rt:165:9
 flip-column-requires : tie.Need-flip-column-requires Inv-loop μ-loop
 flip-column-requires c κs =
     let head = c .before .before .before .before in
     let a = c .before .before .before .before .before .before .before .args in
     let many : length (head .loop .xs) / 4 ≡ length (a .xs .now) / 4 = ap (λ (n : ℕ). n / 4) (head .loop .inv .1) in
-    (omega (arith, under (a .depth - 1 - head .loop .j) (a .depth) (length (a .xs .now) / 4) (omega arith), many, head .loop .inv .0 .same-length), c .slot-at .ensures .0)
+    omega (arith, under (a .depth - 1 - head .loop .j) (a .depth) (length (a .xs .now) / 4) (omega arith), many, head .loop .inv .0 .same-length)
 
--- src/lib.rt:166:9
 add-j : tie.Need-add-j Inv-loop μ-loop
 add-j c = search needs
 
--- src/lib.rt:164:5
 loop-less : tie.Need-loop-less Inv-loop μ-loop
 loop-less c = search needs
 
--- src/lib.rt:164:5
 loop-again : tie.Need-loop-again Inv-loop μ-loop
 loop-again c =
     let head = c .before .before .before .before .before .before .before .before .before in
@@ -74,23 +61,20 @@ loop-again c =
     let xs = head .loop .xs in
     let s = head .loop .store in
     let at = (a .depth - 1 - head .loop .j) * n in
-    let r = c .before .before .before .before .before .slot-at .result in
+    let i = c .before .before .before .before .before .size-at .result in
     let put = c .before .before .before .before .flip-column in
     let same : length xs / 4 ≡ n = ap (λ (k : ℕ). k / 4) (head .loop .inv .1) in (
-      flip-turn n (a .depth) (a .args .now) (tuples (a .xs .now)) (a .store .now) (tuples xs) _ s _ (head .loop .j) r (head .loop .inv .0) (omega arith) (omega arith) (tuples-length xs ∙ same) (start .pre .1) (c .before .before .before .before .before .slot-at .ensures .1) (put .kept .1 .0)
-          (put .ensures .0 ∙ ap (λ (k : ℕ). stored (r + 1) (take k (drop at s)) (tuples xs)) same) (put .ensures .1 ∙ ap (λ (k : ℕ). paste s at (column (r + 1) (tuples xs)) k) same),
+      flip-turn n (a .depth) (a .args .now) (tuples (a .xs .now)) (a .store .now) (tuples xs) _ s _ (head .loop .j) i (head .loop .inv .0) (omega arith) (omega arith) (tuples-length xs ∙ same) (start .pre .1) (c .before .before .before .before .before .size-at .ensures) (put .kept .1 .0)
+          (put .ensures .0 ∙ ap (λ (k : ℕ). stored i (take k (drop at s)) (tuples xs)) same) (put .ensures .1 ∙ ap (λ (k : ℕ). paste s at (column i (tuples xs)) k) same),
       put .kept .0 ∙ head .loop .inv .1,
     )
 
--- src/lib.rt:157:1
 same-length : tie.Need-same-length Inv-loop μ-loop
 same-length c = search needs
 
--- src/lib.rt:157:1
 same-length-2 : tie.Need-same-length-2 Inv-loop μ-loop
 same-length-2 c = search needs
 
--- src/lib.rt:157:1
 returns : tie.Need-returns Inv-loop μ-loop
 returns c =
     let head = c .before in
@@ -107,7 +91,7 @@ flip-spec =
     sub-flip-column
     sub-flip-column-2
     mul-flip-column
-    slot-at-requires
+    size-at-requires
     flip-column-requires
     add-j
     loop-less

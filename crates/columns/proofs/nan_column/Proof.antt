@@ -1,3 +1,4 @@
+use Rattle.rules.specs.declared.Coord.{Coord}
 use Rattle.coordinate.specs.Coords.{noTuple}
 use Rattle.steplaws.specs.Lengths.{tuples-length}
 use Rattle.rules.specs.Coordinate.{put}
@@ -14,51 +15,57 @@ use Rattle.columns.proofs.nan_column.Statement.{statement}
 use Rattle.columns.proofs.nan_column.Tie as tie
 use Rattle.columns.proofs.nan_column.Reads as reads
 use Rattle.columns.proofs.nan_column.Lts as lts
+use Rattle.coordinate.proofs.get_coord.Reads as get-coord-reads
 use Rattle.coordinate.proofs.not_a_number.Reads as not-a-number-reads
-use Rattle.coordinate.proofs.set_at.Reads as set-at-reads
+use Rattle.coordinate.proofs.set_coord.Reads as set-coord-reads
+use Rattle.coordinate.proofs.with_number.Reads as with-number-reads
 
 abbrev Inv-loop : tie.InvT-loop
-Inv-loop xs₀ slot n k₀ xs k = (tuples xs ≡ firstsFrom 0 k (λ _. put (slot + 1) nan) (tuples xs₀)) × (length xs ≡ length xs₀)
+Inv-loop xs₀ i n k₀ xs k = (tuples xs ≡ firstsFrom 0 k (λ _. put i nan) (tuples xs₀)) × (length xs ≡ length xs₀)
 
 abbrev μ-loop : tie.MeasureT-loop
-μ-loop xs₀ slot n k₀ xs k = n - k
+μ-loop xs₀ i n k₀ xs k = n - k
 
--- src/lib.rt:99:5
 loop-holds : tie.Need-loop-holds Inv-loop μ-loop
 loop-holds c = (sym (firsts-none 0 _ _), refl)
 
--- src/lib.rt:100:29
+get-coord-requires : tie.Need-get-coord-requires Inv-loop μ-loop
+get-coord-requires c κs = search needs
+
 not-a-number-requires : tie.Need-not-a-number-requires Inv-loop μ-loop
 not-a-number-requires c κs = search needs
 
--- src/lib.rt:100:9
-set-at-requires : tie.Need-set-at-requires Inv-loop μ-loop
-set-at-requires c κs = search needs
+with-number-requires : tie.Need-with-number-requires Inv-loop μ-loop
+with-number-requires c κs = search needs
 
--- src/lib.rt:101:9
+set-coord-requires : tie.Need-set-coord-requires Inv-loop μ-loop
+set-coord-requires c κs = search needs
+
 add-k : tie.Need-add-k Inv-loop μ-loop
 add-k c = search needs
 
--- src/lib.rt:99:5
 loop-less : tie.Need-loop-less Inv-loop μ-loop
 loop-less c = search needs
 
--- src/lib.rt:99:5
 loop-again : tie.Need-loop-again Inv-loop μ-loop
 loop-again c =
-    let head = c .before .before .before .before .before .before in
-    let a = c .before .before .before .before .before .before .before .before .args in
+    let head = c .before .before .before .before .before .before .before .before .before in
+    let a = c .before .before .before .before .before .before .before .before .before .before .before .args in
     let xs = a .xs .now in
-    let inv = head .loop .inv in (
-      firsts-turn _ _ _ _ _ noTuple _ _ (inv .0) (omega (arith, tuples-length xs)) refl (ap (λ (z : Float). put (a .slot + 1) z (getD (tuples (head .loop .xs)) (head .loop .k) noTuple)) (c .before .before .before .not-a-number .ensures)) (c .before .before .set-at .ensures),
-      c .before .before .set-at .kept .0 ∙ inv .1,
+    let ts = tuples (head .loop .xs) in
+    let k = head .loop .k in
+    let inv = head .loop .inv in
+    let made = c .before .before .before .with-number .ensures in
+    let none = c .before .before .before .before .not-a-number .ensures in
+    let got = c .before .before .before .before .before .before .get-coord .ensures in (
+      firsts-turn k (λ _. put (a .i) nan) (tuples xs) ts _ noTuple (getD ts k noTuple) _ (inv .0) (omega (arith, tuples-length xs)) refl
+          (made ∙ (λ t. put (a .i) (none t) (got t))) (c .before .before .set-coord .ensures),
+      c .before .before .set-coord .kept .0 ∙ inv .1,
     )
 
--- src/lib.rt:93:1
 same-length : tie.Need-same-length Inv-loop μ-loop
 same-length c = search needs
 
--- src/lib.rt:93:1
 returns : tie.Need-returns Inv-loop μ-loop
 returns c =
     let head = c .before in
@@ -72,8 +79,10 @@ nan-column-spec =
     Inv-loop
     μ-loop
     loop-holds
+    get-coord-requires
     not-a-number-requires
-    set-at-requires
+    with-number-requires
+    set-coord-requires
     add-k
     loop-less
     loop-again

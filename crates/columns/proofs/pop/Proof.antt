@@ -1,25 +1,20 @@
-use Rattle.rules.specs.Tuples.{stored}
-use Rattle.rules.specs.Tuples.{State}
 use Rattle.rules.specs.Act.{places}
 use Rattle.columns.proofs.Moving.{popsLeft, pop-none, pop-turn, pop-stops, pop-end}
-use Rattle.steplaws.specs.Lengths.{tuples-length}
-use Rattle.columns.proofs.Standing.{under, not-over}
-use Rattle.columns.specs.Stores.{columnsOf, col, Exchanged}
-use Rattle.rules.specs.Tuples.{tuples, drained}
-use mathlib.Core.List.{List}
-use lib.Ieee.{Float, nan}
+use Rattle.columns.proofs.Standing.{under}
+use Rattle.columns.specs.Stores.{columnsOf, col}
+use Rattle.rules.specs.Tuples.{State, tuples, drained, stored}
 use native.Mathlib.Omega.{arith}
-use lib.ListN.{length, getD, set, take, drop, length-set}
+use lib.ListN.{length, getD, take, drop}
 use Prim.Native.Nat.{ℕ, _+_, _-_, _*_, _/_, _≤_, _<_}
-use mathlib.Core.Path.{_≡_, refl, sym, ap, _∙_, subst}
+use mathlib.Core.Path.{_≡_, refl, sym, ap, _∙_}
 use borrow.Author.Needs.{needs}
 use Rattle.columns.proofs.pop.Statement.{statement}
 use Rattle.columns.proofs.pop.Tie as tie
 use Rattle.columns.proofs.pop.Reads as reads
 use Rattle.columns.proofs.pop.Lts as lts
+use Rattle.acts.proofs.size_at.Reads as size-at-reads
 use Rattle.columns.proofs.nan_column.Reads as nan-column-reads
 use Rattle.columns.proofs.pop_column.Reads as pop-column-reads
-use Rattle.columns.proofs.slot_at.Reads as slot-at-reads
 
 abbrev Inv-loop : tie.InvT-loop
 Inv-loop xs₀ store depth args n j₀ xs j = (popsLeft n depth args (tuples xs) store j ≡ drained (places args) (tuples xs₀) (columnsOf n depth store)) × (length xs ≡ length xs₀)
@@ -27,63 +22,51 @@ Inv-loop xs₀ store depth args n j₀ xs j = (popsLeft n depth args (tuples xs)
 abbrev μ-loop : tie.MeasureT-loop
 μ-loop xs₀ store depth args n j₀ xs j = length args - j
 
--- src/lib.rt:145:5
 loop-holds : tie.Need-loop-holds Inv-loop μ-loop
 loop-holds c = (pop-none _ _ _ _ _, refl)
 
--- src/lib.rt:146:13
-slot-at-requires : tie.Need-slot-at-requires Inv-loop μ-loop
-slot-at-requires c κs = search needs
+size-at-requires : tie.Need-size-at-requires Inv-loop μ-loop
+size-at-requires c κs = search needs
 
--- src/lib.rt:148:13
 nan-column-requires : tie.Need-nan-column-requires Inv-loop μ-loop
 nan-column-requires c κs = search needs
 
--- src/lib.rt:149:13
 same-length : tie.Need-same-length Inv-loop μ-loop
 same-length c = search needs
 
--- src/lib.rt:149:13
 returns : tie.Need-returns Inv-loop μ-loop
 returns c =
     let head = c .before .before .before .before .before .before .before in
     let a = c .before .before .before .before .before .before .before .before .before .before .args in
     let n = length (a .xs .now) / 4 in
-    pop-stops n (a .depth) (a .args .now) (a .store .now) (tuples (head .loop .xs)) _ (head .loop .j) _ (omega arith) (c .before .before .before .before .before .slot-at .ensures .1) (omega arith) (c .before .before .nan-column .ensures)
+    pop-stops n (a .depth) (a .args .now) (a .store .now) (tuples (head .loop .xs)) _ (head .loop .j) _ (omega arith) (c .before .before .before .before .before .size-at .ensures) (omega arith) (c .before .before .nan-column .ensures)
     ∙ ap (λ (z : State). z .tuples) (head .loop .inv .0)
 
--- src/lib.rt:151:32
 sub-pop-column : tie.Need-sub-pop-column Inv-loop μ-loop
 sub-pop-column c = search needs
 
--- src/lib.rt:151:32
 sub-pop-column-2 : tie.Need-sub-pop-column-2 Inv-loop μ-loop
 sub-pop-column-2 c = search needs
 
--- src/lib.rt:151:31
 mul-pop-column : tie.Need-mul-pop-column Inv-loop μ-loop
 mul-pop-column c =
     let head = c .before .before .before .before in
     let a = c .before .before .before .before .before .before .before .args in
     omega (arith, under (a .depth - 1 - head .loop .j) (a .depth) (length (a .xs .now) / 4) (omega arith))
 
--- src/lib.rt:151:9
 pop-column-requires : tie.Need-pop-column-requires Inv-loop μ-loop
 pop-column-requires c κs =
     let head = c .before .before .before .before in
     let a = c .before .before .before .before .before .before .before .args in
     let many : length (head .loop .xs) / 4 ≡ length (a .xs .now) / 4 = ap (λ (n : ℕ). n / 4) (head .loop .inv .1) in
-    (omega (arith, under (a .depth - 1 - head .loop .j) (a .depth) (length (a .xs .now) / 4) (omega arith), many), c .before .before .slot-at .ensures .0)
+    omega (arith, under (a .depth - 1 - head .loop .j) (a .depth) (length (a .xs .now) / 4) (omega arith), many)
 
--- src/lib.rt:152:9
 add-j : tie.Need-add-j Inv-loop μ-loop
 add-j c = search needs
 
--- src/lib.rt:145:5
 loop-less : tie.Need-loop-less Inv-loop μ-loop
 loop-less c = search needs
 
--- src/lib.rt:145:5
 loop-again : tie.Need-loop-again Inv-loop μ-loop
 loop-again c =
     let head = c .before .before .before .before .before .before .before in
@@ -91,18 +74,16 @@ loop-again c =
     let n = length (a .xs .now) / 4 in
     let s = a .store .now in
     let ts = tuples (head .loop .xs) in
-    let r = c .before .before .before .before .before .slot-at .result in
+    let i = c .before .before .before .before .before .size-at .result in
     let many : length (head .loop .xs) / 4 ≡ n = ap (λ (k : ℕ). k / 4) (head .loop .inv .1) in
-    let made = c .before .before .pop-column .ensures ∙ ap (λ (k : ℕ). stored (r + 1) (take k (drop ((a .depth - 1 - head .loop .j) * n) s)) ts) many in (
-      sym (pop-turn n (a .depth) (a .args .now) s ts _ (head .loop .j) r (omega arith) (c .before .before .before .before .before .slot-at .ensures .1) (omega arith) made) ∙ head .loop .inv .0,
+    let made = c .before .before .pop-column .ensures ∙ ap (λ (k : ℕ). stored i (take k (drop ((a .depth - 1 - head .loop .j) * n) s)) ts) many in (
+      sym (pop-turn n (a .depth) (a .args .now) s ts _ (head .loop .j) i (omega arith) (c .before .before .before .before .before .size-at .ensures) (omega arith) made) ∙ head .loop .inv .0,
       c .before .before .pop-column .kept .0 ∙ head .loop .inv .1,
     )
 
--- src/lib.rt:139:1
 same-length-2 : tie.Need-same-length-2 Inv-loop μ-loop
 same-length-2 c = search needs
 
--- src/lib.rt:139:1
 returns-2 : tie.Need-returns-2 Inv-loop μ-loop
 returns-2 c =
     let head = c .before in
@@ -116,7 +97,7 @@ pop-spec =
     Inv-loop
     μ-loop
     loop-holds
-    slot-at-requires
+    size-at-requires
     nan-column-requires
     same-length
     returns

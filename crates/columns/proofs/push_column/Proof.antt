@@ -1,10 +1,9 @@
-use Rattle.columns.proofs.Slots.{copy-turn, column-at, column-length}
-use native.Mathlib.Numerals.{add-one}
+use Rattle.rules.specs.declared.Coord.{Coord}
 use Rattle.rules.specs.Coordinate.{number}
 use Rattle.steplaws.specs.Lengths.{tuples-length}
-use Rattle.columns.proofs.Slots.{column-at, column-length}
+use Rattle.columns.proofs.Slots.{copy-turn, column-at, column-length}
 use Rattle.rules.specs.Tuples.{tuples, column}
-use lib.Seq.{paste, paste-zero, paste-suc}
+use lib.Seq.{paste, paste-zero}
 use mathlib.Core.List.{List}
 use lib.Ieee.{Float, nan}
 use native.Mathlib.Omega.{arith}
@@ -16,66 +15,61 @@ use Rattle.columns.proofs.push_column.Statement.{statement}
 use Rattle.columns.proofs.push_column.Tie as tie
 use Rattle.columns.proofs.push_column.Reads as reads
 use Rattle.columns.proofs.push_column.Lts as lts
-use Rattle.coordinate.proofs.get_at.Reads as get-at-reads
+use Rattle.coordinate.proofs.get_coord.Reads as get-coord-reads
+use Rattle.coordinate.proofs.number_of.Reads as number-of-reads
 
 abbrev Inv-loop : tie.InvT-loop
-Inv-loop xs store₀ at slot n k₀ store k = (store ≡ paste store₀ at (column (slot + 1) (tuples xs)) k) × (length store ≡ length store₀) × (k ≤ n)
+Inv-loop xs store₀ at i n k₀ store k = (store ≡ paste store₀ at (column i (tuples xs)) k) × (length store ≡ length store₀) × (k ≤ n)
 
 abbrev μ-loop : tie.MeasureT-loop
-μ-loop xs store₀ at slot n k₀ store k = n - k
+μ-loop xs store₀ at i n k₀ store k = n - k
 
--- src/lib.rt:55:5
 loop-holds : tie.Need-loop-holds Inv-loop μ-loop
-loop-holds c = (let a = c .before .before .args in paste-zero (a .store .now) (a .at) (column (a .slot + 1) (tuples (a .xs .now))), refl, omega arith)
+loop-holds c = (let a = c .before .before .args in paste-zero (a .store .now) (a .at) (column (a .i) (tuples (a .xs .now))), refl, omega arith)
 
--- src/lib.rt:56:25
-get-at-requires : tie.Need-get-at-requires Inv-loop μ-loop
-get-at-requires c κs = search needs
+get-coord-requires : tie.Need-get-coord-requires Inv-loop μ-loop
+get-coord-requires c κs = search needs
 
--- src/lib.rt:56:15
+number-of-requires : tie.Need-number-of-requires Inv-loop μ-loop
+number-of-requires c κs = search needs
+
 add-store : tie.Need-add-store Inv-loop μ-loop
 add-store c = search needs
 
--- src/lib.rt:56:9
 mul-store : tie.Need-mul-store Inv-loop μ-loop
 mul-store c = search needs
 
--- src/lib.rt:56:9
 slice-write-store : tie.Need-slice-write-store Inv-loop μ-loop
 slice-write-store c = search needs
 
--- src/lib.rt:57:9
 add-k : tie.Need-add-k Inv-loop μ-loop
 add-k c = search needs
 
--- src/lib.rt:55:5
 loop-less : tie.Need-loop-less Inv-loop μ-loop
 loop-less c = search needs
 
--- src/lib.rt:55:5
 loop-again : tie.Need-loop-again Inv-loop μ-loop
 loop-again c =
-    let head = c .before .before in
-    let a = c .before .before .before .before .before .args in
+    let head = c .before .before .before in
+    let a = c .before .before .before .before .before .before .args in
     let xs = a .xs .now in
     let k = head .loop .k in
     let inv = head .loop .inv in (
-      copy-turn (a .store .now) (head .loop .store) (a .at) (column (a .slot + 1) (tuples xs)) k _ (inv .0) (omega arith) (omega (arith, column-length (a .slot + 1) xs)) (c .get-at .ensures ∙ column-at (a .slot + 1) k (tuples xs) (omega (arith, tuples-length xs))),
+      copy-turn (a .store .now) (head .loop .store) (a .at) (column (a .i) (tuples xs)) k _ (inv .0) (omega arith) (omega (arith, column-length (a .i) xs))
+          (c .number-of .ensures ∙ ap (number (a .i)) (c .before .get-coord .ensures) ∙ column-at (a .i) k (tuples xs) (omega (arith, tuples-length xs))),
       length-set (head .loop .store) (a .at + k) _ ∙ inv .1,
       omega arith,
     )
 
--- src/lib.rt:48:1
 same-length : tie.Need-same-length Inv-loop μ-loop
 same-length c = search needs
 
--- src/lib.rt:48:1
 returns : tie.Need-returns Inv-loop μ-loop
 returns c =
     let head = c .before in
     let a = c .before .before .before .before .args in
     let e : head .loop .k ≡ length (a .xs .now) / 4 = omega arith in
-    head .loop .inv .0 ∙ ap (paste (a .store .now) (a .at) (column (a .slot + 1) (tuples (a .xs .now)))) e
+    head .loop .inv .0 ∙ ap (paste (a .store .now) (a .at) (column (a .i) (tuples (a .xs .now)))) e
 
 pub push-column-spec : {M : Type 1} → statement M
 push-column-spec =
@@ -84,7 +78,8 @@ push-column-spec =
     Inv-loop
     μ-loop
     loop-holds
-    get-at-requires
+    get-coord-requires
+    number-of-requires
     add-store
     mul-store
     slice-write-store
