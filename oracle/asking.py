@@ -12,6 +12,7 @@ HERE = os.path.dirname(os.path.abspath(__file__))
 TOP = os.path.dirname(HERE)
 ORACLE = os.path.join(TOP, "target/oracle/oracle")
 ANSWERS = os.path.join(TOP, "target/bin/answers")
+NATIVE = os.path.join(TOP, "target/native/answers")
 MODEL = os.path.join(TOP, "model/model.py")
 SUBSCRIPT = re.compile(rb"\xe2\x82[\x80-\x89]")
 
@@ -118,23 +119,36 @@ NAMED = "name"
 
 
 class Wanted:
-    """A pattern for the whole answer, and why the Rust has no say where it has none; then `plain` is what it says all the
-    same, if anything."""
+    """What the whole answer must be: a text, or a pattern where the Rust knows less. And why the Rust has no say where it has
+    none; then `plain` is what it says all the same, if anything."""
 
-    def __init__(self, pattern, why=None, plain=None):
+    def __init__(self, pattern=None, why=None, plain=None, text=None):
         self.pattern = pattern
         self.why = why
         self.plain = plain
+        self.text = text
 
     def refuses(self):
-        return self.pattern.startswith("refused")
+        return (self.text or self.pattern).startswith("refused")
+
+    def number(self):
+        """The refusal's number, where it is certain."""
+        return int((self.text or self.pattern).split(" ")[1])
 
     def agrees(self, answer):
-        return re.fullmatch(self.pattern, answer) is not None
+        return answer == self.text if self.text is not None else re.fullmatch(self.pattern, answer) is not None
+
+
+def exactly(text):
+    return Wanted(text=text)
 
 
 def refused(number, place):
-    return Wanted("refused %s %s" % (number, place))
+    return exactly("refused %d %d" % (number, place))
+
+
+def refused_somewhere(number):
+    return Wanted(r"refused %s [1-9]\d*" % number)
 
 
 def wanted(line, told, prepared=None):
@@ -142,7 +156,7 @@ def wanted(line, told, prepared=None):
     text = text_of(line)
     if len(text) > 4096:
         return refused(1, 0)
-    if not SUBSCRIPT.sub(b"", text).isascii():
+    if not (text.isascii() or SUBSCRIPT.sub(b"", text).isascii()):
         return refused(2, 0)
     if call in TEXT_CALLS:
         return wanted_text(call, int(room), told)
@@ -154,17 +168,20 @@ def wanted(line, told, prepared=None):
 def wanted_text(call, room, told):
     """Of 3 to 6 the Rust knows no place, and of 3 and 4 not which."""
     if told == "hang":
-        return refused(6, 0) if call == "parameters" else refused(6, r"[1-9]\d*")
+        return refused(6, 0) if call == "parameters" else refused_somewhere("6")
     if told == "err":
-        return refused("[34]", r"[1-9]\d*")
+        return refused_somewhere("[34]")
     if told == "panic":
-        return refused(5, r"[1-9]\d*")
-    lines = bytes.fromhex(told[3:].replace("-", "")).count(b"\n")
-    if call == "split" and lines > 64:
+        return refused_somewhere("5")
+    if call == "split" and lines_of(told) > 64:
         return refused(8, 0)
-    if call == "parameters" and lines > 32:
+    if call == "parameters" and lines_of(told) > 32:
         return refused(9, 0)
-    return refused(7, 0) if length(told) > room else Wanted(re.escape(told))
+    return refused(7, 0) if length(told) > room else exactly(told)
+
+
+def lines_of(told):
+    return bytes.fromhex(told[3:].replace("-", "")).count(b"\n")
 
 
 def step_number(step):
@@ -177,7 +194,7 @@ def step_number(step):
 
 def wanted_prepare(room, told):
     if told == "hang":
-        return refused(6, r"[1-9]\d*")
+        return refused_somewhere("6")
     steps = told.split(" ")[2:]
     if len(steps) > 64:
         return refused(8, 0)
@@ -189,7 +206,7 @@ def wanted_prepare(room, told):
             return answer
     if len(steps) > room:
         return refused(7, 0)
-    return Wanted(re.escape(" ".join(["ok", str(len(steps))] + [step.split("/", 3)[3] for step in steps])))
+    return exactly(" ".join(["ok", str(len(steps))] + [step.split("/", 3)[3] for step in steps]))
 
 
 def wanted_steps(line, told, prepared):
@@ -204,17 +221,17 @@ def wanted_of_crate(line, told, prepared):
     if told == "lone":
         return Wanted(".*", LONE)
     if made.refuses():
-        if told == "hang" and made.pattern.startswith("refused 10 "):
-            return Wanted(made.pattern, NAMED) if named_apart(text) else Wanted("not 10")
+        if told == "hang" and made.number() == 10:
+            return Wanted(why=NAMED, text=made.text) if named_apart(text) else Wanted("not 10")
         # Where a size refuses, the Rust may answer; else it must not.
-        sized = re.match("refused (1|8|9|13) ", made.pattern)
+        sized = made.number() in (1, 8, 9, 13)
         return made if sized or not told.startswith("ok ") else Wanted("not refused")
-    records = made.pattern.replace("\\", "").split(" ")[2:]
+    records = made.text.split(" ")[2:]
     if unrolls_back(line, records) and told == "panic":
         return Wanted("(ok|passes|fails|refused 1[567]) .*", UNROLL)
     if not told.startswith("ok "):
         return Wanted("the Rust refuses")
-    return Wanted(re.escape(told[3:])) if line.startswith("check ") else wanted_run(line, told)
+    return exactly(told[3:]) if line.startswith("check ") else wanted_run(line, told)
 
 
 def wanted_run(line, told):
@@ -226,18 +243,18 @@ def wanted_run(line, told):
     deepest = 0
     for place, depth in (pair.split(":") for pair in depths.split(",") if pair != "-"):
         if int(depth) > 64:
-            return refused(16, place)
+            return refused(16, int(place))
         deepest = max(deepest, int(depth))
     if int(store) < deepest * (many // 4):
         return refused(17, 0)
     if stomp:  # the numbers rest on a shim's rule
         return Wanted("ok %s %s .*" % (count, left), SHIM)
     if many > 64:
-        return Wanted("ok %s %s - -" % (count, left))
+        return exactly("ok %s %s - -" % (count, left))
     row = [number for number in columns.split(",") if number != "-"]
     row += ["0" * 16] * (deepest * (many // 4) - len(row))
     row += ["c01c000000000000"] * (int(store) - len(row))
-    return Wanted("ok %s %s %s %s" % (count, left, after, ",".join(row) or "-"))
+    return exactly("ok %s %s %s %s" % (count, left, after, ",".join(row) or "-"))
 
 
 def length(told):

@@ -3,6 +3,8 @@
 //! Preparing goes as document 01 says: the text is split, and each step is cut into parameters and handed to its
 //! operator. Checking and running go as the crate does: `Op::new` on the whole text.
 
+use std::cell::RefCell;
+
 use crate::authoring::*;
 use crate::inner_op::{builtin, gamut};
 use crate::turns_for_ever;
@@ -226,6 +228,8 @@ fn name_ends(step: &str) -> Result<(), No> {
 // ----- running -------------------------------------------------------------------------------------------------------
 
 const FORWARD: &str = "fwd";
+/// The step that takes a column off where steps run backward.
+const BACKWARD: &str = "stack push=1";
 
 /// Runs the operator over a copy of the tuples. The first is the count.
 fn applied(op: &Op, direction: &str, list: &[Coor4D]) -> (usize, Tuples) {
@@ -256,9 +260,9 @@ impl Watched<'_> {
         let taker = if direction == FORWARD {
             "stack pop=1"
         } else {
-            "stack push=1"
+            BACKWARD
         };
-        let takers = (0..=many).map(|_| Op::new(taker, &Nothing).ok().unwrap());
+        let takers = takers_of(taker, many + 1);
         let omit = if direction == FORWARD {
             "omit_fwd"
         } else {
@@ -270,7 +274,7 @@ impl Watched<'_> {
         // Inverse, the first step runs last: those that take columns off stand before all others.
         let (all, ours): (Vec<Op>, Vec<usize>) = match direction {
             FORWARD => (steps.into_iter().chain(takers).collect(), ours.collect()),
-            _ => (takers.chain(steps).collect(), (0..many + 1).collect()),
+            _ => (takers.into_iter().chain(steps).collect(), (0..many + 1).collect()),
         };
         if direction != FORWARD {
             running = running.into_iter().rev().map(|i| i + many + 1).collect();
@@ -322,6 +326,30 @@ impl Watched<'_> {
             FORWARD => self.running[step] + 1,
             _ => self.running[step] + 1 - self.takers.len(),
         }
+    }
+}
+
+thread_local! {
+    /// Steps that take columns off, each way, for whoever asks next: making them is what costs.
+    static TAKERS: RefCell<[Vec<Op>; 2]> = const { RefCell::new([Vec::new(), Vec::new()]) };
+}
+
+fn takers_of(taker: &str, many: usize) -> Vec<Op> {
+    TAKERS.with_borrow_mut(|all| {
+        let kept = &mut all[usize::from(taker == BACKWARD)];
+        while kept.len() < many {
+            kept.push(Op::new(taker, &Nothing).ok().unwrap());
+        }
+        kept.split_off(kept.len() - many)
+    })
+}
+
+impl Drop for Watched<'_> {
+    fn drop(&mut self) {
+        let mut steps = self.op.steps.take().unwrap_or_default();
+        let ours = self.takers[0]..self.takers[0] + self.takers.len();
+        let way = usize::from(self.direction != FORWARD);
+        TAKERS.with_borrow_mut(|all| all[way].extend(steps.drain(ours)));
     }
 }
 
