@@ -51,19 +51,19 @@ use Rattle.entry.proofs.check as row-check
 use Rattle.entry.proofs.check.Symbol as row-def
 use Rattle.entry.proofs.check.Symbol.{name as #entry·check}
 use Rattle.entry.proofs.check.Met as row-thm
-use Rattle.sakondreno.proofs.Plainly.{checks-plain}
-use Rattle.sakondreno.specs.Replies.{directionOf, plainCheck, PlainChecks}
-use Rattle.sakondreno.specs.declared.Checked.{Checked}
-use Rattle.sakondreno.proofs.Checked as N
-use Rattle.sakondreno.proofs.Checked.Laws as N′
-use Rattle.sakondreno.proofs.direction_of as direction
-use Rattle.sakondreno.proofs.direction_of.Symbol as direction-def
-use Rattle.sakondreno.proofs.direction_of.Symbol.{name as #sakondreno·direction-of}
-use Rattle.sakondreno.proofs.direction_of.Met as direction-thm
-use Rattle.sakondreno.proofs.checked_of as checked
-use Rattle.sakondreno.proofs.checked_of.Symbol as checked-def
-use Rattle.sakondreno.proofs.checked_of.Symbol.{name as #sakondreno·checked-of}
-use Rattle.sakondreno.proofs.checked_of.Met as checked-thm
+use Rattle.plain.proofs.Plainly.{checks-plain}
+use Rattle.plain.specs.Replies.{directionOf, plainCheck, PlainChecks}
+use Rattle.plain.specs.declared.Checked.{Checked}
+use Rattle.plain.proofs.Checked as N
+use Rattle.plain.proofs.Checked.Laws as N′
+use Rattle.plain.proofs.direction_of as direction
+use Rattle.plain.proofs.direction_of.Symbol as direction-def
+use Rattle.plain.proofs.direction_of.Symbol.{name as #plain·direction-of}
+use Rattle.plain.proofs.direction_of.Met as direction-thm
+use Rattle.plain.proofs.checked_of as checked
+use Rattle.plain.proofs.checked_of.Symbol as checked-def
+use Rattle.plain.proofs.checked_of.Symbol.{name as #plain·checked-of}
+use Rattle.plain.proofs.checked_of.Met as checked-thm
 use Rattle.sakondreno.proofs.sakondreno_check.Key.{name as #sakondreno·check}
 use Rattle.sakondreno.proofs.sakondreno_check as call
 use Rattle.sakondreno.proofs.sakondreno_check.Statement as stated
@@ -131,7 +131,7 @@ module _ {M : Type 1} (𝓤 : URA M) (H : Heap 𝓤) (A : Atoms 𝓤) (W : Given
   goes-checked : (f : Foretold) → Is Fore f (fore-val f ∷ []) → ent 𝓤 (emp 𝓤) (CheckedOf 𝓤 H A mem run .pre (to-checked f))
   goes-checked f is = qed W [] ∵ nothing ! $ owned ! Fore (Is Fore) (LL.makes P.the-type P′.the-plain 𝓤 H A) f _ is $ fjoin ! $ nothing ! $ join ! $ frame ! $ nothing ! $ done !
 
-  module _ (𝓣 : Tables 𝓤 H) (known-direction : Triple 𝓤 (𝓣 .C #sakondreno·direction-of) (DirectionOf 𝓤 H A mem run)) (known-row : Triple 𝓤 (𝓣 .C #entry·check) (RowCheck 𝓤 H A mem run)) (known-checked : Triple 𝓤 (𝓣 .C #sakondreno·checked-of) (CheckedOf 𝓤 H A mem run)) where
+  module _ (𝓣 : Tables 𝓤 H) (known-direction : Triple 𝓤 (𝓣 .C #plain·direction-of) (DirectionOf 𝓤 H A mem run)) (known-row : Triple 𝓤 (𝓣 .C #entry·check) (RowCheck 𝓤 H A mem run)) (known-checked : Triple 𝓤 (𝓣 .C #plain·checked-of) (CheckedOf 𝓤 H A mem run)) where
     walk : ent 𝓤 (onEntry 𝓤 H A call.signature (κ, tt) (q, tt) (s, (inverse, tt)) at) (WpFn 𝓤 H (𝓣 .C) (𝓣 .Λ) code.function (v ∷ vint w8 inverse ∷ []) Post)
     walk =
         qed W ((‵ (flft κ q) ⊛ ‵ ftrue) ∷ ‵ (owns (ShrSlice (named 0) κ R ∷ u8 ∷ []) (s, (inverse, tt)) at) ∷ []) ∵ enter ! (𝓣 .C) (𝓣 .Λ) code.function (v ∷ vint w8 inverse ∷ []) _ $
@@ -163,7 +163,7 @@ module _ {M : Type 1} (𝓤 : URA M) (H : Heap 𝓤) (A : Atoms 𝓤) (W : Given
         by ! (exits w₂ r (checks-plain e e₁ e₂)))))))))))))
 
 module _ {M : Type 1} (𝓤 : URA M) (H : Heap 𝓤) (A : Atoms 𝓤) (W : Given 𝓤 H A) (mem : Memory → SProp 𝓤) (run : Routine → Fun 𝓤) (𝓣 : Tables 𝓤 H)
-    (known-direction : Triple 𝓤 (𝓣 .C #sakondreno·direction-of) (DirectionOf 𝓤 H A mem run)) (known-row : Triple 𝓤 (𝓣 .C #entry·check) (RowCheck 𝓤 H A mem run)) (known-checked : Triple 𝓤 (𝓣 .C #sakondreno·checked-of) (CheckedOf 𝓤 H A mem run)) where
+    (known-direction : Triple 𝓤 (𝓣 .C #plain·direction-of) (DirectionOf 𝓤 H A mem run)) (known-row : Triple 𝓤 (𝓣 .C #entry·check) (RowCheck 𝓤 H A mem run)) (known-checked : Triple 𝓤 (𝓣 .C #plain·checked-of) (CheckedOf 𝓤 H A mem run)) where
   call-walks : Walks 𝓤 H A call.ended stayed (WpFn 𝓤 H (𝓣 .C) (𝓣 .Λ) code.function) (call.clauses 𝓤 H A mem run)
   call-walks = walked 𝓤 H A call.ended stayed (call.clauses 𝓤 H A mem run) (WpFn 𝓤 H (𝓣 .C) (𝓣 .Λ) code.function) (λ κs. (slice-vals, (uint-vals w8, tt))) (λ κs. (shr-slice-tells (named 0) (κs .0) R, (uint-tells w8, tt)))
       (λ κs qs bounds a g are. via 𝓤 _ (fst∗ 𝓤 _ (emp 𝓤)) (walk 𝓤 H A W mem run (κs .0) (qs .0) (a .0) (a .1 .0) (are .0 .0 .1) (are .1 .0 .1) 𝓣 known-direction known-row known-checked))
@@ -174,6 +174,6 @@ sakondreno-check-spec 𝓤 H 𝓜 𝓖 𝓡 =
     closes 𝓤 H 𝓜 𝓖 𝓡 call.ended stayed (call.clauses 𝓤 H (𝓖 .A) (𝓜 .mem) (𝓡 .run)) code.env #sakondreno·check code.function (code.unfolded 𝓤 H 𝓜 𝓡)
     (goes-none-slice 𝓤 H (𝓖 .A) (givenOf 𝓤 H 𝓜 𝓖) 1 (0 ∷ []) tt (plain (λ _. R)) yes, (goes-none 𝓤 H (𝓖 .A) (givenOf 𝓤 H 𝓜 𝓖) 1 (λ _. u8) yes (λ κs x f. refl), tt))
     (call-walks 𝓤 H (𝓖 .A) (givenOf 𝓤 H 𝓜 𝓖) (𝓜 .mem) (𝓡 .run) (here 𝓤 H 𝓜 𝓖 𝓡 code.env)
-    (cited 𝓤 H (DirectionOf 𝓤 H (𝓖 .A) (𝓜 .mem) (𝓡 .run)) 𝓜 𝓡 code.env #sakondreno·direction-of direction-def.routine code.calls-sakondreno·direction-of (direction-thm.met 𝓤 H 𝓜 𝓖 𝓡))
+    (cited 𝓤 H (DirectionOf 𝓤 H (𝓖 .A) (𝓜 .mem) (𝓡 .run)) 𝓜 𝓡 code.env #plain·direction-of direction-def.routine code.calls-plain·direction-of (direction-thm.met 𝓤 H 𝓜 𝓖 𝓡))
     (cited 𝓤 H (RowCheck 𝓤 H (𝓖 .A) (𝓜 .mem) (𝓡 .run)) 𝓜 𝓡 code.env #entry·check row-def.routine code.calls-entry·check (row-thm.met 𝓤 H 𝓜 𝓖 𝓡))
-    (cited 𝓤 H (CheckedOf 𝓤 H (𝓖 .A) (𝓜 .mem) (𝓡 .run)) 𝓜 𝓡 code.env #sakondreno·checked-of checked-def.routine code.calls-sakondreno·checked-of (checked-thm.met 𝓤 H 𝓜 𝓖 𝓡)))
+    (cited 𝓤 H (CheckedOf 𝓤 H (𝓖 .A) (𝓜 .mem) (𝓡 .run)) 𝓜 𝓡 code.env #plain·checked-of checked-def.routine code.calls-plain·checked-of (checked-thm.met 𝓤 H 𝓜 𝓖 𝓡)))

@@ -51,14 +51,14 @@ use Rattle.entry.proofs.prepare as row-prepare
 use Rattle.entry.proofs.prepare.Symbol as row-def
 use Rattle.entry.proofs.prepare.Symbol.{name as #entry·prepare}
 use Rattle.entry.proofs.prepare.Met as row-thm
-use Rattle.sakondreno.specs.Replies.{plainPrepared, recorded}
-use Rattle.sakondreno.specs.declared.Answer.{Answer}
-use Rattle.sakondreno.proofs.Answer as N
-use Rattle.sakondreno.proofs.Answer.Laws as N′
-use Rattle.sakondreno.proofs.counted as counted
-use Rattle.sakondreno.proofs.counted.Symbol as counted-def
-use Rattle.sakondreno.proofs.counted.Symbol.{name as #sakondreno·counted}
-use Rattle.sakondreno.proofs.counted.Met as counted-thm
+use Rattle.plain.specs.Replies.{plainPrepared, recorded}
+use Rattle.plain.specs.declared.Answer.{Answer}
+use Rattle.plain.proofs.Answer as N
+use Rattle.plain.proofs.Answer.Laws as N′
+use Rattle.plain.proofs.counted as counted
+use Rattle.plain.proofs.counted.Symbol as counted-def
+use Rattle.plain.proofs.counted.Symbol.{name as #plain·counted}
+use Rattle.plain.proofs.counted.Met as counted-thm
 use Rattle.sakondreno.proofs.sakondreno_prepare.Key.{name as #sakondreno·prepare}
 use Rattle.sakondreno.proofs.sakondreno_prepare as call
 use Rattle.sakondreno.proofs.sakondreno_prepare.Statement as stated
@@ -126,7 +126,7 @@ module _ {M : Type 1} (𝓤 : URA M) (H : Heap 𝓤) (A : Atoms 𝓤) (W : Given
   goes-counted : (p : Prepared) → Is Ans p (ans-val p ∷ []) → ent 𝓤 (emp 𝓤) (Counted 𝓤 H A mem run .pre (to-counted p))
   goes-counted p is = qed W [] ∵ nothing ! $ owned ! Ans (Is Ans) (EL.makes P.the-type P′.the-plain 𝓤 H A) p _ is $ fjoin ! $ nothing ! $ join ! $ frame ! $ nothing ! $ done !
 
-  module _ (𝓣 : Tables 𝓤 H) (known-row : Triple 𝓤 (𝓣 .C #entry·prepare) (RowPrepare 𝓤 H A mem run)) (known-counted : Triple 𝓤 (𝓣 .C #sakondreno·counted) (Counted 𝓤 H A mem run)) where
+  module _ (𝓣 : Tables 𝓤 H) (known-row : Triple 𝓤 (𝓣 .C #entry·prepare) (RowPrepare 𝓤 H A mem run)) (known-counted : Triple 𝓤 (𝓣 .C #plain·counted) (Counted 𝓤 H A mem run)) where
     walk : ent 𝓤 (onEntry 𝓤 H A call.signature κs (q, (q′, tt)) (text, (x, tt)) at) (WpFn 𝓤 H (𝓣 .C) (𝓣 .Λ) code.function (of text ∷ of x ∷ []) Post)
     walk =
         qed W ((‵ (flft κ q) ⊛ ‵ (flft κ′ q′) ⊛ ‵ ftrue) ∷ ‵ (owns (ShrSlice (named 0) κ u8 ∷ MutSlice (named 1) κ′ R ∷ []) (text, (x, tt)) at) ∷ []) ∵ enter ! (𝓣 .C) (𝓣 .Λ) code.function (of text ∷ of x ∷ []) _ $
@@ -156,7 +156,7 @@ module _ {M : Type 1} (𝓤 : URA M) (H : Heap 𝓤) (A : Atoms 𝓤) (W : Given
         by ! (exits w₁ r₁ (ws .1 .0) (subst (λ (a : Answer). Promised recorded prepare (now text) (now x) a (ws .1 .0)) (sym e₁) (in-other-words plainPrepared e)) l))))))))))))
 
 module _ {M : Type 1} (𝓤 : URA M) (H : Heap 𝓤) (A : Atoms 𝓤) (W : Given 𝓤 H A) (mem : Memory → SProp 𝓤) (run : Routine → Fun 𝓤) (𝓣 : Tables 𝓤 H)
-    (known-row : Triple 𝓤 (𝓣 .C #entry·prepare) (RowPrepare 𝓤 H A mem run)) (known-counted : Triple 𝓤 (𝓣 .C #sakondreno·counted) (Counted 𝓤 H A mem run)) where
+    (known-row : Triple 𝓤 (𝓣 .C #entry·prepare) (RowPrepare 𝓤 H A mem run)) (known-counted : Triple 𝓤 (𝓣 .C #plain·counted) (Counted 𝓤 H A mem run)) where
   call-walks : Walks 𝓤 H A call.ended stayed (WpFn 𝓤 H (𝓣 .C) (𝓣 .Λ) code.function) (call.clauses 𝓤 H A mem run)
   call-walks = walked 𝓤 H A call.ended stayed (call.clauses 𝓤 H A mem run) (WpFn 𝓤 H (𝓣 .C) (𝓣 .Λ) code.function) (λ κs. (slice-vals, (slice-vals, tt))) (λ κs. (shr-slice-tells (named 0) (κs .0) u8, (mut-slice-tells (named 1) (κs .1 .0) R, tt)))
       (λ κs qs bounds a g are. via 𝓤 _ (fst∗ 𝓤 _ (emp 𝓤)) (walk 𝓤 H A W mem run (κs .0) (κs .1 .0) (qs .0) (qs .1 .0) (a .0) (a .1 .0) (are .0 .0 .1) (are .1 .0 .0 .1) 𝓣 known-row known-counted))
@@ -168,4 +168,4 @@ sakondreno-prepare-spec 𝓤 H 𝓜 𝓖 𝓡 =
     (goes-none-slice 𝓤 H (𝓖 .A) (givenOf 𝓤 H 𝓜 𝓖) 2 (0 ∷ []) tt (plain (λ _. u8)) yes, (goes-gave-slice 𝓤 H (𝓖 .A) (givenOf 𝓤 H 𝓜 𝓖) 2 1 tt (plain (λ _. R)), tt))
     (call-walks 𝓤 H (𝓖 .A) (givenOf 𝓤 H 𝓜 𝓖) (𝓜 .mem) (𝓡 .run) (here 𝓤 H 𝓜 𝓖 𝓡 code.env)
     (cited 𝓤 H (RowPrepare 𝓤 H (𝓖 .A) (𝓜 .mem) (𝓡 .run)) 𝓜 𝓡 code.env #entry·prepare row-def.routine code.calls-entry·prepare (row-thm.met 𝓤 H 𝓜 𝓖 𝓡))
-    (cited 𝓤 H (Counted 𝓤 H (𝓖 .A) (𝓜 .mem) (𝓡 .run)) 𝓜 𝓡 code.env #sakondreno·counted counted-def.routine code.calls-sakondreno·counted (counted-thm.met 𝓤 H 𝓜 𝓖 𝓡)))
+    (cited 𝓤 H (Counted 𝓤 H (𝓖 .A) (𝓜 .mem) (𝓡 .run)) 𝓜 𝓡 code.env #plain·counted counted-def.routine code.calls-plain·counted (counted-thm.met 𝓤 H 𝓜 𝓖 𝓡)))

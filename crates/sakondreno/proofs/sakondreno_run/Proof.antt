@@ -55,19 +55,19 @@ use Rattle.entry.proofs.run as row-run
 use Rattle.entry.proofs.run.Symbol as row-def
 use Rattle.entry.proofs.run.Symbol.{name as #entry·run}
 use Rattle.entry.proofs.run.Met as row-thm
-use Rattle.sakondreno.proofs.Plainly.{runs-plain}
-use Rattle.sakondreno.specs.Replies.{directionOf, plainRun, PlainRuns}
-use Rattle.sakondreno.specs.declared.Done.{Done}
-use Rattle.sakondreno.proofs.Done as N
-use Rattle.sakondreno.proofs.Done.Laws as N′
-use Rattle.sakondreno.proofs.direction_of as direction
-use Rattle.sakondreno.proofs.direction_of.Symbol as direction-def
-use Rattle.sakondreno.proofs.direction_of.Symbol.{name as #sakondreno·direction-of}
-use Rattle.sakondreno.proofs.direction_of.Met as direction-thm
-use Rattle.sakondreno.proofs.ended as ended
-use Rattle.sakondreno.proofs.ended.Symbol as ended-def
-use Rattle.sakondreno.proofs.ended.Symbol.{name as #sakondreno·ended}
-use Rattle.sakondreno.proofs.ended.Met as ended-thm
+use Rattle.plain.proofs.Plainly.{runs-plain}
+use Rattle.plain.specs.Replies.{directionOf, plainRun, PlainRuns}
+use Rattle.plain.specs.declared.Done.{Done}
+use Rattle.plain.proofs.Done as N
+use Rattle.plain.proofs.Done.Laws as N′
+use Rattle.plain.proofs.direction_of as direction
+use Rattle.plain.proofs.direction_of.Symbol as direction-def
+use Rattle.plain.proofs.direction_of.Symbol.{name as #plain·direction-of}
+use Rattle.plain.proofs.direction_of.Met as direction-thm
+use Rattle.plain.proofs.ended as ended
+use Rattle.plain.proofs.ended.Symbol as ended-def
+use Rattle.plain.proofs.ended.Symbol.{name as #plain·ended}
+use Rattle.plain.proofs.ended.Met as ended-thm
 use Rattle.sakondreno.proofs.sakondreno_run.Key.{name as #sakondreno·run}
 use Rattle.sakondreno.proofs.sakondreno_run as call
 use Rattle.sakondreno.proofs.sakondreno_run.Statement as stated
@@ -146,7 +146,7 @@ module _ {M : Type 1} (𝓤 : URA M) (H : Heap 𝓤) (A : Atoms 𝓤) (W : Given
   goes-ended : (o : Ran) → Is Out o (out-val o ∷ []) → ent 𝓤 (emp 𝓤) (Ended 𝓤 H A mem run .pre (to-ended o))
   goes-ended o is = qed W [] ∵ nothing ! $ owned ! Out (Is Out) (EL.makes P.the-type P′.the-plain 𝓤 H A) o _ is $ fjoin ! $ nothing ! $ join ! $ frame ! $ nothing ! $ done !
 
-  module _ (𝓣 : Tables 𝓤 H) (known-direction : Triple 𝓤 (𝓣 .C #sakondreno·direction-of) (DirectionOf 𝓤 H A mem run)) (known-row : Triple 𝓤 (𝓣 .C #entry·run) (RowRun 𝓤 H A mem run)) (known-ended : Triple 𝓤 (𝓣 .C #sakondreno·ended) (Ended 𝓤 H A mem run)) where
+  module _ (𝓣 : Tables 𝓤 H) (known-direction : Triple 𝓤 (𝓣 .C #plain·direction-of) (DirectionOf 𝓤 H A mem run)) (known-row : Triple 𝓤 (𝓣 .C #entry·run) (RowRun 𝓤 H A mem run)) (known-ended : Triple 𝓤 (𝓣 .C #plain·ended) (Ended 𝓤 H A mem run)) where
     walk : ent 𝓤 (onEntry 𝓤 H A call.signature κs (q₀, (q₁, (q₂, tt))) (s, (inverse, (x, (y, tt)))) at) (WpFn 𝓤 H (𝓣 .C) (𝓣 .Λ) code.function (of s ∷ vint w8 inverse ∷ of x ∷ of y ∷ []) Post)
     walk =
         qed W ((‵ (flft κ₀ q₀) ⊛ (‵ (flft κ₁ q₁) ⊛ ‵ (flft κ₂ q₂) ⊛ ‵ ftrue)) ∷ ‵ (owns (ShrSlice (named 0) κ₀ R ∷ u8 ∷ MutSlice (named 1) κ₁ f64 ∷ MutSlice (named 2) κ₂ f64 ∷ []) (s, (inverse, (x, (y, tt)))) at) ∷ []) ∵
@@ -186,7 +186,7 @@ module _ {M : Type 1} (𝓤 : URA M) (H : Heap 𝓤) (A : Atoms 𝓤) (W : Given
         keep ! (0 ∷ 2 ∷ 1 ∷ 3 ∷ 4 ∷ []) $ by ! (exits w₂ r (ws .1 .1 .0) (ws .1 .1 .1 .0) (runs-plain e e₁ e₂) m₁ m₂))))))))))))))))))))
 
 module _ {M : Type 1} (𝓤 : URA M) (H : Heap 𝓤) (A : Atoms 𝓤) (W : Given 𝓤 H A) (mem : Memory → SProp 𝓤) (run : Routine → Fun 𝓤) (𝓣 : Tables 𝓤 H)
-    (known-direction : Triple 𝓤 (𝓣 .C #sakondreno·direction-of) (DirectionOf 𝓤 H A mem run)) (known-row : Triple 𝓤 (𝓣 .C #entry·run) (RowRun 𝓤 H A mem run)) (known-ended : Triple 𝓤 (𝓣 .C #sakondreno·ended) (Ended 𝓤 H A mem run)) where
+    (known-direction : Triple 𝓤 (𝓣 .C #plain·direction-of) (DirectionOf 𝓤 H A mem run)) (known-row : Triple 𝓤 (𝓣 .C #entry·run) (RowRun 𝓤 H A mem run)) (known-ended : Triple 𝓤 (𝓣 .C #plain·ended) (Ended 𝓤 H A mem run)) where
   call-walks : Walks 𝓤 H A call.ended stayed (WpFn 𝓤 H (𝓣 .C) (𝓣 .Λ) code.function) (call.clauses 𝓤 H A mem run)
   call-walks = walked 𝓤 H A call.ended stayed (call.clauses 𝓤 H A mem run) (WpFn 𝓤 H (𝓣 .C) (𝓣 .Λ) code.function) (λ κs. (slice-vals, (uint-vals w8, (slice-vals, (slice-vals, tt)))))
       (λ κs. (shr-slice-tells (named 0) (κs .0) R, (uint-tells w8, (mut-slice-tells (named 1) (κs .1 .0) f64, (mut-slice-tells (named 2) (κs .1 .1 .0) f64, tt)))))
@@ -198,6 +198,6 @@ sakondreno-run-spec 𝓤 H 𝓜 𝓖 𝓡 =
     closes 𝓤 H 𝓜 𝓖 𝓡 call.ended stayed (call.clauses 𝓤 H (𝓖 .A) (𝓜 .mem) (𝓡 .run)) code.env #sakondreno·run code.function (code.unfolded 𝓤 H 𝓜 𝓡)
     (goes-none-slice 𝓤 H (𝓖 .A) (givenOf 𝓤 H 𝓜 𝓖) 3 (0 ∷ []) tt (plain (λ _. R)) yes, (goes-none 𝓤 H (𝓖 .A) (givenOf 𝓤 H 𝓜 𝓖) 3 (λ _. u8) yes (λ κs x f. refl), (goes-gave-slice 𝓤 H (𝓖 .A) (givenOf 𝓤 H 𝓜 𝓖) 3 1 tt (plain (λ _. f64)), (goes-gave-slice 𝓤 H (𝓖 .A) (givenOf 𝓤 H 𝓜 𝓖) 3 2 tt (plain (λ _. f64)), tt))))
     (call-walks 𝓤 H (𝓖 .A) (givenOf 𝓤 H 𝓜 𝓖) (𝓜 .mem) (𝓡 .run) (here 𝓤 H 𝓜 𝓖 𝓡 code.env)
-    (cited 𝓤 H (DirectionOf 𝓤 H (𝓖 .A) (𝓜 .mem) (𝓡 .run)) 𝓜 𝓡 code.env #sakondreno·direction-of direction-def.routine code.calls-sakondreno·direction-of (direction-thm.met 𝓤 H 𝓜 𝓖 𝓡))
+    (cited 𝓤 H (DirectionOf 𝓤 H (𝓖 .A) (𝓜 .mem) (𝓡 .run)) 𝓜 𝓡 code.env #plain·direction-of direction-def.routine code.calls-plain·direction-of (direction-thm.met 𝓤 H 𝓜 𝓖 𝓡))
     (cited 𝓤 H (RowRun 𝓤 H (𝓖 .A) (𝓜 .mem) (𝓡 .run)) 𝓜 𝓡 code.env #entry·run row-def.routine code.calls-entry·run (row-thm.met 𝓤 H 𝓜 𝓖 𝓡))
-    (cited 𝓤 H (Ended 𝓤 H (𝓖 .A) (𝓜 .mem) (𝓡 .run)) 𝓜 𝓡 code.env #sakondreno·ended ended-def.routine code.calls-sakondreno·ended (ended-thm.met 𝓤 H 𝓜 𝓖 𝓡)))
+    (cited 𝓤 H (Ended 𝓤 H (𝓖 .A) (𝓜 .mem) (𝓡 .run)) 𝓜 𝓡 code.env #plain·ended ended-def.routine code.calls-plain·ended (ended-thm.met 𝓤 H 𝓜 𝓖 𝓡)))

@@ -1,8 +1,8 @@
 use mathlib.Core.Path.{refl}
 use borrow.Author.Tests.{eq-eqb, ne-eqb}
-use Rattle.sakondreno.specs.Replies.{directionOf}
-use Rattle.sakondreno.proofs.direction_of.Statement.{statement}
-use Rattle.sakondreno.proofs.direction_of.Tie as tie
+use Rattle.plain.specs.Replies.{directionOf}
+use Rattle.plain.proofs.direction_of.Statement.{statement}
+use Rattle.plain.proofs.direction_of.Tie as tie
 
 returns : tie.Need-returns
 unfolding directionOf

@@ -1,8 +1,8 @@
 use mathlib.Core.Path.{sym, ap}
-use Rattle.sakondreno.specs.Replies.{plainPrepared}
+use Rattle.plain.specs.Replies.{plainPrepared}
 use borrow.Author.Needs.{needs}
-use Rattle.sakondreno.proofs.counted.Statement.{statement}
-use Rattle.sakondreno.proofs.counted.Tie as tie
+use Rattle.plain.proofs.counted.Statement.{statement}
+use Rattle.plain.proofs.counted.Tie as tie
 
 enum-known-p : tie.Need-enum-known-p
 enum-known-p c = search needs

@@ -9,10 +9,10 @@ use Rattle.rules.specs.declared.Step.{Step}
 use Rattle.rules.specs.declared.Direction.{Direction}
 use Rattle.rules.specs.declared.Foretold.{Foretold}
 use Rattle.rules.specs.declared.Ran.{Ran}
-use Rattle.sakondreno.specs.declared.Said.{Said}
-use Rattle.sakondreno.specs.declared.Checked.{Checked}
-use Rattle.sakondreno.specs.declared.Done.{Done}
-use Rattle.sakondreno.specs.Replies.{directionOf, plainVerdict, plainCheck, PlainChecks, plainRun, plainOutcome, PlainRuns}
+use Rattle.plain.specs.declared.Said.{Said}
+use Rattle.plain.specs.declared.Checked.{Checked}
+use Rattle.plain.specs.declared.Done.{Done}
+use Rattle.plain.specs.Replies.{directionOf, plainVerdict, plainCheck, PlainChecks, plainRun, plainOutcome, PlainRuns}
 
 pub check-plain : (f : Foretold) {v : Said} → v ≡ plainVerdict (f .verdict)
     → _≡_ {A = Checked} (record { said = v; run = f .run; depths = f .depths; deepest = f .deepest; left = f .left; told = f .told; places = f .places }) (plainCheck f)

@@ -1,8 +1,8 @@
 use mathlib.Core.Path.{sym, ap}
-use Rattle.sakondreno.specs.Replies.{plainRun}
+use Rattle.plain.specs.Replies.{plainRun}
 use borrow.Author.Needs.{needs}
-use Rattle.sakondreno.proofs.ended.Statement.{statement}
-use Rattle.sakondreno.proofs.ended.Tie as tie
+use Rattle.plain.proofs.ended.Statement.{statement}
+use Rattle.plain.proofs.ended.Tie as tie
 
 enum-known-ran : tie.Need-enum-known-ran
 enum-known-ran c = search needs

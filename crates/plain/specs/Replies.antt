@@ -20,11 +20,11 @@ use Rattle.rules.specs.declared.Verdict.the-variants as verdict-is
 use Rattle.rules.specs.declared.Foretold.{Foretold}
 use Rattle.rules.specs.declared.Ran.{Ran}
 use Rattle.rules.specs.declared.Ran.the-variants as ran-is
-use Rattle.sakondreno.specs.declared.Answer.{Answer}
-use Rattle.sakondreno.specs.declared.Part.{Part}
-use Rattle.sakondreno.specs.declared.Said.{Said}
-use Rattle.sakondreno.specs.declared.Checked.{Checked}
-use Rattle.sakondreno.specs.declared.Done.{Done}
+use Rattle.plain.specs.declared.Answer.{Answer}
+use Rattle.plain.specs.declared.Part.{Part}
+use Rattle.plain.specs.declared.Said.{Said}
+use Rattle.plain.specs.declared.Checked.{Checked}
+use Rattle.plain.specs.declared.Done.{Done}
 use Rattle.rules.specs.declared.Prepared.{Prepared}
 use Rattle.rules.specs.declared.Prepared.the-variants as prepared-is
 

@@ -1,8 +1,8 @@
 use mathlib.Core.Path.{sym, ap}
-use Rattle.sakondreno.specs.Replies.{plain}
+use Rattle.plain.specs.Replies.{plain}
 use borrow.Author.Needs.{needs}
-use Rattle.sakondreno.proofs.answered.Statement.{statement}
-use Rattle.sakondreno.proofs.answered.Tie as tie
+use Rattle.plain.proofs.answered.Statement.{statement}
+use Rattle.plain.proofs.answered.Tie as tie
 
 enum-known-w : tie.Need-enum-known-w
 enum-known-w c = search needs

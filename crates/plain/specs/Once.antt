@@ -5,9 +5,9 @@ use mathlib.Core.List.{List}
 use Prim.Native.Nat.{ℕ}
 use lib.Ieee.{Float}
 use Rattle.rules.specs.declared.Step.{Step}
-use Rattle.sakondreno.specs.declared.Checked.{Checked}
-use Rattle.sakondreno.specs.declared.Done.{Done}
-use Rattle.sakondreno.specs.Replies.{PlainChecks, Outcome, PlainRuns}
+use Rattle.plain.specs.declared.Checked.{Checked}
+use Rattle.plain.specs.declared.Done.{Done}
+use Rattle.plain.specs.Replies.{PlainChecks, Outcome, PlainRuns}
 
 -- the check: its answer, all of it
 pub plain-check-once : {inverse : ℕ} {t : List Step} {r r′ : Checked} → PlainChecks inverse t r → PlainChecks inverse t r′ → r ≡ r′

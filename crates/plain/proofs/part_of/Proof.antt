@@ -1,8 +1,8 @@
 use mathlib.Core.Path.{sym, ap}
-use Rattle.sakondreno.specs.Replies.{plainFound}
+use Rattle.plain.specs.Replies.{plainFound}
 use borrow.Author.Needs.{needs}
-use Rattle.sakondreno.proofs.part_of.Statement.{statement}
-use Rattle.sakondreno.proofs.part_of.Tie as tie
+use Rattle.plain.proofs.part_of.Statement.{statement}
+use Rattle.plain.proofs.part_of.Tie as tie
 
 enum-known-found : tie.Need-enum-known-found
 enum-known-found c = search needs

@@ -1,7 +1,7 @@
-use Rattle.sakondreno.proofs.Plainly.{check-plain}
+use Rattle.plain.proofs.Plainly.{check-plain}
 use borrow.Author.Needs.{needs}
-use Rattle.sakondreno.proofs.checked_of.Statement.{statement}
-use Rattle.sakondreno.proofs.checked_of.Tie as tie
+use Rattle.plain.proofs.checked_of.Statement.{statement}
+use Rattle.plain.proofs.checked_of.Tie as tie
 
 verdict-of-requires : tie.Need-verdict-of-requires
 verdict-of-requires c κs = search needs

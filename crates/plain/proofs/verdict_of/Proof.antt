@@ -1,8 +1,8 @@
 use mathlib.Core.Path.{sym, ap}
-use Rattle.sakondreno.specs.Replies.{plainVerdict}
+use Rattle.plain.specs.Replies.{plainVerdict}
 use borrow.Author.Needs.{needs}
-use Rattle.sakondreno.proofs.verdict_of.Statement.{statement}
-use Rattle.sakondreno.proofs.verdict_of.Tie as tie
+use Rattle.plain.proofs.verdict_of.Statement.{statement}
+use Rattle.plain.proofs.verdict_of.Tie as tie
 
 enum-told : tie.Need-enum-told
 enum-told c = search needs

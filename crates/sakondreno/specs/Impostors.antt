@@ -1,0 +1,234 @@
+-- The five impostors of document 01, by their names: no program of that kind meets a public call's promise, whatever else it makes up. A
+-- program is seen from outside: what it returns, and what it leaves in the storage that it is lent, for each thing that it is given.
+-- One input, or two, tell each of them.
+use mathlib.Core.Path.{_≡_, refl, sym, ap, _∙_}
+use mathlib.Core.Bool.{Bool, true, false, false≢true}
+use mathlib.Core.List.{List, [], _∷_}
+use Prim.Native.Nat.{ℕ, suc}
+use native.Mathlib.Omega.{arith}
+use lib.ListN.{length, take, replicate}
+use lib.IntN.{pos}
+use lib.Ieee.{Float, binary64, ofInt, eq}
+use Rattle.rules.specs.Ascii.{ascii}
+use Rattle.rules.specs.Text.{Bytes}
+use Rattle.rules.specs.Refusal.{Reply, outcome, Promised}
+use Rattle.rules.specs.Normal.{normalise}
+use Rattle.rules.specs.Split.{split}
+use Rattle.rules.specs.Parameters.{parameters}
+use Rattle.rules.specs.Translate.{translate}
+use Rattle.rules.specs.Prepare.{prepare}
+use Rattle.rules.specs.Reader.{next}
+use Rattle.rules.specs.Check.{check}
+use Rattle.rules.specs.Run.{runs}
+use Rattle.rules.specs.Record.{blank}
+use Rattle.rules.specs.Examples.{on, records, oneToFour}
+use Rattle.rules.specs.Opened.{opened}
+use Rattle.rules.specs.declared.Step.{Step}
+use Rattle.plain.specs.declared.Answer.{Answer}
+use Rattle.plain.specs.declared.Part.{Part}
+use Rattle.plain.specs.declared.Checked.{Checked}
+use Rattle.plain.specs.declared.Done.{Done}
+use Rattle.plain.specs.Replies.{plain, replied, plainFound, plainPrepared, recorded, directionOf, plainVerdict, plainCheck, PlainChecks, plainRun, Outcome, plainOutcome, PlainRuns}
+
+no : {k : ℕ} → 0 ≡ suc k → ⊥
+no z = omega arith
+
+-- ---- `normalise`, `split`, `parameters`, `translate` and `prepare`
+
+module _ {A : Type 0} (inWords : Reply ℕ → Answer) (own : Bytes → Reply (List A)) where
+  abbrev pub Meets : (Bytes → List A → Answer × List A) → Type 0
+  Meets program = (t : Bytes) (storage : List A) → Promised inWords own t storage (program t storage .0) (program t storage .1)
+
+  -- what tells: the empty text, whose answer is empty, and a text whose answer alters the storage
+  pub record Telling : Type 0 where
+    pub nothing : _≡_ {A = Answer × List A} (outcome inWords own [] []) (record { number = 0; place = 0; length = 0 }, [])
+    pub text : Bytes
+    pub storage : List A
+    pub more : ℕ
+    pub after : List A
+    pub something : _≡_ {A = Answer × List A} (outcome inWords own text storage) (record { number = 0; place = 0; length = suc more }, after)
+    pub altered : storage ≡ after → ⊥
+
+  -- Refusing everything, with any number but 0 and any place
+  pub refusing-everything : Telling → (number place : Bytes → List A → ℕ) → ((t : Bytes) (storage : List A) → number t storage ≡ 0 → ⊥)
+      → Meets (λ t storage. (record { number = number t storage; place = place t storage; length = 0 }, storage)) → ⊥
+  refusing-everything by number place positive meets = positive [] [] (ap (λ (x : Answer × List A). x .0 .number) (meets [] [] .exactly ∙ by .nothing))
+
+  -- One fixed answer, whatever is left in the storage
+  pub one-fixed-answer : Telling → (answer : Answer) (left : Bytes → List A → List A) → Meets (λ t storage. (answer, left t storage)) → ⊥
+  one-fixed-answer by answer left meets =
+      no (sym (ap (λ (x : Answer × List A). x .0 .length) (meets [] [] .exactly ∙ by .nothing))
+      ∙ ap (λ (x : Answer × List A). x .0 .length) (meets (by .text) (by .storage) .exactly ∙ by .something))
+
+  -- Doing nothing, whatever is answered
+  pub doing-nothing : Telling → (answer : Bytes → List A → Answer) → Meets (λ t storage. (answer t storage, storage)) → ⊥
+  doing-nothing by answer meets = by .altered (ap (λ (x : Answer × List A). x .1) (meets (by .text) (by .storage) .exactly ∙ by .something))
+
+-- the first byte
+first : Bytes → ℕ
+first [] = 0
+first (x ∷ t) = x
+
+pub tells-normalise : Telling replied normalise
+unfolding opened plain first
+tells-normalise = record { nothing = refl; text = ascii "a"; storage = 0 ∷ []; more = 0; after = ascii "a"; something = refl; altered = λ e. no (ap first e) }
+
+pub tells-split : Telling replied split
+unfolding opened plain first
+tells-split = record { nothing = refl; text = ascii "a"; storage = 0 ∷ 0 ∷ []; more = 1; after = ascii "a\n"; something = refl; altered = λ e. no (ap first e) }
+
+pub tells-parameters : Telling replied parameters
+unfolding opened plain first
+tells-parameters =
+    record {
+      nothing = refl;
+      text = ascii "a";
+      storage = 0 ∷ 0 ∷ 0 ∷ 0 ∷ 0 ∷ 0 ∷ 0 ∷ 0 ∷ [];
+      more = 7;
+      after = ascii "_name=a\n";
+      something = refl;
+      altered = λ e. no (ap first e);
+    }
+
+pub tells-translate : Telling replied translate
+unfolding opened plain first
+tells-translate = record { nothing = refl; text = ascii "a"; storage = 0 ∷ []; more = 0; after = ascii "a"; something = refl; altered = λ e. no (ap first e) }
+
+-- of preparing: a record that stands there before is another one afterwards
+operatorOfFirst : List Step → ℕ
+operatorOfFirst [] = 0
+operatorOfFirst (s ∷ l) = s .operator
+
+pub tells-prepare : Telling recorded prepare
+unfolding opened plainPrepared operatorOfFirst
+tells-prepare =
+    record {
+      nothing = refl;
+      text = ascii "pop";
+      storage = blank ∷ [];
+      more = 0;
+      after = records (on prepare "pop");
+      something = refl;
+      altered = λ e. no (ap operatorOfFirst e);
+    }
+
+-- ---- the walk over the steps
+
+abbrev pub MeetsNext : (Bytes → ℕ → Part) → Type 0
+MeetsNext program = (t : Bytes) (at : ℕ) → program t at ≡ plainFound (next t at)
+
+-- One fixed answer, and with it always the end
+pub one-fixed-part : (answer : Part) → MeetsNext (λ t at. answer) → ⊥
+unfolding opened plainFound
+one-fixed-part answer meets = no (sym (ap (λ (x : Part). x .found) (meets [] 0)) ∙ ap (λ (x : Part). x .found) (meets (ascii "a") 0))
+
+-- Doing the first step only: always the same of a text, wherever the walk stands
+pub first-part-only : (answer : Bytes → Part) → MeetsNext (λ t at. answer t) → ⊥
+unfolding opened plainFound
+first-part-only answer meets = no (sym (ap (λ (x : Part). x .from) (meets (ascii "a|b") 0)) ∙ ap (λ (x : Part). x .from) (meets (ascii "a|b") 1))
+
+-- ---- the check
+
+abbrev pub MeetsCheck : (ℕ → List Step → Checked) → Type 0
+MeetsCheck program = (inverse : ℕ) (t : List Step) → PlainChecks inverse t (program inverse t)
+
+-- the table of a definition
+abbrev table : Bytes → List Step
+table t = records (prepare t)
+
+-- Refusing everything, and failing everything: never a pass
+pub never-passing : (answer : ℕ → List Step → Checked) → ((inverse : ℕ) (t : List Step) → answer inverse t .said .number ≡ 0 → ⊥) → MeetsCheck answer → ⊥
+unfolding opened directionOf plainCheck plainVerdict
+never-passing answer positive meets = positive 0 [] (ap (λ (x : Checked). x .said .number) (meets 0 [] .exactly))
+
+-- One fixed answer
+pub one-fixed-check : (answer : Checked) → MeetsCheck (λ inverse t. answer) → ⊥
+unfolding opened directionOf plainCheck plainVerdict
+one-fixed-check answer meets =
+    no (sym (ap (λ (x : Checked). x .said .number) (meets 0 [] .exactly))
+    ∙ ap (λ (x : Checked). x .said .number) (meets 0 (table (ascii "pop v_1")) .exactly))
+
+-- The first step and feigning the rest
+pub first-step-checked : MeetsCheck (λ inverse t. plainCheck (check (directionOf inverse) (take 1 t))) → ⊥
+unfolding opened directionOf plainCheck plainVerdict
+first-step-checked meets = no (ap (λ (x : Checked). x .said .number) (meets 0 (table (ascii "push|pop v_1")) .exactly))
+
+-- An invented depth: told by the direction and by how many records there are
+pub invented-depth : (depth : ℕ → ℕ → ℕ) (answer : ℕ → List Step → Checked) → ((inverse : ℕ) (t : List Step) → answer inverse t .deepest ≡ depth inverse (length t))
+    → MeetsCheck answer → ⊥
+unfolding opened directionOf plainCheck plainVerdict
+invented-depth depth answer invented meets =
+    no (sym (ap (λ (x : Checked). x .deepest) (meets 0 (table (ascii "push")) .exactly)) ∙ invented 0 (table (ascii "push"))
+    ∙ sym (invented 0 (table (ascii "push v_1"))) ∙ ap (λ (x : Checked). x .deepest) (meets 0 (table (ascii "push v_1")) .exactly))
+
+-- ---- the run
+
+abbrev pub Runner : Type 0
+Runner = ℕ → List Step → List Float → List Float → Outcome
+
+abbrev pub MeetsRun : Runner → Type 0
+MeetsRun program =
+    (inverse : ℕ) (t : List Step) (xs store : List Float)
+    → PlainRuns inverse t xs store (program inverse t xs store .answer) (program inverse t xs store .list) (program inverse t xs store .store)
+
+-- is the first number 1?
+isOne : List Float → Bool
+isOne [] = false
+isOne (x ∷ l) = eq x (ofInt binary64 (pos 1))
+
+-- Refusing everything, with any number but 0
+pub refusing-every-run : (number place : ℕ → List Step → List Float → List Float → ℕ) → ((inverse : ℕ) (t : List Step) (xs store : List Float) → number inverse t xs store ≡ 0 → ⊥)
+    → MeetsRun (λ inverse t xs store. record { answer = record { number = number inverse t xs store; place = place inverse t xs store; count = 0; left = 0 }; list = xs; store = store }) → ⊥
+unfolding opened directionOf plainOutcome plainRun
+refusing-every-run number place positive meets = positive 0 [] [] [] (ap (λ (x : Outcome). x .answer .number) (meets 0 [] [] [] .exactly))
+
+-- One fixed answer, whatever is left
+pub one-fixed-run : (answer : Done) (list store′ : ℕ → List Step → List Float → List Float → List Float)
+    → MeetsRun (λ inverse t xs store. record { answer = answer; list = list inverse t xs store; store = store′ inverse t xs store }) → ⊥
+unfolding opened directionOf plainOutcome plainRun
+one-fixed-run answer list store′ meets =
+    no (sym (ap (λ (x : Outcome). x .answer .count) (meets 0 [] [] [] .exactly)) ∙ ap (λ (x : Outcome). x .answer .count) (meets 0 [] oneToFour [] .exactly))
+
+-- Doing nothing, whatever is answered
+pub nothing-run : (answer : ℕ → List Step → List Float → List Float → Done) (store′ : ℕ → List Step → List Float → List Float → List Float)
+    → MeetsRun (λ inverse t xs store. record { answer = answer inverse t xs store; list = xs; store = store′ inverse t xs store }) → ⊥
+unfolding opened directionOf plainOutcome plainRun isOne
+nothing-run answer store′ meets = false≢true (sym (ap (λ (x : Outcome). isOne (x .list)) (meets 0 (table (ascii "axisswap order=2,1")) oneToFour [] .exactly)))
+
+-- The first step and feigning the rest: answer and store as in truth
+pub first-step-run : (answer : ℕ → List Step → List Float → List Float → Done) (store′ : ℕ → List Step → List Float → List Float → List Float)
+    → MeetsRun (λ inverse t xs store. record {
+      answer = answer inverse t xs store;
+      list = runs (directionOf inverse) (take 1 t) xs store .list;
+      store = store′ inverse t xs store;
+    }) → ⊥
+unfolding opened directionOf plainOutcome plainRun isOne
+first-step-run answer store′ meets =
+    false≢true (ap (λ (x : Outcome). isOne (x .list)) (meets 0 (table (ascii "axisswap order=2,1|axisswap order=2,1")) oneToFour [] .exactly))
+
+-- An invented count: told by how many numbers there are
+pub invented-count : (count : ℕ → ℕ) (program : Runner) → ((inverse : ℕ) (t : List Step) (xs store : List Float) → program inverse t xs store .answer .count ≡ count (length xs))
+    → MeetsRun program → ⊥
+unfolding opened directionOf plainOutcome plainRun
+invented-count count program invented meets =
+    no (sym (ap (λ (x : Outcome). x .answer .count) (meets 0 (table (ascii "stack drop")) oneToFour [] .exactly)) ∙ invented 0 (table (ascii "stack drop")) oneToFour []
+    ∙ sym (invented 0 [] oneToFour []) ∙ ap (λ (x : Outcome). x .answer .count) (meets 0 [] oneToFour [] .exactly))
+
+-- ---- and three slips of the calls over a row
+
+-- More than 64 records cut at 64: the check
+pub check-cut : MeetsCheck (λ inverse t. plainCheck (check (directionOf inverse) (take 64 t))) → ⊥
+unfolding opened directionOf plainCheck plainVerdict
+check-cut meets = no (ap (λ (x : Checked). x .said .number) (meets 0 (replicate 65 blank) .exactly))
+
+-- The same of the run
+pub run-cut : MeetsRun (λ inverse t xs store. plainOutcome (runs (directionOf inverse) (take 64 t) xs store)) → ⊥
+unfolding opened directionOf plainOutcome plainRun
+run-cut meets = no (ap (λ (x : Outcome). x .answer .number) (meets 0 (replicate 65 blank) [] [] .exactly))
+
+-- The direction forgotten
+pub check-forward : (answer : List Step → Checked) → MeetsCheck (λ inverse t. answer t) → ⊥
+unfolding opened directionOf plainCheck plainVerdict
+check-forward answer meets =
+    no (sym (ap (λ (x : Checked). x .said .number) (meets 0 (table (ascii "push v_1")) .exactly))
+    ∙ ap (λ (x : Checked). x .said .number) (meets 1 (table (ascii "push v_1")) .exactly))
