@@ -1,9 +1,2 @@
-pub mod Codes
-pub mod Four
-pub mod Tracing
-pub mod Stacking
-pub mod Ordering
-pub mod Coding
-pub mod Stepping
 pub mod Judging
 pub mod Passing

@@ -29,7 +29,7 @@ use Rattle.acts.specs.declared.Bad.{Bad}
 use Rattle.acts.specs.declared.Bad.the-variants.{At, Nowhere}
 use Rattle.acts.specs.Tests.{badOf}
 use Rattle.foretell.specs.declared.Judged.the-variants.{Few, Many, Goes}
-use Rattle.foretell.specs.Traces.{placeOf, placesOf, Traced, machine, depth, Whole, Ready}
+use Rattle.traces.specs.Traces.{placeOf, placesOf, Traced, machine, depth, Whole, Ready}
 use Rattle.foretell.specs.Steps.{judged, Sofar, sofar, Begun, Went, toldOf}
 use Rattle.foretell.proofs.Judging.{goes-is, verdict-few, verdict-many, verdict-goes}
 

@@ -11,7 +11,7 @@ use Rattle.rules.specs.Check.{adapting, noPlace, four, plus}
 use Rattle.steplaws.specs.Depth.{grown}
 use Rattle.foretell.specs.declared.Judged.{Judged}
 use Rattle.foretell.specs.declared.Judged.the-variants.{Few, Many, Goes}
-use Rattle.foretell.specs.Traces.{Traced, traced, depth, Moved}
+use Rattle.traces.specs.Traces.{Traced, traced, depth, Moved}
 use Rattle.rules.specs.declared.Foretold.{Foretold}
 use Rattle.rules.specs.declared.Verdict.the-variants.{Passes}
 

@@ -5,7 +5,7 @@ use Rattle.rules.specs.Columns.{takes}
 use Rattle.steplaws.specs.Depth.{grown}
 use Rattle.acts.specs.declared.Act as code
 use Rattle.acts.specs.Doings.{does, doing}
-use Rattle.foretell.proofs.Stepping.{places-many, popped-fits}
+use Rattle.traces.proofs.Stepping.{places-many, popped-fits}
 use borrow.Author.Needs.{needs}
 use Rattle.foretell.proofs.grown.Statement.{statement}
 use Rattle.foretell.proofs.grown.Tie as tie

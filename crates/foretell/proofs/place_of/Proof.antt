@@ -1,4 +1,4 @@
-use Rattle.foretell.specs.Traces.{placeOf}
+use Rattle.traces.specs.Traces.{placeOf}
 use borrow.Author.Needs.{needs}
 use Rattle.foretell.proofs.place_of.Statement.{statement}
 use Rattle.foretell.proofs.place_of.Tie as tie

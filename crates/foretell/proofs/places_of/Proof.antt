@@ -1,4 +1,4 @@
-use Rattle.foretell.proofs.Codes.{four-so}
+use Rattle.traces.proofs.Codes.{four-so}
 use borrow.Author.Needs.{needs}
 use Rattle.foretell.proofs.places_of.Statement.{statement}
 use Rattle.foretell.proofs.places_of.Tie as tie

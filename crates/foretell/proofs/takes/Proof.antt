@@ -2,7 +2,7 @@ use mathlib.Core.Path.{refl, sym, _∙_}
 use lib.ListN.{length-map}
 use Rattle.rules.specs.Columns.{takes}
 use Rattle.acts.specs.Doings.{does, doing}
-use Rattle.foretell.proofs.Stepping.{places-many}
+use Rattle.traces.proofs.Stepping.{places-many}
 use borrow.Author.Needs.{needs}
 use Rattle.foretell.proofs.takes.Statement.{statement}
 use Rattle.foretell.proofs.takes.Tie as tie

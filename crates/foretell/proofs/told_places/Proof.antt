@@ -1,4 +1,4 @@
-use Rattle.foretell.specs.Traces.{placeOf, placesOf}
+use Rattle.traces.specs.Traces.{placeOf, placesOf}
 use borrow.Author.Needs.{needs}
 use Rattle.foretell.proofs.told_places.Statement.{statement}
 use Rattle.foretell.proofs.told_places.Tie as tie

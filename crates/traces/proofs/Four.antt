@@ -1,0 +1,76 @@
+-- Four places by their number, as elements of a list of four; and arguments that name them.
+use mathlib.Core.Path.{_≡_, refl, sym, ap, _∙_, subst}
+use Prim.Native.Nat.{ℕ, zero, suc, _+_, _≤_, _<_}
+use mathlib.Core.Bool.{Bool, true}
+use mathlib.Core.List.{List, [], _∷_, _++_}
+use native.Mathlib.Omega.{arith}
+use native.Mathlib.Numerals.{add-one}
+use lib.Dec.{leb, T, leb→le}
+use lib.IntN.{ℤ, pos}
+use lib.ListN.{length, getD, set, take}
+use lib.Seq.{take-suc}
+use Rattle.laws.specs.Separators.{and-left, and-right}
+use Rattle.rules.specs.Lists.{all}
+use Rattle.rules.specs.Record.{size}
+use Rattle.rules.specs.Act.{places}
+use Rattle.rules.specs.Check.{noPlace, place, putPlace}
+use Rattle.rules.specs.declared.Place.{Place}
+use Rattle.traces.specs.Traces.{isAxis}
+
+-- a list of four
+of-four : (P : List Place → Type 0) → ((a b c d : Place) → P (a ∷ b ∷ c ∷ d ∷ [])) → (l : List Place) → length l ≡ 4 → P l
+of-four P f [] e = absurd (omega (arith, e))
+of-four P f (a ∷ []) e = absurd (omega (arith, e))
+of-four P f (a ∷ b ∷ []) e = absurd (omega (arith, e))
+of-four P f (a ∷ b ∷ c ∷ []) e = absurd (omega (arith, e))
+of-four P f (a ∷ b ∷ c ∷ d ∷ []) e = f a b c d
+of-four P f (a ∷ b ∷ c ∷ d ∷ x ∷ l) e = absurd (omega (arith, e))
+
+-- a number below four
+below-four : (P : ℕ → Type 0) → P 0 → P 1 → P 2 → P 3 → (k : ℕ) → k < 4 → P k
+below-four P a b c d zero h = a
+below-four P a b c d (suc zero) h = b
+below-four P a b c d (suc (suc zero)) h = c
+below-four P a b c d (suc (suc (suc zero))) h = d
+below-four P a b c d (suc (suc (suc (suc k)))) h = absurd (omega (arith, h))
+
+pub place-is : (l : List Place) (k : ℕ) → k < 4 → place (suc k) l ≡ getD l k noPlace
+unfolding place
+place-is l k h = below-four (λ (j : ℕ). place (suc j) l ≡ getD l j noPlace) refl refl refl refl k h
+
+pub put-is : (l : List Place) (p : Place) (k : ℕ) → length l ≡ 4 → k < 4 → putPlace (suc k) p l ≡ set l k p
+unfolding putPlace
+put-is l p k e h =
+    below-four (λ (j : ℕ). putPlace (suc j) p l ≡ set l j p)
+    (of-four (λ (m : List Place). putPlace 1 p m ≡ set m 0 p) (λ a b c d. refl) l e)
+    (of-four (λ (m : List Place). putPlace 2 p m ≡ set m 1 p) (λ a b c d. refl) l e)
+    (of-four (λ (m : List Place). putPlace 3 p m ≡ set m 2 p) (λ a b c d. refl) l e)
+    (of-four (λ (m : List Place). putPlace 4 p m ≡ set m 3 p) (λ a b c d. refl) l e)
+    k
+    h
+
+-- ---- arguments
+
+so : {b : Bool} → b ≡ true → T b
+so e = subst T (sym e) tt
+
+pub record Sized (x : ℤ) : Type 0 where
+  pub low : 1 ≤ size x
+  pub high : size x ≤ 4
+
+pub axis-at : (l : List ℤ) (i : ℕ) → all isAxis l ≡ true → i < length l → Sized (getD l i (pos 0))
+unfolding all isAxis
+axis-at [] i e h = absurd (omega (arith, h))
+axis-at (x ∷ l) zero e h =
+    let own = and-left (isAxis x) _ e in
+    record { low = leb→le _ _ (so (and-left (leb 1 (size x)) _ own)); high = leb→le _ _ (so (and-right (leb 1 (size x)) _ own)) }
+axis-at (x ∷ l) (suc i) e h = axis-at l i (and-right (isAxis x) _ e) (omega (arith, h))
+
+map-append : (l m : List ℤ) → places (l ++ m) ≡ places l ++ places m
+unfolding places
+map-append [] m = refl
+map-append (x ∷ l) m = ap (λ (r : List ℕ). size x ∷ r) (map-append l m)
+
+pub places-more : (l : List ℤ) (i : ℕ) → i < length l → places (take (i + 1) l) ≡ places (take i l) ++ (size (getD l i (pos 0)) ∷ [])
+unfolding places
+places-more l i h = ap (λ (k : ℕ). places (take k l)) (add-one i) ∙ ap places (take-suc l i (pos 0) h) ∙ map-append (take i l) (getD l i (pos 0) ∷ [])
