@@ -1,6 +1,4 @@
-pub mod Signs
 pub mod Firsts
 pub mod Loading
 pub mod Placing
 pub mod Ordering
-pub mod Making
