@@ -198,12 +198,20 @@ fn translate_proved(text: &[u8], out: &mut [u8]) -> usize {
 use translate_rust as translate_proved;
 
 // a call, the Rust, the proved code, and the piece that its text repeats
-const PAIRS: [(&str, Side, Side, &str); 4] = [
+const PAIRS: [(&str, Side, Side, &str); 5] = [
     ("normalise", normalise_rust, normalise_proved, PIPELINE),
     ("split", split_rust, split_proved, LONG_STEPS),
     ("parameters", parameters_rust, parameters_proved, ONE_STEP),
     ("translate", translate_rust, translate_proved, PROJ),
+    ("translate_comment", translate_rust, translate_proved, NOTED),
 ];
+
+// What only passes a text on.
+#[inline(never)]
+fn text_copy(text: &[u8], out: &mut [u8]) -> usize {
+    out[..text.len()].copy_from_slice(text);
+    text.len()
+}
 
 const PIPELINE: &str = "  push v_3 | axisswap order = 2 , 1  > adapt from=neuf_deg   to: enuf < helmert x₁= 87 y₂ =-96 $ z \n: pop  v_3 |";
 
@@ -213,8 +221,11 @@ const LONG_STEPS: &str = "  push v_3 | axisswap order = 2 , 1  a_long_key = 1234
 // For `parameters`, which takes at most 32 keys: a step without a separator, whose keys come again and again.
 const ONE_STEP: &str = "  adapt from=neuf_deg   to: enuf helmert x₁= 87 y₂ =-96 $ z \n: order = 2 , 1 rotation = 0.1 inv scale =1 position_vector exact = 1,2,3 ";
 
-// For `translate`: steps with an ellipsoid, a scale, marks and a comment. What the cut to size leaves of the last step is one.
-const PROJ: &str = " +step +x_0=1 +proj=utm +zone=32 +a=6378137 +rf=298.25 +k=0.9996 +inv # a note\n+step +proj=push +v_3 +omit_fwd  +step +proj=axisswap +order = 2 , 1\n+step +lat_0=1 +proj=pop +v_3";
+// For `translate`: steps with an ellipsoid, a scale and marks. What the cut to size leaves of the last step is one.
+const PROJ: &str = " +step +x_0=1 +proj=utm +zone=32 +a=6378137 +rf=298.25 +k=0.9996 +inv\n+step +proj=push +v_3 +omit_fwd  +step +proj=axisswap +order = 2 , 1\n+step +lat_0=1 +proj=pop +v_3";
+
+// The same with a comment. A newline with a `+` behind it becomes a space before comments are stripped: so all the rest is one comment.
+const NOTED: &str = " +step +x_0=1 +proj=utm +zone=32 +a=6378137 +rf=298.25 +k=0.9996 +inv # a note\n+step +proj=push +v_3 +omit_fwd  +step +proj=axisswap +order = 2 , 1\n+step +lat_0=1 +proj=pop +v_3";
 
 // A text of exactly `size` bytes: no clock and no randomness in it.
 fn text(piece: &str, size: usize) -> Vec<u8> {
@@ -365,7 +376,7 @@ fn calls() -> Vec<(String, &'static [usize])> {
     if cfg!(built_translate) {
         all.push(("translate_longest".to_string(), &[4096]));
     } else {
-        all.pop();
+        all.truncate(all.len() - 2);
     }
     if cfg!(built_prepare) {
         all.push(("prepare".to_string(), STEPS));
@@ -385,7 +396,7 @@ fn sides(call: &str, size: usize) -> Vec<(&'static str, Ready)> {
             let (src, mut out) = (text(piece, size), room());
             Box::new(move || f(black_box(&src), black_box(&mut out)))
         };
-        return vec![("rust", ready(rust)), ("proved", ready(proved))];
+        return vec![("rust", ready(rust)), ("proved", ready(proved)), ("copy", ready(text_copy))];
     }
     if call == "translate_longest" {
         let ready = |f: Side| -> Ready {

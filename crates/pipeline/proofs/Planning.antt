@@ -1,6 +1,6 @@
 -- The walk over a table's steps in running order, and the depths that it tells.
-use mathlib.Core.Path.{_≡_, refl, sym, ap, _∙_}
-use Prim.Native.Nat.{ℕ, _+_, _<_, _≤_, max}
+use mathlib.Core.Path.{_≡_, refl, sym, ap, subst, _∙_}
+use Prim.Native.Nat.{ℕ, _+_, _*_, _/_, _<_, _≤_, max}
 use mathlib.Core.Bool.{Bool, true, false, cond}
 use mathlib.Core.Option.{none, some}
 use mathlib.Core.List.{List, [], _∷_}
@@ -9,6 +9,7 @@ use borrow.Author.Tests.{lt-ltb, le-ltb}
 use lib.Dec.{ltb}
 use lib.ListN.{length, getD, take}
 use lib.Seq.{getD-take}
+use lib.Ieee.{Float}
 use Rattle.rules.specs.Record.{made, refusal18, listed}
 use Rattle.rules.specs.Act.{Numbered, act, omitted, running}
 use Rattle.rules.specs.Columns.{depths, deepest}
@@ -38,6 +39,10 @@ module _ (t : Table) (full : length (t .steps) ≡ 64) (h : refusal18 (listed t)
 
   pub table-made : (k : ℕ) (x : Step) → k < t .n → made (getD (t .steps) k x) ≡ true
   table-made k x b = sound-so t full h .each k x b
+
+-- a run over no tuples has room in any store
+pub no-room : (depth : ℕ) (xs s : List Float) → length xs ≡ 0 → depth * (length xs / 4) ≤ length s
+no-room depth xs s e = subst (λ (n : ℕ). depth * (n / 4) ≤ length s) (sym e) (omega arith)
 
 -- ---- the depths of the written run
 

@@ -15,12 +15,16 @@ use Rattle.steplaws.specs.Depth.{depthAfter}
 use Rattle.acts.specs.Doings.{doing, Does}
 use Rattle.acts.specs.declared.Doing.{Doing}
 use Rattle.columns.specs.Stores.{held}
-use Rattle.pipeline.specs.Plans.{depthStepped, stepped, countStepped, Stepped}
+use Rattle.pipeline.specs.Plans.{depthStepped, noneStepped, stepped, countStepped, Stepped}
 use Rattle.pipeline.specs.Ways.{Acted}
 
 -- the act of a step is what its doing does
 pub own : {a : rules.Act} {r : Doing} → Does a r → Does (doing r) r
 own h = record { same = refl; slots = h .slots; rule = h .rule }
+
+pub count-few : (tuples count : ℕ) → count ≤ tuples → (none : Bool) → cond none 0 count ≤ tuples
+count-few tuples count b true = omega arith
+count-few tuples count b false = b
 
 module _ (d : Direction) (s : Step) (depth : ℕ) where
   pub depth-omitted : omitted d s ≡ true → depth ≡ depthStepped d s depth
@@ -34,18 +38,23 @@ module _ (d : Direction) (s : Step) (depth : ℕ) where
   pub depth-is : {a : rules.Act} → omitted d s ≡ false → a ≡ act d s → depthAfter a depth ≡ depthStepped d s depth
   depth-is {a} e f = depth-run (depthAfter a depth) e f refl
 
-  module _ (tuples count : ℕ) (b : count ≤ tuples) where
-    pub count-omitted : omitted d s ≡ true → count ≡ countStepped d s depth tuples count
-    unfolding countStepped
-    count-omitted e = rw e
+  pub none-omitted : omitted d s ≡ true → false ≡ noneStepped d s depth
+  unfolding noneStepped
+  none-omitted e = rw e
 
-    pub count-run : {a : rules.Act} {r : Bool} → omitted d s ≡ false → a ≡ act d s → r ≡ countsNone a depth → cond r 0 count ≡ countStepped d s depth tuples count
-    unfolding countStepped
-    count-run {a} {r} e f h = rw (e, ← f, ← h) (go r)
+  pub none-run : {a : rules.Act} (r : Bool) → omitted d s ≡ false → a ≡ act d s → r ≡ countsNone a depth → r ≡ noneStepped d s depth
+  unfolding noneStepped
+  none-run r e f h = rw e (h ∙ ap (λ (z : rules.Act). countsNone z depth) f)
+
+  module _ (tuples count : ℕ) (b : count ≤ tuples) (r : Bool) where
+    pub count-is : r ≡ noneStepped d s depth → cond r 0 count ≡ countStepped d s depth tuples count
+    unfolding noneStepped countStepped
+    count-is e = ap (λ (z : Bool). cond z 0 count) e ∙ go (omitted d s) (countsNone (act d s) depth)
       where
-        go : (r : Bool) → cond r 0 count ≡ min count (cond r 0 tuples)
-        go true = omega arith
-        go false = omega arith
+        go : (o n : Bool) → cond (cond o false n) 0 count ≡ cond o count (min count (cond n 0 tuples))
+        go true n = refl
+        go false true = omega arith
+        go false false = omega (arith, b)
 
   module _ (xs store : List Float) where
     pub step-omitted : omitted d s ≡ true → Stepped d s depth xs store xs store

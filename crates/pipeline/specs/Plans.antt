@@ -1,7 +1,7 @@
 -- The depths of a run: what a pass without numbers tells of refusals 16 and 17.
 use mathlib.Core.Path.{_≡_}
 use Prim.Native.Nat.{ℕ, _*_, _/_, _≤_, max, min}
-use mathlib.Core.Bool.{cond}
+use mathlib.Core.Bool.{Bool, false, cond}
 use mathlib.Core.Option.{Option, none, some}
 use mathlib.Core.List.{List, [], _∷_}
 use lib.ListN.{length, drop}
@@ -16,6 +16,7 @@ use Rattle.rules.specs.declared.Direction.{Direction}
 use Rattle.rules.specs.declared.Ran.{Ran}
 use Rattle.steplaws.specs.Depth.{depthAfter}
 use Rattle.columns.specs.Stores.{held}
+use Rattle.pipeline.specs.declared.Stood.{Stood}
 
 -- ---- one step, which may be omitted
 
@@ -24,6 +25,10 @@ depthStepped d s depth = cond (omitted d s) depth (depthAfter (act d s) depth)
 
 unfoldable pub stepped : Direction → Step → State → State
 stepped d s m = cond (omitted d s) m (acted (act d s) m)
+
+-- does it count none of the tuples?
+unfoldable pub noneStepped : Direction → Step → ℕ → Bool
+noneStepped d s depth = cond (omitted d s) false (countsNone (act d s) depth)
 
 -- the count after it, from the count before; `tuples` is their number
 unfoldable pub countStepped : Direction → Step → ℕ → ℕ → ℕ → ℕ
@@ -49,6 +54,12 @@ deepestFrom (s ∷ l) depth = max (depthAfter (s .does) depth) (deepestFrom l (d
 pub record Stepped (d : Direction) (s : Step) (depth : ℕ) (xs store xs′ store′ : List Float) : Type 0 where
   pub machine : held xs′ store′ (depthStepped d s depth) ≡ stepped d s (held xs store depth)
   pub beyond : drop (max depth (depthStepped d s depth) * (length xs / 4)) store′ ≡ drop (max depth (depthStepped d s depth) * (length xs / 4)) store
+
+-- and what is known after it
+pub record Stands (d : Direction) (s : Step) (depth : ℕ) (xs store xs′ store′ : List Float) (r : Stood) : Type 0 where
+  pub deep : r .depth ≡ depthStepped d s depth
+  pub counts : r .none ≡ noneStepped d s depth
+  pub leaves : Stepped d s depth xs store xs′ store′
 
 -- what a call answers and leaves is a given outcome
 pub record Gives (o : Outcome) (result : Ran) (xs store : List Float) : Type 0 where

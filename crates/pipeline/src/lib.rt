@@ -15,7 +15,7 @@ use rules::Ran;
 use rules::Step;
 use rules::Table;
 ghost use mathlib.Core.Path.{_≡_};
-ghost use mathlib.Core.Bool.{true};
+ghost use mathlib.Core.Bool.{true, cond};
 ghost use Prim.Native.Nat.{_*_, _≤_, _<_, _/_, max};
 ghost use lib.ListN.{length, take};
 ghost use Rattle.rules.specs.Record.{made, listed};
@@ -24,7 +24,7 @@ ghost use Rattle.rules.specs.Tuples.{countsNone};
 ghost use Rattle.rules.specs.Run.{badList, Runs};
 ghost use Rattle.steplaws.specs.Depth.{depthAfter};
 ghost use Rattle.acts.specs.Doings.{doing, Does};
-ghost use Rattle.pipeline.specs.Plans.{depthStepped, countStepped, Stepped};
+ghost use Rattle.pipeline.specs.Plans.{depthStepped, Stands};
 ghost use Rattle.pipeline.specs.Ways.{Chosen, Acted, turns};
 
 // ---- one act
@@ -155,48 +155,49 @@ fn run_act(tuples: &mut [f64], columns: &mut [f64], depth: usize, d: Doing)
 
 // ---- one step of the table, which may be omitted
 
-// What the depth is after a step.
-fn step_depth(s: Step, direction: Direction, depth: usize) -> usize
-    requires { ⌜ depth ≤ 64 ⌝ }
-    requires { ⌜ made s ≡ true ⌝ }
-    ensures { λ r. ⌜ r ≡ depthStepped direction s depth ⌝ }
-{
-    if is_omitted(s, direction) {
-        return depth;
-    }
-    depth_after(act_of(s, direction), depth)
-}
-
-// What the count is after it.
-fn step_count(s: Step, direction: Direction, depth: usize, count: usize, tuples: usize) -> usize
-    requires { ⌜ made s ≡ true ⌝ }
-    requires { ⌜ count ≤ tuples ⌝ }
-    ensures { λ r. ⌜ (r ≡ countStepped direction s depth tuples count) × (r ≤ tuples) ⌝ }
-{
-    if is_omitted(s, direction) {
-        return count;
-    }
-    if counts_none(act_of(s, direction), depth) {
-        return 0;
-    }
-    count
+// What is known after a step: the depth, and whether it counts none of the tuples.
+pub struct Stood {
+    pub depth: usize,
+    pub none: bool,
 }
 
 // The step itself.
-fn run_step(tuples: &mut [f64], columns: &mut [f64], depth: usize, s: Step, direction: Direction)
+fn run_step(
+    tuples: &mut [f64],
+    columns: &mut [f64],
+    depth: usize,
+    s: Step,
+    direction: Direction,
+) -> Stood
     requires { ⌜ depth ≤ 64 ⌝ }
     requires { ⌜ made s ≡ true ⌝ }
     requires { ⌜ depth * (length (now tuples) / 4) ≤ length (now columns) ⌝ }
     requires { ⌜ depthStepped direction s depth * (length (now tuples) / 4) ≤ length (now columns) ⌝ }
-    ensures { λ _. ⌜ Stepped direction s depth (now (tuples .entry)) (now (columns .entry)) (now (tuples .exit)) (now (columns .exit)) ⌝ }
+    ensures { λ r. ⌜ Stands direction s depth (now (tuples .entry)) (now (columns .entry)) (now (tuples .exit)) (now (columns .exit)) r ⌝ }
 {
     if is_omitted(s, direction) {
-        return;
+        return Stood {
+            depth: depth,
+            none: false,
+        };
     }
-    run_act(tuples, columns, depth, act_of(s, direction));
+    let d = act_of(s, direction);
+    let stood = Stood {
+        depth: depth_after(d, depth),
+        none: counts_none(d, depth),
+    };
+    run_act(tuples, columns, depth, d);
+    stood
 }
 
 // ---- the run
+
+// The count, from the count before a step.
+fn counted(none: bool, count: usize) -> usize
+    ensures { λ r. ⌜ r ≡ cond none 0 count ⌝ }
+{
+    if none { 0 } else { count }
+}
 
 // The greater of two.
 fn max_of(a: usize, b: usize) -> usize
@@ -217,11 +218,13 @@ fn is_bad_list(tuples: &[f64]) -> bool
 }
 
 // The run of a table over a list, four numbers per tuple, and a store of columns: the count and how many columns are left, or
-// the refusal. The table is large and given by value: every pass over it stands here, so that it is not copied for each.
+// the refusal. The table is large and given by value: every pass over it stands here, so that it is not copied for each. The
+// passes are short, so that it is not copied at all: what is long stands in `run_step`, which two of them call.
 pub fn run(table: Table, direction: Direction, tuples: &mut [f64], columns: &mut [f64]) -> Ran
     ensures { λ r. ⌜ Runs (direction) (listed (table)) (now (tuples .entry)) (now (columns .entry)) r (now (tuples .exit)) (now (columns .exit)) ⌝ }
 {
     let n = table.n;
+    let steps = table.steps;
     if 64 < n {
         return Ran::Refused {
             number: 18,
@@ -231,7 +234,7 @@ pub fn run(table: Table, direction: Direction, tuples: &mut [f64], columns: &mut
     // 18: the first record that no preparation makes
     let mut i = 0;
     while i < n {
-        let s = table.steps[i];
+        let s = steps[i];
         i += 1;
         if !made(s) {
             return Ran::Refused {
@@ -246,14 +249,17 @@ pub fn run(table: Table, direction: Direction, tuples: &mut [f64], columns: &mut
             place: 0,
         };
     }
-    // 16: the depths, without numbers
+    // 16: the depths, by a run over no tuples
+    let mut no_tuples = [0.0; 0];
+    let mut no_columns = [0.0; 0];
     let mut depth = 0;
     let mut deepest = 0;
     let mut i = 0;
     while i < n {
         let k = visited_of(direction, i, n);
-        let s = table.steps[k];
-        depth = step_depth(s, direction, depth);
+        let s = steps[k];
+        let stood = run_step(&mut no_tuples, &mut no_columns, depth, s, direction);
+        depth = stood.depth;
         if 64 < depth {
             return Ran::Refused {
                 number: 16,
@@ -277,11 +283,10 @@ pub fn run(table: Table, direction: Direction, tuples: &mut [f64], columns: &mut
     let mut i = 0;
     while i < n {
         let k = visited_of(direction, i, n);
-        let s = table.steps[k];
-        count = step_count(s, direction, left, count, whole);
-        let next = step_depth(s, direction, left);
-        run_step(tuples, columns, left, s, direction);
-        left = next;
+        let s = steps[k];
+        let stood = run_step(tuples, columns, left, s, direction);
+        count = counted(stood.none, count);
+        left = stood.depth;
         i += 1;
     }
     zero_rest(columns, left * whole, used);

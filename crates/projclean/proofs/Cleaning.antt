@@ -1,6 +1,5 @@
 -- Cleaning a PROJ text: that each text on the way has room, and that the last is the one that is meant.
-use mathlib.Core.Path.{_≡_, refl, sym, ap, _∙_}
-use mathlib.Core.List.{[], _∷_}
+use mathlib.Core.Path.{_≡_, refl, ap, _∙_}
 use Prim.Native.Nat.{ℕ, _-_, _*_, _≤_, _<_}
 use native.Mathlib.Omega.{arith}
 use lib.ListN.{length, take, drop}
@@ -14,44 +13,23 @@ use Rattle.text.specs.Writing.{Wrote, Holds}
 use Rattle.text.specs.Places.{LeftFrom}
 use Rattle.text.proofs.Writing.{wrote-front, wrote-holds}
 use Rattle.walk.proofs.Leading.{part-from}
-use Rattle.projclean.specs.Cleaning.{spaced, unsigned, cleaned}
+use Rattle.projclean.specs.Cleaning.{signless, spaced, unsigned, cleaned}
 
 -- ---- the signs
 
--- without the `+` behind a space
-abbrev once : Bytes → Bytes
-once t = replace (32 ∷ 43 ∷ []) (32 ∷ []) t
+signless-weight : (t : Bytes) → weight (signless t) ≤ weight t
+unfolding signless ascii weight weightOf
+signless-weight t =
+    let a = replace (ascii " +") (ascii " ") t in
+    omega (arith, replace-weight (ascii " +") (ascii " ") t (omega arith) (omega arith), replace-weight (ascii "\n+") (ascii " ") a (omega arith) (omega arith))
 
-abbrev again : Bytes → Bytes
-again t = replace (10 ∷ 43 ∷ []) (32 ∷ []) t
+module _ (t : Bytes) {a₀ a : Bytes} {n : ℕ} (w : Wrote (newlines t) a₀ n a) where
+  pub signless-room : {x y : ℕ} → weight t ≤ x → y ≡ x → length (signless (take n a)) ≤ y
+  signless-room h e = rw (wrote-front w) (omega (arith, length-weight (signless (newlines t)), signless-weight (newlines t), newlines-weight t))
 
-once-weight : (t : Bytes) → weight (once t) ≤ weight t
-unfolding weight weightOf
-once-weight t = replace-weight (32 ∷ 43 ∷ []) (32 ∷ []) t (omega arith) (omega arith)
-
-again-weight : (t : Bytes) → weight (again t) ≤ weight t
-unfolding weight weightOf
-again-weight t = replace-weight (10 ∷ 43 ∷ []) (32 ∷ []) t (omega arith) (omega arith)
-
-spaced-is : (t : Bytes) → spaced t ≡ again (once (newlines t))
-unfolding spaced ascii
-spaced-is t = refl
-
-module _ (t : Bytes) {b₀ b : Bytes} {n : ℕ} (w : Wrote (newlines t) b₀ n b) where
-  pub once-room : {x y : ℕ} → weight t ≤ x → y ≡ x → length (once (take n b)) ≤ y
-  once-room h e = rw (wrote-front w) (omega (arith, length-weight (once (newlines t)), once-weight (newlines t), newlines-weight t))
-
-  module _ {a₀ a : Bytes} {m : ℕ} (v : Wrote (once (take n b)) a₀ m a) where
-    twice : again (take m a) ≡ spaced t
-    twice = rw (wrote-front v, wrote-front w) (sym (spaced-is t))
-
-    pub again-room : {x y : ℕ} → weight t ≤ x → y ≡ x → length (again (take m a)) ≤ y
-    again-room h e =
-        rw (wrote-front v, wrote-front w)
-        (omega (arith, length-weight (again (once (newlines t))), again-weight (once (newlines t)), once-weight (newlines t), newlines-weight t))
-
-    pub again-holds : {c₀ c : Bytes} {r : ℕ} → Wrote (again (take m a)) c₀ r c → Holds (spaced t) r c
-    again-holds u = wrote-holds (rw twice at u)
+  pub signless-holds : {b₀ b : Bytes} {r : ℕ} → Wrote (signless (take n a)) b₀ r b → Holds (spaced t) r b
+  unfolding spaced
+  signless-holds v = wrote-holds (rw (wrote-front w) at v)
 
 -- what is left of the trimmed text
 pub unsigned-is : (s : Bytes) {t : Bytes} {k : ℕ} → t ≡ trimmed white s → LeftFrom (is "+") t k → take (length t - k) (drop k t) ≡ unsigned s
@@ -61,7 +39,7 @@ unsigned-is s {t} {k} e l = part-from t k ∙ l .part ∙ ap (trimStart (is "+")
 -- ---- the whole
 
 unplussed-so : (t : Bytes) → unsigned (spaced t) ≡ unplussed (newlines t)
-unfolding unsigned spaced unplussed
+unfolding unsigned spaced signless unplussed
 unplussed-so t = refl
 
 pub space-room : (t : Bytes) {x : ℕ} → 10 * length t ≤ x → weight t ≤ x

@@ -3,16 +3,54 @@
 use split::lines_into;
 use split::newlines_into;
 use text::Edge;
-use text::replace_into;
 use text::start_of;
+use text::starts_at;
 use text::trim;
 use token::normal_of;
 ghost use mathlib.Core.Path.{_≡_};
 ghost use Prim.Native.Nat.{_*_, _<_, _≤_};
 ghost use lib.ListN.{length};
 ghost use Rattle.laws.specs.Sizes.{weight};
-ghost use Rattle.text.specs.Writing.{Holds};
-ghost use Rattle.projclean.specs.Cleaning.{spaced, unsigned, cleaned};
+ghost use Rattle.text.specs.Writing.{Wrote, Holds};
+ghost use Rattle.projclean.specs.Cleaning.{gap, signless, spaced, unsigned, cleaned};
+
+// Is it a space or a newline?
+fn is_gap(b: u8) -> bool
+    ensures { λ r. ⌜ r ≡ gap b ⌝ }
+{
+    if b == 32 {
+        return true;
+    }
+    b == 10
+}
+
+// Writes src with a space for each `+` that follows a space or a newline, and for what it follows.
+fn signless_into(src: &[u8], dst: &mut [u8]) -> usize
+    requires { ⌜ length (signless (now src)) ≤ length (now dst) ⌝ }
+    ensures { λ r. ⌜ Wrote (signless (now (src .entry))) (now (dst .entry)) r (now (dst .exit)) ⌝ }
+{
+    let mut i = 0;
+    let mut o = 0;
+    while i < src.len() {
+        let b = src[i];
+        if is_gap(b) {
+            if starts_at(src, i + 1, b"+") {
+                dst[o] = 32;
+                o += 1;
+                i += 2;
+            } else {
+                dst[o] = b;
+                o += 1;
+                i += 1;
+            }
+        } else {
+            dst[o] = b;
+            o += 1;
+            i += 1;
+        }
+    }
+    o
+}
 
 // Writes the text with its line ends made newlines, and a space for each `+` that follows a space or a newline, into b; a
 // is room to work in.
@@ -21,9 +59,8 @@ fn space_into(text: &[u8], a: &mut [u8], b: &mut [u8]) -> usize
     requires { ⌜ weight (now text) ≤ length (now b) ⌝ }
     ensures { λ r. ⌜ Holds (spaced (now (text .entry))) r (now (b .exit)) ⌝ }
 {
-    let n = newlines_into(text, a, b);
-    let m = replace_into(&b[..n], b" +", b" ", a);
-    replace_into(&a[..m], b"\n+", b" ", b)
+    let n = newlines_into(text, b, a);
+    signless_into(&a[..n], b)
 }
 
 // The part of s without white space at both ends, and then without the `+` in front.

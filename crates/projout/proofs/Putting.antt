@@ -1,8 +1,9 @@
 -- Putting texts behind each other or in front of each other: the laws of `Spot` and `Puts`, and those for the functions.
 use mathlib.Core.Path.{_≡_, refl, sym, ap, _∙_, subst}
-use mathlib.Core.Bool.{Bool, true, false, cond, not}
+use mathlib.Core.Bool.{Bool, true, false, cond, not, false≢true}
 use mathlib.Core.List.{[], _∷_, _++_, append-assoc}
-use Prim.Native.Nat.{ℕ, _+_, _-_, _≤_}
+use Prim.Native.Nat.{ℕ, _+_, _-_, _≤_, _<_}
+use native.Mathlib.Decide.{decLt}
 use native.Mathlib.Omega.{arith}
 use borrow.Author.Tests.{eq-eqb, ne-eqb}
 use lib.ListN.{length, take, drop, set, length-append, take-append-drop}
@@ -15,6 +16,7 @@ use Rattle.pen.specs.Adding.{limit, Room, Adds}
 use Rattle.pen.proofs.Adding.{adds-length, wrote-adds}
 use Rattle.projlaws.specs.Ordering.{side, side-right, side-length, barText, gapText, partText, stateAfter}
 use Rattle.projout.specs.Places.{placeOf, Spot, Puts, Parted}
+use Rattle.projout.specs.declared.Put.{Put}
 use Rattle.projlaws.specs.Tests.{empty-is, some-is}
 
 -- ---- the place
@@ -263,6 +265,111 @@ module _ (state : ℕ) (t : Bytes) {write back : Bool} {total o : ℕ} {dst₀ :
         where
           some-state : nonEmpty t ≡ true → 1 ≡ stateAfter state t
           some-state f = unfold stateAfter in sym (rw f)
+
+-- ---- written behind the others
+
+pub spot-on : (write back : Bool) {total o : ℕ} {dst : Bytes} (state : ℕ) (t : Bytes) → write ≡ true → back ≡ false
+    → Spot write back total (partText back state (ltb 0 o) t) o dst → Spot true false total (partText false state (ltb 0 o) t) o dst
+spot-on true false state t w b h = h
+spot-on true true state t w b h = absurd (false≢true (sym b))
+spot-on false back state t w b h = absurd (false≢true w)
+
+pub parted-on : (write back : Bool) {total state : ℕ} {t dst₀ : Bytes} {o : ℕ} {r : Put} {dst : Bytes} → write ≡ true → back ≡ false
+    → Parted true false total state t dst₀ o r dst → Parted write back total state t dst₀ o r dst
+parted-on true false w b h = h
+parted-on true true w b h = absurd (false≢true (sym b))
+parted-on false back w b h = absurd (false≢true w)
+
+not-none : {k : ℕ} → 0 < k → k ≡ 0 → ⊥
+not-none m e = omega arith
+
+-- a space is put before a text that stands behind its place
+spaced-adds : {t dst dst′ : Bytes} {p r : ℕ} → p + 1 + length t ≤ length dst → Adds true t dst (p + 1) r dst′ → p < length dst′ → Adds true (32 ∷ t) dst p (p + length (32 ∷ t)) (set dst′ p 32)
+spaced-adds {t} {dst} {dst′} {p} {r} h a l =
+    let x : dst′ ≡ mid (p + 1) t dst = mid-adds (subst (λ (n : ℕ). Adds true t dst (p + 1) n dst′) (a .count) a) in
+    let y : set dst′ p 32 ≡ mid p (32 ∷ []) dst′ = mid-adds (wrote-adds (omega arith) (wrote-byte 32 dst′ p l)) in
+    adds-mid refl (y ∙ ap (mid p (32 ∷ [])) x ∙ mid-front dst t (32 ∷ []) p h)
+
+module _ (state : ℕ) (t : Bytes) {total o : ℕ} {dst₀ : Bytes} (h : Spot true false total (partText false state (ltb 0 o) t) o dst₀)
+    {p : ℕ} {dst : Bytes} (b : Puts true false total (barText false state (ltb 0 o)) dst₀ o p dst) where
+  -- behind the bar the buffer has room for what is left of the answer
+  on-inside : total ≤ length dst
+  on-inside = omega (arith, h .inside, spot-length (part-bar state t h) b)
+
+  on-within : p ≤ total
+  on-within = omega (arith, part-bar state t h .fits, b .count)
+
+  -- the first
+  module _ (z : state ≡ 0) where
+    on-first : partText false state (ltb 0 o) t ≡ side false (barText false state (ltb 0 o)) t
+    unfolding partText gapText
+    on-first = rw (eq-eqb state 0 z) (ap (side false (barText false state (ltb 0 o))) (same t))
+      where
+        same : (u : Bytes) → cond (nonEmpty u) u [] ≡ u
+        same [] = unfold nonEmpty in refl
+        same (x ∷ u) = unfold nonEmpty in refl
+
+    on-first-spot : Spot true false total t p dst
+    on-first-spot = spot-then (barText false state (ltb 0 o)) t (spot-as on-first h) b
+
+    pub on-first-room : Room true t p dst
+    unfolding placeOf
+    on-first-room = spot-room on-first-spot refl
+
+    pub on-first-done : {r : ℕ} {dst′ : Bytes} → Adds true t dst p r dst′ → Parted true false total state t dst₀ o (record { o = r; state = 1 }) dst′
+    on-first-done {r} {dst′} a = record {
+      puts =
+          puts-as (sym on-first)
+          (puts-both (barText false state (ltb 0 o)) t (spot-as on-first h) b
+          (subst (λ (n : ℕ). Puts true false total t dst p n dst′) (sym (a .count)) (put-written on-first-spot refl (place-behind total p (length t) refl) a)));
+      state-is = after (nonEmpty t) refl;
+    }
+      where
+        after : (c : Bool) → nonEmpty t ≡ c → 1 ≡ stateAfter state t
+        after true e = unfold stateAfter in sym (rw e)
+        after false e = unfold stateAfter in sym (rw (e, eq-eqb state 0 z))
+
+  -- a later one
+  module _ (n : state ≡ 0 → ⊥) where
+    on-room : 0 < length t → p + 1 + length t ≤ total
+    on-room m = omega (arith, part-gap state t h b (not-none m) .fits, ap length (gap-later false state t n), side-length false (32 ∷ []) t)
+
+    -- nothing is left of the answer
+    pub on-full : total ≤ p → Parted true false total state t dst₀ o (record { o = p; state = 2 }) dst
+    on-full l = elim (decLt 0 (length t)) [ yes m ↦ absurd (past (on-room m)) | no m ↦ part-later-empty state t h b (omega arith) n ]
+      where
+        past : p + 1 + length t ≤ total → ⊥
+        past q = omega arith
+
+    module _ (l : p < total) where
+      on-fits : p + 1 + length t ≤ length dst
+      on-fits = elim (decLt 0 (length t)) [ yes m ↦ omega (arith, on-inside, on-room m) | no m ↦ omega (arith, on-inside) ]
+
+      pub on-later-room : Room true t (p + 1) dst
+      unfolding limit
+      on-later-room = record { fits = on-fits }
+
+      module _ {r : ℕ} {dst′ : Bytes} (a : Adds true t dst (p + 1) r dst′) where
+        pub on-later-length : p < length dst′
+        on-later-length = omega (arith, adds-length on-later-room a, on-inside)
+
+        pub on-later-none : r ≡ p + 1 → Parted true false total state t dst₀ o (record { o = p; state = 2 }) dst′
+        on-later-none e =
+            let z : length t ≡ 0 = omega (arith, a .count) in
+            let d : dst′ ≡ dst = a .whole ∙ rw (empty-is t z, e) (take-append-drop (p + 1) dst) in
+            subst (λ (x : Bytes). Parted true false total state t dst₀ o (record { o = p; state = 2 }) x) (sym d) (part-later-empty state t h b z n)
+
+        pub on-later-done : (r ≡ p + 1 → ⊥) → Parted true false total state t dst₀ o (record { o = r; state = 1 }) (set dst′ p 32)
+        on-later-done k = part-some state t h b some puts
+          where
+            some : length t ≡ 0 → ⊥
+            some z = k (omega (arith, a .count))
+
+            gap-is : gapText false state t ≡ 32 ∷ t
+            gap-is = gap-later false state t n ∙ unfold side in refl
+
+            puts : Puts true false total (gapText false state t) dst p r (set dst′ p 32)
+            puts = puts-as (sym gap-is) (record { count = omega (arith, a .count); adds = unfold placeOf in spaced-adds on-fits a on-later-length })
 
 -- ---- the bar, piece by piece
 

@@ -7,7 +7,7 @@ use projwords::marks_of;
 use rules::Cursor;
 use rules::Found;
 ghost use mathlib.Core.Path.{_≡_};
-ghost use mathlib.Core.Bool.{true, cond};
+ghost use mathlib.Core.Bool.{true, false, cond};
 ghost use mathlib.Core.List.{[], _∷_};
 ghost use Prim.Native.Nat.{_+_, _≤_};
 ghost use lib.ListN.{length};
@@ -127,8 +127,40 @@ fn gap_out(
     text_out(s, g, inverted, l, back, total, out, p, write)
 }
 
-// Puts a step of the answer, with what stands before it. Behind an empty one a space is owed.
-fn part_out(
+// Writes a step of the answer behind the others, with what stands before it. Its text is written a place behind the bar;
+// the space between follows only where the text is not empty.
+fn part_on(
+    s: &[u8],
+    g: &[u8],
+    inverted: bool,
+    state: usize,
+    total: usize,
+    out: &mut [u8],
+    o: usize,
+) -> Put
+    requires { ⌜ nonEmpty (words (now s)) ≡ true ⌝ }
+    requires { ⌜ Global (pipelineOf (now g) inverted) ⌝ }
+    requires { ⌜ Spot true false total (partText false state (ltb 0 o) (stepOf (pipelineOf (now g) inverted) (words (now s)))) o (now out) ⌝ }
+    ensures { λ r. ⌜ Parted true false total state (stepOf (pipelineOf (now (g .entry)) inverted) (words (now (s .entry)))) (now (out .entry)) o r (now (out .exit)) ⌝ }
+{
+    let p = bar_out(state, false, total, out, o, true);
+    if state == 0 {
+        let r = step_text(s, g, inverted, out, p, true);
+        return Put { o: r, state: 1 };
+    }
+    if total <= p {
+        return Put { o: p, state: 2 };
+    }
+    let r = step_text(s, g, inverted, out, p + 1, true);
+    if r == p + 1 {
+        return Put { o: p, state: 2 };
+    }
+    out[p] = 32;
+    Put { o: r, state: 1 }
+}
+
+// Puts a step of the answer, whose text is counted first, with what stands before it.
+fn part_counted(
     s: &[u8],
     g: &[u8],
     inverted: bool,
@@ -155,6 +187,34 @@ fn part_out(
     }
     let q = gap_out(s, g, inverted, l, state, back, total, out, p, write);
     Put { o: q, state: 1 }
+}
+
+// Puts a step of the answer, with what stands before it. Behind an empty one a space is owed. Only a text in front of the
+// others has to be counted before it is written.
+fn part_out(
+    s: &[u8],
+    g: &[u8],
+    inverted: bool,
+    state: usize,
+    back: bool,
+    total: usize,
+    out: &mut [u8],
+    o: usize,
+    write: bool,
+) -> Put
+    requires { ⌜ nonEmpty (words (now s)) ≡ true ⌝ }
+    requires { ⌜ Global (pipelineOf (now g) inverted) ⌝ }
+    requires { ⌜ length (stepOf (pipelineOf (now g) inverted) (words (now s))) ≤ 262140 ⌝ }
+    requires { ⌜ Spot write back total (partText back state (ltb 0 o) (stepOf (pipelineOf (now g) inverted) (words (now s)))) o (now out) ⌝ }
+    ensures { λ r. ⌜ Parted write back total state (stepOf (pipelineOf (now (g .entry)) inverted) (words (now (s .entry)))) (now (out .entry)) o r (now (out .exit)) ⌝ }
+{
+    if write {
+        if back {
+            return part_counted(s, g, inverted, state, back, total, out, o, write);
+        }
+        return part_on(s, g, inverted, state, total, out, o);
+    }
+    part_counted(s, g, inverted, state, back, total, out, o, write)
 }
 
 // Is the step written? The pipeline's own is not, nor one that is an emptied word alone.

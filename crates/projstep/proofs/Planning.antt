@@ -82,31 +82,31 @@ module _ {s : Bytes} where
   key-no : (key : Bytes) {r : Key} → IsKey s key r → r .n ≤ 0 → hasKey key (exchanged (words s)) ≡ false
   key-no key m h = has-count key (exchanged (words s)) ∙ le-ltb 0 (countOf key (exchanged (words s))) (omega (arith, m .count))
 
-  module _ {named : Key} (m : IsKey s (ascii "ellps=") named) where
-    pub plan-named : 0 < named .n → IsPlan s (record { composed = false; a = 0; rf = 0; start = 0; stop = 0; from = 0; to = 0 })
-    plan-named h = plan-none (unfold composes in rw (key-yes (ascii "ellps=") m h))
+  module _ {a : Key} (k : IsKey s (ascii "a=") a) where
+    pub plan-no-a : a .n ≡ 0 → IsPlan s (record { composed = false; a = 0; rf = 0; start = 0; stop = 0; from = 0; to = 0 })
+    plan-no-a z =
+        let f = key-no (ascii "a=") k (omega arith) in
+        plan-none (no-key f)
+      where
+        no-key : hasKey (ascii "a=") (exchanged (words s)) ≡ false → composes (exchanged (words s)) ≡ false
+        no-key f = unfold composes in rw f (and-no (not (hasKey (ascii "ellps=") (exchanged (words s)))))
 
-    module _ (h : named .n ≤ 0) {a : Key} (k : IsKey s (ascii "a=") a) where
-      pub plan-no-a : a .n ≡ 0 → IsPlan s (record { composed = false; a = 0; rf = 0; start = 0; stop = 0; from = 0; to = 0 })
-      plan-no-a z =
-          let f = key-no (ascii "a=") k (omega arith) in
+    module _ (y : a .n ≡ 0 → ⊥) {rf : Key} (l : IsKey s (ascii "rf=") rf) where
+      pub plan-no-rf : rf .n ≡ 0 → IsPlan s (record { composed = false; a = 0; rf = 0; start = 0; stop = 0; from = 0; to = 0 })
+      plan-no-rf z =
+          let f = key-no (ascii "rf=") l (omega arith) in
           plan-none (no-key f)
         where
-          no-key : hasKey (ascii "a=") (exchanged (words s)) ≡ false → composes (exchanged (words s)) ≡ false
-          no-key f = unfold composes in rw f (and-no (not (hasKey (ascii "ellps=") (exchanged (words s)))))
+          no-key : hasKey (ascii "rf=") (exchanged (words s)) ≡ false → composes (exchanged (words s)) ≡ false
+          no-key f =
+              unfold composes in
+              rw (f, and-no (hasKey (ascii "a=") (exchanged (words s)))) (and-no (not (hasKey (ascii "ellps=") (exchanged (words s)))))
 
-      module _ (y : a .n ≡ 0 → ⊥) {rf : Key} (l : IsKey s (ascii "rf=") rf) where
-        pub plan-no-rf : rf .n ≡ 0 → IsPlan s (record { composed = false; a = 0; rf = 0; start = 0; stop = 0; from = 0; to = 0 })
-        plan-no-rf z =
-            let f = key-no (ascii "rf=") l (omega arith) in
-            plan-none (no-key f)
-          where
-            no-key : hasKey (ascii "rf=") (exchanged (words s)) ≡ false → composes (exchanged (words s)) ≡ false
-            no-key f =
-                unfold composes in
-                rw (f, and-no (hasKey (ascii "a=") (exchanged (words s)))) (and-no (not (hasKey (ascii "ellps=") (exchanged (words s)))))
+      module _ (x : rf .n ≡ 0 → ⊥) {named : Key} (m : IsKey s (ascii "ellps=") named) where
+        pub plan-named : 0 < named .n → IsPlan s (record { composed = false; a = 0; rf = 0; start = 0; stop = 0; from = 0; to = 0 })
+        plan-named h = plan-none (unfold composes in rw (key-yes (ascii "ellps=") m h))
 
-        module _ (x : rf .n ≡ 0 → ⊥) where
+        module _ (h : named .n ≤ 0) where
           some : (n : ℕ) → (n ≡ 0 → ⊥) → 0 < n
           some zero f = absurd (f refl)
           some (suc n) f = omega arith

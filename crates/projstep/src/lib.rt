@@ -284,7 +284,8 @@ fn fate_of(x: &[u8], a: usize, rf: usize, still: bool) -> Fate
     }
 }
 
-// "With no `ellps=`, the last `a=` and last `rf=` become a final `ellps=a,rf`."
+// "With no `ellps=`, the last `a=` and last `rf=` become a final `ellps=a,rf`." Most steps have no `a=`, so it is looked
+// for first.
 fn plan_of(s: &[u8], head: Head) -> Plan
     requires { ⌜ IsHead (now s) head ⌝ }
     ensures { λ r. ⌜ IsPlan (now (s .entry)) r ⌝ }
@@ -298,16 +299,16 @@ fn plan_of(s: &[u8], head: Head) -> Plan
         from: 0,
         to: 0,
     };
-    let named = key_of(s, head, b"ellps=");
-    if 0 < named.n {
-        return none;
-    }
     let a = key_of(s, head, b"a=");
     if a.n == 0 {
         return none;
     }
     let rf = key_of(s, head, b"rf=");
     if rf.n == 0 {
+        return none;
+    }
+    let named = key_of(s, head, b"ellps=");
+    if 0 < named.n {
         return none;
     }
     Plan {

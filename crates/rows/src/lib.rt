@@ -3,16 +3,15 @@
 use rules::Step;
 use rules::Table;
 ghost use mathlib.Core.Path.{_≡_};
-ghost use Prim.Native.Nat.{min};
 ghost use Rattle.rows.specs.Row.{blanks, tabled, emptied, laid, loaded, Fits};
 
-// 64 records with nothing in them.
+// 64 records with nothing in them. The zeros are written out: then filling the row is plain stores.
 pub fn blank_row() -> [Step; 64]
     ensures { λ r. ⌜ r ≡ blanks ⌝ }
 {
     let s = Step {
         operator: 0,
-        args: [0i32; 8],
+        args: [0, 0, 0, 0, 0, 0, 0, 0],
         n: 0,
         inv: 0,
         omit_fwd: 0,
@@ -36,25 +35,19 @@ fn table_of(steps: [Step; 64], n: usize) -> Table
     Table { steps: steps, n: n }
 }
 
-// How many of n records have room in a table.
-fn least(n: usize) -> usize
-    ensures { λ r. ⌜ r ≡ min n 64 ⌝ }
-{
-    if n < 64 {
-        return n;
-    }
-    64
-}
-
-// The table that stands for a lent row: as many of its records as have room, and its true length.
+// The table that stands for a lent row: as many of its records as have room, and its true length. The blank row has a name, and
+// the end of the lent row a return of its own: so the 64 records are made once, where the caller has them, and not copied.
 pub fn load(table: &[Step]) -> Table
     ensures { λ r. ⌜ r ≡ loaded (now (table .entry)) ⌝ }
 {
     let n = table.len();
-    let m = least(n);
-    let mut steps = blank_row();
+    let blank = blank_row();
+    let mut steps = blank;
     let mut i = 0;
-    while i < m {
+    while i < 64 {
+        if n <= i {
+            return table_of(steps, n);
+        }
         steps[i] = table[i];
         i += 1;
     }

@@ -1,18 +1,21 @@
 -- Lines without their comments: what is left to write at a byte, and the laws of the loop.
 use mathlib.Core.Path.{_≡_, refl, sym, ap, _∙_, subst}
-use mathlib.Core.Bool.{Bool, true, false, cond, _||_}
+use mathlib.Core.Bool.{Bool, true, false, cond, _&&_, _||_}
 use mathlib.Core.List.{List, [], _∷_, _++_, flatMap}
-use Prim.Native.Nat.{ℕ, _+_, _≤_, _<_}
+use Prim.Native.Nat.{ℕ, suc, _+_, _≤_, _<_}
 use native.Mathlib.Omega.{arith}
 use borrow.Author.Tests.{ne-eqb, eq-eqb}
 use native.Mathlib.Nat.{not-suc-le-zero}
-use lib.ListN.{length, take, drop, getD, set, length-set, drop-of-length-le}
-use lib.Seq.{drop-set-lt}
+use lib.Dec.{eqb}
+use lib.ListN.{length, take, drop, getD, set, length-set, length-drop, drop-of-length-le}
+use lib.Seq.{drop-set-lt, drop-drop}
 use Rattle.rules.specs.Ascii.{is}
-use Rattle.rules.specs.Text.{Bytes, before, onto, cut}
+use Rattle.rules.specs.Text.{Bytes, starts, before, onto, cut}
 use Rattle.rules.specs.Comments.{uncommented, lined}
 use Rattle.split.specs.Lines.{left}
 use Rattle.text.specs.Writing.{Wrote}
+use Rattle.text.specs.Places.{ahead}
+use Rattle.text.proofs.Replacing.{ahead-within}
 use Rattle.text.proofs.Writing.{Sofar, sofar-at, sofar-byte, sofar-byte-room, sofar-end, sofar-length, drop-next}
 
 -- of the pieces between newlines: the first up to its comment, or none of it, and the others
@@ -78,23 +81,34 @@ pub lined-is : (t : Bytes) → lined t ≡ 32 ∷ left false t
 unfolding lined
 lined-is t = flat-outside t ∙ ap (λ (u : Bytes). 32 ∷ u) (sym (left-both t .1))
 
+-- a comment goes up to its newline
+left-behind : (t : Bytes) → left true t ≡ left false (drop (ahead (10 ∷ []) t) t)
+unfolding left ahead starts
+left-behind [] = refl
+left-behind (x ∷ t) = go (eqb x 10) refl (left-behind t)
+  where
+    go : (b : Bool) → eqb x 10 ≡ b → left true t ≡ left false (drop (ahead (10 ∷ []) t) t)
+        → cond b (32 ∷ left false t) (left true t) ≡ left false (drop (cond (b && true) 0 (suc (ahead (10 ∷ []) t))) (x ∷ t))
+    go true e f = rw e
+    go false e f = f
+
 -- ---- the loop
 
-pub record Lining (src dst₀ : Bytes) (at o i : ℕ) (comment : Bool) (dst : Bytes) : Type 0 where
+pub record Lining (src dst₀ : Bytes) (at o i : ℕ) (dst : Bytes) : Type 0 where
   pub within : i ≤ length src
-  pub sofar : Sofar (take at dst₀ ++ left false src) (left comment (drop i src)) dst₀ o dst
+  pub sofar : Sofar (take at dst₀ ++ left false src) (left false (drop i src)) dst₀ o dst
 
-pub lining-start : (src dst : Bytes) (at : ℕ) → at + length (left false src) ≤ length dst → Lining src dst at at 0 false dst
+pub lining-start : (src dst : Bytes) (at : ℕ) → at + length (left false src) ≤ length dst → Lining src dst at at 0 dst
 lining-start src dst at h = record { within = omega arith; sofar = sofar-at (left false src) dst at h }
 
-module _ {src dst₀ : Bytes} {at o i : ℕ} {comment : Bool} {dst : Bytes} (m : Lining src dst₀ at o i comment dst) where
+module _ {src dst₀ : Bytes} {at o i : ℕ} {dst : Bytes} (m : Lining src dst₀ at o i dst) where
   next-left : i < length src
-      → left comment (drop i src) ≡ cond (is "\n" (getD src i 0)) (32 ∷ left false (drop (i + 1) src)) (cond (comment || is "#" (getD src i 0)) (left true (drop (i + 1) src)) (getD src i 0 ∷ left false (drop (i + 1) src)))
+      → left false (drop i src) ≡ cond (is "\n" (getD src i 0)) (32 ∷ left false (drop (i + 1) src)) (cond (is "#" (getD src i 0)) (left true (drop (i + 1) src)) (getD src i 0 ∷ left false (drop (i + 1) src)))
   unfolding left
-  next-left h = ap (left comment) (drop-next src i h)
+  next-left h = ap (left false) (drop-next src i h)
 
   -- what is left, told anew
-  told : {u : Bytes} → left comment (drop i src) ≡ u → Sofar (take at dst₀ ++ left false src) u dst₀ o dst
+  told : {u : Bytes} → left false (drop i src) ≡ u → Sofar (take at dst₀ ++ left false src) u dst₀ o dst
   told e = subst (λ (u : Bytes). Sofar (take at dst₀ ++ left false src) u dst₀ o dst) e (m .sofar)
 
   pub lining-length : length dst ≡ length dst₀
@@ -106,28 +120,34 @@ module _ {src dst₀ : Bytes} {at o i : ℕ} {comment : Bool} {dst : Bytes} (m :
   pub lining-newline-room : i < length src → getD src i 0 ≡ 10 → (o < length dst) × (o < length dst₀)
   lining-newline-room h e = sofar-byte-room (newline h e)
 
-  pub lining-newline : i < length src → getD src i 0 ≡ 10 → Lining src dst₀ at (o + 1) (i + 1) false (set dst o 32)
+  pub lining-newline : i < length src → getD src i 0 ≡ 10 → Lining src dst₀ at (o + 1) (i + 1) (set dst o 32)
   lining-newline h e = record { within = omega arith; sofar = sofar-byte (newline h e) }
 
-  pub lining-comment : i < length src → (getD src i 0 ≡ 10 → ⊥) → comment ≡ true → Lining src dst₀ at o (i + 1) comment dst
-  lining-comment h n c =
-      record { within = omega arith; sofar = told (next-left h ∙ rw (ne-eqb (getD src i 0) 10 n, c)) }
+  -- the place of the newline behind a comment
+  module _ {r : ℕ} (e : r ≡ i + 1 + ahead (10 ∷ []) (drop (i + 1) src)) where
+    pub lining-onward : i < r
+    lining-onward = omega arith
 
-  pub lining-begins : i < length src → (getD src i 0 ≡ 10 → ⊥) → comment ≡ false → getD src i 0 ≡ 35 → Lining src dst₀ at o (i + 1) true dst
-  lining-begins h n c e = record { within = omega arith; sofar = told (next-left h ∙ rw (ne-eqb (getD src i 0) 10 n, c, eq-eqb (getD src i 0) 35 e)) }
+    pub lining-comment : i < length src → (getD src i 0 ≡ 10 → ⊥) → getD src i 0 ≡ 35 → Lining src dst₀ at o r dst
+    lining-comment h n k =
+        let d : drop (ahead (10 ∷ []) (drop (i + 1) src)) (drop (i + 1) src) ≡ drop r src = drop-drop (ahead (10 ∷ []) (drop (i + 1) src)) (i + 1) src ∙ rw e in
+        record {
+          within = omega (arith, ahead-within (10 ∷ []) (drop (i + 1) src), length-drop (i + 1) src);
+          sofar = told (next-left h ∙ rw (ne-eqb (getD src i 0) 10 n, eq-eqb (getD src i 0) 35 k) (left-behind (drop (i + 1) src) ∙ ap (left false) d));
+        }
 
-  byte : i < length src → (getD src i 0 ≡ 10 → ⊥) → comment ≡ false → (getD src i 0 ≡ 35 → ⊥) → Sofar (take at dst₀ ++ left false src) (getD src i 0 ∷ left false (drop (i + 1) src)) dst₀ o dst
-  byte h n c e = told (next-left h ∙ rw (ne-eqb (getD src i 0) 10 n, c, ne-eqb (getD src i 0) 35 e))
+  byte : i < length src → (getD src i 0 ≡ 10 → ⊥) → (getD src i 0 ≡ 35 → ⊥) → Sofar (take at dst₀ ++ left false src) (getD src i 0 ∷ left false (drop (i + 1) src)) dst₀ o dst
+  byte h n e = told (next-left h ∙ rw (ne-eqb (getD src i 0) 10 n, ne-eqb (getD src i 0) 35 e))
 
-  pub lining-byte-room : i < length src → (getD src i 0 ≡ 10 → ⊥) → comment ≡ false → (getD src i 0 ≡ 35 → ⊥) → (o < length dst) × (o < length dst₀)
-  lining-byte-room h n c e = sofar-byte-room (byte h n c e)
+  pub lining-byte-room : i < length src → (getD src i 0 ≡ 10 → ⊥) → (getD src i 0 ≡ 35 → ⊥) → (o < length dst) × (o < length dst₀)
+  lining-byte-room h n e = sofar-byte-room (byte h n e)
 
-  pub lining-byte : i < length src → (getD src i 0 ≡ 10 → ⊥) → comment ≡ false → (getD src i 0 ≡ 35 → ⊥) → Lining src dst₀ at (o + 1) (i + 1) comment (set dst o (getD src i 0))
-  lining-byte h n c e = record { within = omega arith; sofar = rw (ap (λ (b : Bool). left b (drop (i + 1) src)) (sym c)) at (sofar-byte (byte h n c e)) }
+  pub lining-byte : i < length src → (getD src i 0 ≡ 10 → ⊥) → (getD src i 0 ≡ 35 → ⊥) → Lining src dst₀ at (o + 1) (i + 1) (set dst o (getD src i 0))
+  lining-byte h n e = record { within = omega arith; sofar = sofar-byte (byte h n e) }
 
   pub lining-end : length src ≤ i → Wrote (take at dst₀ ++ left false src) dst₀ o dst
   unfolding left
-  lining-end h = sofar-end (rw (ap (left comment) (drop-of-length-le src h)) at (m .sofar))
+  lining-end h = sofar-end (rw (ap (left false) (drop-of-length-le src h)) at (m .sofar))
 
 -- ---- the whole
 

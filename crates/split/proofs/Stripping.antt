@@ -1,15 +1,19 @@
 -- Stripping comments: each text on the way has room where the first has, by its weight.
 use mathlib.Core.Path.{_≡_, refl, sym, ap, _∙_}
 use mathlib.Core.List.{[], _∷_}
-use Prim.Native.Nat.{ℕ, _≤_, _<_}
+use mathlib.Core.Bool.{Bool, true, false, cond, _&&_}
+use Prim.Native.Nat.{ℕ, suc, _+_, _≤_, _<_}
+use lib.Dec.{eqb}
 use native.Mathlib.Omega.{arith}
 use lib.ListN.{length, take}
 use Rattle.rules.specs.Ascii.{ascii}
-use Rattle.rules.specs.Text.{Bytes, white, replace, trimmed}
+use Rattle.rules.specs.Text.{Bytes, white, starts, replace, trimmed}
 use Rattle.rules.specs.Normal.{continued}
 use Rattle.rules.specs.Comments.{newlines, lined, stripped}
 use Rattle.laws.specs.Sizes.{weightOf, weight, length-weight, replace-weight, trimmed-weight, newline-weight, newlines-weight, lined-longer}
 use Rattle.text.specs.Writing.{Wrote, Holds}
+use Rattle.text.specs.Places.{ahead}
+use Rattle.text.proofs.Replacing.{replace-none}
 use Rattle.text.proofs.Writing.{wrote-front, wrote-holds}
 
 -- ---- line ends
@@ -35,6 +39,28 @@ module _ (t : Bytes) {a₀ a : Bytes} {n : ℕ} (w : Wrote (once t) a₀ n a) wh
 
   pub twice-wrote : {b₀ b : Bytes} {r : ℕ} → Wrote (replace (13 ∷ []) (10 ∷ []) (take n a)) b₀ r b → Wrote (newlines t) b₀ r b
   twice-wrote v = rw (newlines-is t) (rw (wrote-front w) at v)
+
+-- where there is no carriage return, nothing changes
+ahead-longer : (p : ℕ) (old t : Bytes) → ahead (p ∷ []) t ≤ ahead (p ∷ old) t
+unfolding ahead starts
+ahead-longer p old [] = omega arith
+ahead-longer p old (x ∷ t) = go (eqb x p) (starts old t) (ahead-longer p old t)
+  where
+    go : (b c : Bool) → ahead (p ∷ []) t ≤ ahead (p ∷ old) t → cond (b && true) 0 (suc (ahead (p ∷ []) t)) ≤ cond (b && c) 0 (suc (ahead (p ∷ old) t))
+    go true c h = omega arith
+    go false c h = omega arith
+
+pub newlines-none : (t : Bytes) {k : ℕ} → k ≡ 0 + ahead (13 ∷ []) t → length t ≤ k → newlines t ≡ t
+newlines-none t e h =
+    let l : length t ≤ ahead (13 ∷ []) t = omega arith in
+    let n : once t ≡ t = replace-none (13 ∷ 10 ∷ []) (10 ∷ []) t (omega (arith, ahead-longer 13 (10 ∷ []) t)) in
+    newlines-is t ∙ rw n (replace-none (13 ∷ []) (10 ∷ []) t l)
+
+pub none-room : (t : Bytes) {x : ℕ} → weight t ≤ x → 0 + length t ≤ x
+none-room t h = omega (arith, length-weight t)
+
+pub none-wrote : (t : Bytes) {k : ℕ} {b₀ b : Bytes} {r : ℕ} → k ≡ 0 + ahead (13 ∷ []) t → length t ≤ k → Wrote t b₀ r b → Wrote (newlines t) b₀ r b
+none-wrote t e h w = rw (newlines-none t e h) w
 
 -- ---- comments
 

@@ -3,6 +3,7 @@ use rules::Cursor;
 use rules::Found;
 use rules::Written;
 use text::Edge;
+use text::find;
 use text::in_domain;
 use text::put;
 use text::replace_into;
@@ -72,33 +73,27 @@ pub fn fault_of(normal: &[u8]) -> Fault
     }
 }
 
-// Writes the rest of src, from within a line on, without comments and with a space for each newline, into dst from at.
+// Writes the rest of src, from within a line on, without comments and with a space for each newline, into dst from at. A
+// comment is passed at once, up to its newline.
 fn lines_from(src: &[u8], dst: &mut [u8], at: usize) -> usize
     requires { ⌜ at + length (left false (now src)) ≤ length (now dst) ⌝ }
     ensures { λ r. ⌜ Wrote (take at (now (dst .entry)) ++ left false (now (src .entry))) (now (dst .entry)) r (now (dst .exit)) ⌝ }
 {
     let mut o = at;
     let mut i = 0;
-    let mut comment = false;
     while i < src.len() {
         let b = src[i];
         if b == 10 {
             dst[o] = 32;
             o += 1;
-            comment = false;
             i += 1;
         } else {
-            if comment {
-                i += 1;
+            if b == 35 {
+                i = find(src, i + 1, b"\n");
             } else {
-                if b == 35 {
-                    comment = true;
-                    i += 1;
-                } else {
-                    dst[o] = b;
-                    o += 1;
-                    i += 1;
-                }
+                dst[o] = b;
+                o += 1;
+                i += 1;
             }
         }
     }
@@ -179,12 +174,15 @@ fn lines_of(normal: &[u8], dst: &mut [u8]) -> usize
     }
 }
 
-// Writes the text with its line ends made newlines; a is room to work in.
+// Writes the text with its line ends made newlines; a is room to work in. A text without a carriage return is copied.
 pub fn newlines_into(text: &[u8], a: &mut [u8], b: &mut [u8]) -> usize
     requires { ⌜ weight (now text) ≤ length (now a) ⌝ }
     requires { ⌜ weight (now text) ≤ length (now b) ⌝ }
     ensures { λ r. ⌜ Wrote (newlines (now (text .entry))) (now (b .entry)) r (now (b .exit)) ⌝ }
 {
+    if text.len() <= find(text, 0, b"\r") {
+        return put(text, b, 0);
+    }
     let n = replace_into(text, b"\r\n", b"\n", a);
     replace_into(&a[..n], b"\r", b"\n", b)
 }

@@ -11,6 +11,7 @@ use lib.Dec.{leb, eqb}
 use lib.ListN.{length, drop, getD, length-drop, drop-of-length-le, List·getD-eq-default}
 use lib.Seq.{getD-drop}
 use Rattle.rules.specs.Text.{Bytes, subscript, inDomain}
+use Rattle.text.specs.Places.{Clear}
 use Rattle.laws.specs.Passes.{digit, domain-ascii, domain-digit, domain-stop}
 use Rattle.text.proofs.Writing.{drop-next}
 
@@ -37,16 +38,54 @@ digit-length t e = go (digit-short t 0)
     go : (length t - 0 < 3 → 0 ≤ length t → digit t ≡ false) → 2 < length t
     go f = elim (decLt 2 (length t)) [ yes h ↦ h | no h ↦ absurd (false≢true (sym (f (omega arith) (omega arith)) ∙ e)) ]
 
+-- ---- `is_ascii` and `skip_ascii`: what is passed is in the domain
+
+pub clear-none : {s : Bytes} {from : ℕ} → from ≤ length s → Clear s from from
+clear-none h = record { onward = omega arith; within = h; same = refl }
+
+module _ {s : Bytes} {from i : ℕ} (m : Clear s from i) where
+  pub clear-next : i < length s → getD s i 0 < 128 → Clear s from (i + 1)
+  clear-next h l = record {
+    onward = omega (arith, m .onward);
+    within = omega arith;
+    same = m .same ∙ ap inDomain (drop-next s i h) ∙ domain-ascii (getD s i 0) (drop (i + 1) s) (lt-ltb (getD s i 0) 128 l);
+  }
+
+  pub clear-on : {r : ℕ} → Clear s i r → Clear s from r
+  clear-on n = record { onward = omega (arith, m .onward, n .onward); within = n .within; same = m .same ∙ n .same }
+
+-- up to j all is ASCII, or it is said that not all is
+pub record Clearing (s : Bytes) (from to j : ℕ) (all : Bool) : Type 0 where
+  pub upto : j ≤ to
+  pub clear : all ≡ true → Clear s from j
+
+pub clearing-none : {s : Bytes} {from to : ℕ} → from ≤ to → to ≤ length s → Clearing s from to from true
+clearing-none h l = record { upto = h; clear = λ e. clear-none (omega arith) }
+
+module _ {s : Bytes} {from to j : ℕ} {all : Bool} (m : Clearing s from to j all) where
+  pub clearing-next : j < to → to ≤ length s → getD s j 0 < 128 → Clearing s from to (j + 1) all
+  clearing-next h l b = record { upto = omega arith; clear = λ e. clear-next (m .clear e) (omega arith) b }
+
+  pub clearing-not : j < to → Clearing s from to (j + 1) false
+  clearing-not h = record { upto = omega arith; clear = λ e. absurd (false≢true e) }
+
+  pub clearing-end : to ≤ j → all ≡ true → Clear s from to
+  clearing-end h e = let k : j ≡ to = omega (arith, m .upto) in rw k at (m .clear e)
+
 -- ---- `in_domain`: every byte before i is in the domain, so what follows decides
 
 pub record Scanning (s : Bytes) (i : ℕ) : Type 0 where
   pub within : i ≤ length s
   pub same : inDomain s ≡ inDomain (drop i s)
 
-pub scanning-none : (s : Bytes) → Scanning s 0
-scanning-none s = record { within = omega arith; same = refl }
+-- from the start on, or from where it is gone on
+pub scanning-from : {s : Bytes} {r : ℕ} → Clear s 0 r → Scanning s r
+scanning-from n = record { within = n .within; same = n .same }
 
 module _ {s : Bytes} {i : ℕ} (m : Scanning s i) where
+  pub scanning-on : {r : ℕ} → Clear s i r → Scanning s r
+  scanning-on n = record { within = n .within; same = m .same ∙ n .same }
+
   pub scanning-ascii : i < length s → getD s i 0 < 128 → Scanning s (i + 1)
   scanning-ascii h l = record {
     within = omega arith;

@@ -2,13 +2,14 @@
 // place), leaves the rest of it as it was, and returns the place after what it wrote. What a pass makes of a text is a
 // definition of `rules`.
 ghost use mathlib.Core.Path.{_≡_};
-ghost use mathlib.Core.List.{_++_};
+ghost use mathlib.Core.List.{[], _∷_, _++_};
+ghost use mathlib.Core.Bool.{true};
 ghost use Prim.Native.Nat.{_+_, _<_, _≤_};
 ghost use lib.ListN.{length, take, drop};
 ghost use Rattle.rules.specs.Text.{white, inDomain, starts, replace, trimmed, words, joined};
 ghost use Rattle.laws.specs.Passes.{digit};
 ghost use Rattle.text.specs.Writing.{Wrote};
-ghost use Rattle.text.specs.Places.{ahead, Passed, cutBy, LeftFrom, LeftTo};
+ghost use Rattle.text.specs.Places.{ahead, Passed, Sought, Clear, cutBy, LeftFrom, LeftTo};
 
 // What a trim takes away: white space, or one byte.
 pub enum Edge {
@@ -34,30 +35,92 @@ pub fn starts_at(src: &[u8], at: usize, old: &[u8]) -> bool
     true
 }
 
-// Passes over bytes from `from` on, four at a time, while none of the four is the first of old.
-pub fn skip(src: &[u8], from: usize, old: &[u8]) -> usize
+// Does the byte stand at one of the places from `from` up to `to`? Every place is looked at, and the loop does not stop
+// where it finds one: so the compiler can compare many bytes at once.
+fn has_one(src: &[u8], from: usize, to: usize, first: u8) -> bool
+    requires { ⌜ from ≤ to ⌝ }
+    requires { ⌜ to ≤ length (now src) ⌝ }
+    ensures { λ r. ⌜ Sought (now (src .entry)) from (first ∷ []) to r ⌝ }
+{
+    let mut found = false;
+    let mut j = from;
+    while j < to {
+        if src[j] == first {
+            found = true;
+            j += 1;
+        } else {
+            j += 1;
+        }
+    }
+    found
+}
+
+// Do the two bytes stand at one of these places, one behind the other?
+fn has_two(src: &[u8], from: usize, to: usize, first: u8, second: u8) -> bool
+    requires { ⌜ from ≤ to ⌝ }
+    requires { ⌜ to < length (now src) ⌝ }
+    ensures { λ r. ⌜ Sought (now (src .entry)) from (first ∷ second ∷ []) to r ⌝ }
+{
+    let mut found = false;
+    let mut j = from;
+    while j < to {
+        let here = src[j] == first;
+        let next = src[j + 1] == second;
+        if here & next {
+            found = true;
+            j += 1;
+        } else {
+            j += 1;
+        }
+    }
+    found
+}
+
+// Passes over bytes from `from` on, sixteen at a time, while the first of old is not among them.
+fn skip_one(src: &[u8], from: usize, old: &[u8]) -> usize
     requires { ⌜ 0 < length (now old) ⌝ }
     requires { ⌜ from ≤ length (now src) ⌝ }
     ensures { λ r. ⌜ Passed (now (src .entry)) from (now (old .entry)) r ⌝ }
 {
     let first = old[0];
     let mut i = from;
-    while 4 <= src.len() - i {
-        if src[i] == first {
+    while 16 <= src.len() - i {
+        if has_one(src, i, i + 16, first) {
             return i;
         }
-        if src[i + 1] == first {
-            return i;
-        }
-        if src[i + 2] == first {
-            return i;
-        }
-        if src[i + 3] == first {
-            return i;
-        }
-        i += 4;
+        i += 16;
     }
     i
+}
+
+// The same while the first two are not among them.
+fn skip_two(src: &[u8], from: usize, old: &[u8]) -> usize
+    requires { ⌜ 1 < length (now old) ⌝ }
+    requires { ⌜ from ≤ length (now src) ⌝ }
+    ensures { λ r. ⌜ Passed (now (src .entry)) from (now (old .entry)) r ⌝ }
+{
+    let first = old[0];
+    let second = old[1];
+    let mut i = from;
+    while 16 < src.len() - i {
+        if has_two(src, i, i + 16, first, second) {
+            return i;
+        }
+        i += 16;
+    }
+    i
+}
+
+// Passes over bytes from `from` on, at none of which old begins.
+pub fn skip(src: &[u8], from: usize, old: &[u8]) -> usize
+    requires { ⌜ 0 < length (now old) ⌝ }
+    requires { ⌜ from ≤ length (now src) ⌝ }
+    ensures { λ r. ⌜ Passed (now (src .entry)) from (now (old .entry)) r ⌝ }
+{
+    if 1 < old.len() {
+        return skip_two(src, from, old);
+    }
+    skip_one(src, from, old)
 }
 
 // The place of the first old in src, from `from` on, or the end of src. Most bytes are not the first of old.
@@ -246,17 +309,52 @@ pub fn is_digit(s: &[u8], i: usize) -> bool
     s[i + 2] <= 137
 }
 
+// Is every byte of s from `from` up to `to` ASCII? All of them are looked at, many at once.
+fn is_ascii(s: &[u8], from: usize, to: usize) -> bool
+    requires { ⌜ from ≤ to ⌝ }
+    requires { ⌜ to ≤ length (now s) ⌝ }
+    ensures { λ r. ⌜ (r ≡ true → Clear (now (s .entry)) from to) ⌝ }
+{
+    let mut all = true;
+    let mut j = from;
+    while j < to {
+        if s[j] < 128 {
+            j += 1;
+        } else {
+            all = false;
+            j += 1;
+        }
+    }
+    all
+}
+
+// Passes over ASCII from `from` on, sixteen bytes at a time.
+fn skip_ascii(s: &[u8], from: usize) -> usize
+    requires { ⌜ from ≤ length (now s) ⌝ }
+    ensures { λ r. ⌜ Clear (now (s .entry)) from r ⌝ }
+{
+    let mut i = from;
+    while 16 <= s.len() - i {
+        if is_ascii(s, i, i + 16) {
+            i += 16;
+        } else {
+            return i;
+        }
+    }
+    i
+}
+
 // Is every byte ASCII or part of a whole subscript digit? Where not, a text is refused 2.
 pub fn in_domain(s: &[u8]) -> bool
     ensures { λ r. ⌜ r ≡ inDomain (now (s .entry)) ⌝ }
 {
-    let mut i = 0;
+    let mut i = skip_ascii(s, 0);
     while i < s.len() {
         if s[i] < 128 {
             i += 1;
         } else {
             if is_digit(s, i) {
-                i += 3;
+                i = skip_ascii(s, i + 3);
             } else {
                 return false;
             }

@@ -3,3 +3,4 @@ pub mod Close
 pub mod Owned
 pub mod Fields
 pub mod Counting
+pub mod Branch

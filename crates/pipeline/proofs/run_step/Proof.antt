@@ -1,7 +1,7 @@
 use mathlib.Core.Path.{sym, _∙_, subst}
 use Prim.Native.Nat.{ℕ, _*_, _/_, _≤_}
 use lib.ListN.{length}
-use Rattle.pipeline.proofs.Stepping.{own, depth-is, step-omitted, step-run}
+use Rattle.pipeline.proofs.Stepping.{own, depth-is, depth-omitted, depth-run, none-omitted, none-run, step-omitted, step-run}
 use borrow.Author.Needs.{needs}
 use Rattle.pipeline.proofs.run_step.Statement.{statement}
 use Rattle.pipeline.proofs.run_step.Tie as tie
@@ -9,19 +9,31 @@ use Rattle.pipeline.proofs.run_step.Tie as tie
 returns : tie.Need-returns
 returns c =
     let a = c .before .before .before .before .args in
-    step-omitted (a .direction) (a .s) (a .depth) (a .tuples .now) (a .columns .now) (sym (c .before .is-omitted .ensures) ∙ c .if1 .taken)
+    let o = sym (c .before .is-omitted .ensures) ∙ c .if1 .taken in
+    record {
+      deep = depth-omitted (a .direction) (a .s) (a .depth) o;
+      counts = none-omitted (a .direction) (a .s) (a .depth) o;
+      leaves = step-omitted (a .direction) (a .s) (a .depth) (a .tuples .now) (a .columns .now) o;
+    }
 
 run-act-requires : tie.Need-run-act-requires
 run-act-requires c κs =
-    let s = c .before .before .before .before .before .before .before in
+    let s = c .before .before .before .before .before .before .before .before .before in
     let a = s .args in
-    let e = depth-is (a .direction) (a .s) (a .depth) (sym (c .before .before .before .before .is-omitted .ensures) ∙ c .before .before .before .if1 .left) (c .act-of .ensures .same) in
-    (s .pre .0, (own (c .act-of .ensures), (s .pre .1 .1 .0, subst (λ (z : ℕ). z * (length (a .tuples .now) / 4) ≤ length (a .columns .now)) (sym e) (s .pre .1 .1 .1))))
+    let does = c .before .before .before .before .act-of .ensures in
+    let e = depth-is (a .direction) (a .s) (a .depth) (sym (c .before .before .before .before .before .before .is-omitted .ensures) ∙ c .before .before .before .before .before .if1 .left) (does .same) in
+    (s .pre .0, (own does, (s .pre .1 .1 .0, subst (λ (z : ℕ). z * (length (a .tuples .now) / 4) ≤ length (a .columns .now)) (sym e) (s .pre .1 .1 .1))))
 
 returns-2 : tie.Need-returns-2
 returns-2 c =
-    let a = c .before .before .before .before .before .before .before .before .before .before .before .before .args in
-    step-run (a .direction) (a .s) (a .depth) (a .tuples .now) (a .columns .now) _ _ (sym (c .before .before .before .before .before .before .before .before .before .is-omitted .ensures) ∙ c .before .before .before .before .before .before .before .before .if1 .left) (c .before .before .before .before .before .act-of .ensures .same) (c .before .before .before .before .run-act .ensures)
+    let a = c .before .before .before .before .before .before .before .before .before .before .before .before .before .before .args in
+    let o = sym (c .before .before .before .before .before .before .before .before .before .before .before .is-omitted .ensures) ∙ c .before .before .before .before .before .before .before .before .before .before .if1 .left in
+    let same = c .before .before .before .before .before .before .before .before .before .act-of .ensures .same in
+    record {
+      deep = depth-run (a .direction) (a .s) (a .depth) _ o same (c .before .before .before .before .before .before .before .before .depth-after .ensures);
+      counts = none-run (a .direction) (a .s) (a .depth) _ o same (c .before .before .before .before .before .before .before .counts-none .ensures);
+      leaves = step-run (a .direction) (a .s) (a .depth) (a .tuples .now) (a .columns .now) _ _ o same (c .before .before .before .before .run-act .ensures);
+    }
 
 pub run-step-spec : {M : Type 1} → statement M
 run-step-spec =
@@ -29,7 +41,9 @@ run-step-spec =
     (tie.spec
     (λ c κs. search needs)
     returns
-    (λ c κs. c .before .before .before .before .before .before .pre .1 .0)
+    (λ c κs. c .before .before .before .before .pre .1 .0)
+    (λ c κs. (c .before .before .before .before .before .pre .0, c .act-of .ensures .slots))
+    (λ c κs. c .before .act-of .ensures .slots)
     run-act-requires
     (λ c. c .before .before .before .before .run-act .kept .0)
     (λ c. c .before .before .before .before .run-act .kept .1 .0)

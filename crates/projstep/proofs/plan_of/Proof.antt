@@ -13,7 +13,7 @@ key-of-requires c κs = c .before .before .pre
 
 returns : tie.Need-returns
 unfolding ascii
-returns c = plan-named (c .before .before .key-of .ensures) (c .if1 .taken)
+returns c = plan-no-a (c .before .before .key-of .ensures) (c .if1 .taken)
 
 slice-aggregate-key-of-2 : tie.Need-slice-aggregate-key-of-2
 slice-aggregate-key-of-2 c = search needs
@@ -23,7 +23,7 @@ key-of-requires-2 c κs = c .before .before .before .before .before .before .pre
 
 returns-2 : tie.Need-returns-2
 unfolding ascii
-returns-2 c = plan-no-a (c .before .before .before .before .before .before .key-of .ensures) (c .before .before .before .before .if1 .left) (c .before .before .key-of2 .ensures) (c .if2 .taken)
+returns-2 c = plan-no-rf (c .before .before .before .before .before .before .key-of .ensures) (c .before .before .before .before .if1 .left) (c .before .before .key-of2 .ensures) (c .if2 .taken)
 
 slice-aggregate-key-of-3 : tie.Need-slice-aggregate-key-of-3
 slice-aggregate-key-of-3 c = search needs
@@ -33,15 +33,15 @@ key-of-requires-3 c κs = c .before .before .before .before .before .before .bef
 
 returns-3 : tie.Need-returns-3
 unfolding ascii
-returns-3 c = plan-no-rf (c .before .before .before .before .before .before .before .before .before .before .key-of .ensures) (c .before .before .before .before .before .before .before .before .if1 .left) (c .before .before .before .before .before .before .key-of2 .ensures) (c .before .before .before .before .if2 .left) (c .before .before .key-of3 .ensures) (c .if3 .taken)
+returns-3 c = plan-named (c .before .before .before .before .before .before .before .before .before .before .key-of .ensures) (c .before .before .before .before .before .before .before .before .if1 .left) (c .before .before .before .before .before .before .key-of2 .ensures) (c .before .before .before .before .if2 .left) (c .before .before .key-of3 .ensures) (c .if3 .taken)
 
 add-t17 : tie.Need-add-t17
 unfolding ascii
-add-t17 c = omega (arith, a-long (c .before .before .before .before .before .before .before .before .before .before .before .key-of .ensures) (c .before .before .before .before .before .before .before .before .before .if1 .left) (c .before .before .before .before .before .before .before .key-of2 .ensures) (c .before .before .before .before .before .if2 .left) (c .before .before .before .key-of3 .ensures) (c .before .if3 .left), c .before .before .before .before .before .before .before .key-of2 .ensures .within)
+add-t17 c = omega (arith, a-long (c .before .before .before .before .before .before .before .before .before .before .before .key-of .ensures) (c .before .before .before .before .before .before .before .before .before .if1 .left) (c .before .before .before .before .before .before .before .key-of2 .ensures) (c .before .before .before .before .before .if2 .left) (c .before .before .before .key-of3 .ensures) (c .before .if3 .left), c .before .before .before .before .before .before .before .before .before .before .before .key-of .ensures .within)
 
 add-t18 : tie.Need-add-t18
 unfolding ascii
-add-t18 c = omega (arith, rf-long (c .before .before .before .before .before .before .before .before .before .before .before .before .key-of .ensures) (c .before .before .before .before .before .before .before .before .before .before .if1 .left) (c .before .before .before .before .before .before .before .before .key-of2 .ensures) (c .before .before .before .before .before .before .if2 .left) (c .before .before .before .before .key-of3 .ensures) (c .before .before .if3 .left), c .before .before .before .before .key-of3 .ensures .within)
+add-t18 c = omega (arith, rf-long (c .before .before .before .before .before .before .before .before .before .before .before .before .key-of .ensures) (c .before .before .before .before .before .before .before .before .before .before .if1 .left) (c .before .before .before .before .before .before .before .before .key-of2 .ensures) (c .before .before .before .before .before .before .if2 .left) (c .before .before .before .before .key-of3 .ensures) (c .before .before .if3 .left), c .before .before .before .before .before .before .before .before .key-of2 .ensures .within)
 
 returns-4 : tie.Need-returns-4
 unfolding ascii

@@ -1,18 +1,19 @@
 use Prim.Native.Nat.{_-_}
 use lib.ListN.{length}
-use Rattle.split.proofs.Lining.{Lining, lining-start, lining-length, lining-newline-room, lining-newline, lining-comment, lining-begins, lining-byte-room, lining-byte, lining-end}
+use native.Mathlib.Omega.{arith}
+use Rattle.split.proofs.Lining.{Lining, lining-start, lining-length, lining-newline-room, lining-newline, lining-onward, lining-comment, lining-byte-room, lining-byte, lining-end}
 use borrow.Author.Needs.{needs}
 use Rattle.split.proofs.lines_from.Statement.{statement}
 use Rattle.split.proofs.lines_from.Tie as tie
 
 abbrev Inv-loop : tie.InvT-loop
-Inv-loop src dst₀ at o₀ i₀ comment₀ dst o i comment = Lining src dst₀ at o i comment dst
+Inv-loop src dst₀ at o₀ i₀ t7 dst o i = Lining src dst₀ at o i dst
 
 abbrev μ-loop : tie.MeasureT-loop
-μ-loop src dst₀ at o₀ i₀ comment₀ dst o i comment = length src - i
+μ-loop src dst₀ at o₀ i₀ t7 dst o i = length src - i
 
 loop-holds : tie.Need-loop-holds Inv-loop μ-loop
-loop-holds c = lining-start _ _ _ (c .pre)
+loop-holds c = lining-start _ _ _ (c .before .before .pre)
 
 shared-slice-read-b : tie.Need-shared-slice-read-b Inv-loop μ-loop
 shared-slice-read-b c = search needs
@@ -32,38 +33,35 @@ loop-less c = search needs
 loop-again : tie.Need-loop-again Inv-loop μ-loop
 loop-again c = lining-newline (c .before .before .before .loop .inv) (c .before .before .loop-test .taken) (c .if1 .taken)
 
-add-i-2 : tie.Need-add-i-2 Inv-loop μ-loop
-add-i-2 c = search needs
+add-find : tie.Need-add-find Inv-loop μ-loop
+add-find c = search needs
+
+slice-aggregate-find : tie.Need-slice-aggregate-find Inv-loop μ-loop
+slice-aggregate-find c = search needs
+
+find-requires : tie.Need-find-requires Inv-loop μ-loop
+find-requires c κs = (omega arith, omega (arith, c .before .before .before .before .loop-test .taken))
 
 loop-less-2 : tie.Need-loop-less-2 Inv-loop μ-loop
-loop-less-2 c = search needs
+loop-less-2 c = omega (arith, lining-onward (c .before .before .before .before .before .before .loop .inv) (c .find .ensures), c .before .before .before .before .before .loop-test .taken)
 
 loop-again-2 : tie.Need-loop-again-2 Inv-loop μ-loop
-loop-again-2 c = lining-comment (c .before .before .before .before .loop .inv) (c .before .before .before .loop-test .taken) (c .before .if1 .left) (c .if2 .taken)
+loop-again-2 c = lining-comment (c .before .before .before .before .before .before .loop .inv) (c .find .ensures) (c .before .before .before .before .before .loop-test .taken) (c .before .before .before .if1 .left) (c .before .before .if2 .taken)
 
-add-i-3 : tie.Need-add-i-3 Inv-loop μ-loop
-add-i-3 c = search needs
+slice-write-dst-2 : tie.Need-slice-write-dst-2 Inv-loop μ-loop
+slice-write-dst-2 c = lining-byte-room (c .before .before .before .before .loop .inv) (c .before .before .before .loop-test .taken) (c .before .if1 .left) (c .if2 .left) .0
+
+add-o-2 : tie.Need-add-o-2 Inv-loop μ-loop
+add-o-2 c = let h = lining-byte-room (c .before .before .before .before .loop .inv) (c .before .before .before .loop-test .taken) (c .before .if1 .left) (c .if2 .left) .1 in search needs
+
+add-i-2 : tie.Need-add-i-2 Inv-loop μ-loop
+add-i-2 c = search needs
 
 loop-less-3 : tie.Need-loop-less-3 Inv-loop μ-loop
 loop-less-3 c = search needs
 
 loop-again-3 : tie.Need-loop-again-3 Inv-loop μ-loop
-loop-again-3 c = lining-begins (c .before .before .before .before .before .loop .inv) (c .before .before .before .before .loop-test .taken) (c .before .before .if1 .left) (c .before .if2 .left) (c .if3 .taken)
-
-slice-write-dst-2 : tie.Need-slice-write-dst-2 Inv-loop μ-loop
-slice-write-dst-2 c = lining-byte-room (c .before .before .before .before .before .loop .inv) (c .before .before .before .before .loop-test .taken) (c .before .before .if1 .left) (c .before .if2 .left) (c .if3 .left) .0
-
-add-o-2 : tie.Need-add-o-2 Inv-loop μ-loop
-add-o-2 c = let h = lining-byte-room (c .before .before .before .before .before .loop .inv) (c .before .before .before .before .loop-test .taken) (c .before .before .if1 .left) (c .before .if2 .left) (c .if3 .left) .1 in search needs
-
-add-i-4 : tie.Need-add-i-4 Inv-loop μ-loop
-add-i-4 c = search needs
-
-loop-less-4 : tie.Need-loop-less-4 Inv-loop μ-loop
-loop-less-4 c = search needs
-
-loop-again-4 : tie.Need-loop-again-4 Inv-loop μ-loop
-loop-again-4 c = lining-byte (c .before .before .before .before .before .loop .inv) (c .before .before .before .before .loop-test .taken) (c .before .before .if1 .left) (c .before .if2 .left) (c .if3 .left)
+loop-again-3 c = lining-byte (c .before .before .before .before .loop .inv) (c .before .before .before .loop-test .taken) (c .before .if1 .left) (c .if2 .left)
 
 same-length : tie.Need-same-length Inv-loop μ-loop
 same-length c = lining-length (c .before .loop .inv)
@@ -84,16 +82,15 @@ lines-from-spec =
     add-i
     loop-less
     loop-again
-    add-i-2
+    add-find
+    slice-aggregate-find
+    find-requires
     loop-less-2
     loop-again-2
-    add-i-3
-    loop-less-3
-    loop-again-3
     slice-write-dst-2
     add-o-2
-    add-i-4
-    loop-less-4
-    loop-again-4
+    add-i-2
+    loop-less-3
+    loop-again-3
     same-length
     returns)

@@ -1,10 +1,10 @@
 -- `in_domain`: the bytes that are passed are in the domain, so those that follow decide.
-use borrow.Author.Needs.{needs}
 use Prim.Native.Nat.{_-_}
 use mathlib.Core.Path.{sym, _∙_}
 use native.Mathlib.Omega.{arith}
 use lib.ListN.{length}
-use Rattle.text.proofs.Domain.{Scanning, scanning-none, scanning-ascii, scanning-fits, scanning-digit, scanning-stop, scanning-end}
+use Rattle.text.proofs.Domain.{Scanning, scanning-from, scanning-on, scanning-ascii, scanning-fits, scanning-digit, scanning-stop, scanning-end}
+use borrow.Author.Needs.{needs}
 use Rattle.text.proofs.in_domain.Statement.{statement}
 use Rattle.text.proofs.in_domain.Tie as tie
 
@@ -14,8 +14,11 @@ Inv-loop s i₀ i = Scanning s i
 abbrev μ-loop : tie.MeasureT-loop
 μ-loop s i₀ i = length s - i
 
+skip-ascii-requires : tie.Need-skip-ascii-requires Inv-loop μ-loop
+skip-ascii-requires c κs = search needs
+
 loop-holds : tie.Need-loop-holds Inv-loop μ-loop
-loop-holds c = scanning-none _
+loop-holds c = scanning-from (c .skip-ascii .ensures)
 
 shared-slice-read-if1 : tie.Need-shared-slice-read-if1 Inv-loop μ-loop
 shared-slice-read-if1 c = search needs
@@ -32,14 +35,17 @@ loop-again c = scanning-ascii (c .before .before .before .loop .inv) (c .before 
 is-digit-requires : tie.Need-is-digit-requires Inv-loop μ-loop
 is-digit-requires c κs = search needs
 
-add-i-2 : tie.Need-add-i-2 Inv-loop μ-loop
-add-i-2 c = omega (arith, scanning-fits (c .before .before .before .before .before .loop .inv) (sym (c .before .is-digit .ensures) ∙ c .if2 .taken))
+add-skip-ascii : tie.Need-add-skip-ascii Inv-loop μ-loop
+add-skip-ascii c = omega (arith, scanning-fits (c .before .before .before .before .before .loop .inv) (sym (c .before .is-digit .ensures) ∙ c .if2 .taken))
+
+skip-ascii-requires-2 : tie.Need-skip-ascii-requires-2 Inv-loop μ-loop
+skip-ascii-requires-2 c κs = scanning-fits (c .before .before .before .before .before .loop .inv) (sym (c .before .is-digit .ensures) ∙ c .if2 .taken)
 
 loop-less-2 : tie.Need-loop-less-2 Inv-loop μ-loop
-loop-less-2 c = search needs
+loop-less-2 c = omega (arith, c .skip-ascii2 .ensures .onward, c .before .before .before .before .before .loop-test .taken)
 
 loop-again-2 : tie.Need-loop-again-2 Inv-loop μ-loop
-loop-again-2 c = scanning-digit (c .before .before .before .before .before .loop .inv) (c .before .before .if1 .left) (sym (c .before .is-digit .ensures) ∙ c .if2 .taken)
+loop-again-2 c = scanning-on (scanning-digit (c .before .before .before .before .before .before .loop .inv) (c .before .before .before .if1 .left) (sym (c .before .before .is-digit .ensures) ∙ c .before .if2 .taken)) (c .skip-ascii2 .ensures)
 
 returns : tie.Need-returns Inv-loop μ-loop
 returns c = sym (scanning-stop (c .before .before .before .before .before .loop .inv) (c .before .before .before .before .loop-test .taken) (c .before .before .if1 .left) (sym (c .before .is-digit .ensures) ∙ c .if2 .left))
@@ -53,13 +59,15 @@ in-domain-spec =
     (tie.spec
     Inv-loop
     μ-loop
+    skip-ascii-requires
     loop-holds
     shared-slice-read-if1
     add-i
     loop-less
     loop-again
     is-digit-requires
-    add-i-2
+    add-skip-ascii
+    skip-ascii-requires-2
     loop-less-2
     loop-again-2
     returns

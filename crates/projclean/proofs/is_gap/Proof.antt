@@ -1,0 +1,15 @@
+use borrow.Author.Tests.{eq-eqb, ne-eqb}
+use Rattle.projclean.specs.Cleaning.{gap}
+use Rattle.projclean.proofs.is_gap.Statement.{statement}
+use Rattle.projclean.proofs.is_gap.Tie as tie
+
+returns : tie.Need-returns
+unfolding gap
+returns c = simp (eq-eqb _ _ (c .if1 .taken))
+
+returns-2 : tie.Need-returns-2
+unfolding gap
+returns-2 c = simp (ne-eqb _ _ (c .if1 .left))
+
+pub is-gap-spec : {M : Type 1} → statement M
+is-gap-spec = tie.close (tie.spec returns returns-2)
