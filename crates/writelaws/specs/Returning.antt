@@ -1,5 +1,5 @@
 -- What was written is read back: whatever the call `prepare` leaves of a text that the call `write` answered, it is the table.
-use mathlib.Core.Path.{_≡_, refl, ap}
+use mathlib.Core.Path.{_≡_, refl, sym, ap, _∙_}
 use Prim.Native.Nat.{ℕ, suc, _≤_}
 use mathlib.Core.Bool.{Bool, true, false, cond, _&&_}
 use mathlib.Core.Option.{Option, none, some}
@@ -86,3 +86,11 @@ pub written-returns : (l : List Step) → Every Slots l → {out : Bytes} {r : �
 written-returns l e {out} {r} {out′} w table room {answer} {table′} p =
     let k = lends-writes l w in
     once p (rw (k .is) (table-prepares l table (record { each = k .all-made; slots = e }) (k .few) room))
+
+-- ---- no second outcome meets the promise of `write`
+
+pub write-once : (l : List Step) {out : Bytes} {r r′ : Written} {after after′ : Bytes}
+    → Lends (write l) out r after → Lends (write l) out r′ after′ → (r ≡ r′) × (after ≡ after′)
+write-once l p q =
+    let e = p .exactly ∙ sym (q .exactly) in
+    (ap (λ (x : Written × Bytes). x .0) e, ap (λ (x : Written × Bytes). x .1) e)

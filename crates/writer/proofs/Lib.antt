@@ -1,5 +1,1 @@
-pub mod Putting
-pub mod Going
-pub mod Numbers
-pub mod Texts
 pub mod Stepping

@@ -32,11 +32,11 @@ use Rattle.writelaws.specs.Records.{made-keeps}
 use Rattle.writelaws.specs.Written.{writing-short}
 use Rattle.writelaws.specs.Faithful.{table-short}
 use Rattle.writelaws.specs.Returning.{not-18}
-use Rattle.writer.specs.Parts.{Room, rest, argText, markText, parted}
-use Rattle.writer.proofs.Putting.{room-as, as-written, first-room, then-room, both-written}
-use Rattle.writer.proofs.Numbers.{put-written}
-use Rattle.writer.proofs.Going.{Going, going-room, going-turn}
-use Rattle.writer.proofs.Texts.{step-is}
+use Rattle.words.specs.Parts.{Room, rest, argText, markText, parted}
+use Rattle.words.proofs.Putting.{room-as, as-written, first-room, then-room, both-written}
+use Rattle.words.proofs.Numbers.{put-written}
+use Rattle.words.proofs.Going.{Going, going-room, going-turn}
+use Rattle.words.proofs.Texts.{step-is}
 
 -- ---- a record
 

@@ -1,6 +1,6 @@
 use Rattle.writer.proofs.Stepping.{rows-rest, row-room, row-turn, rows-end}
-use Rattle.writer.proofs.Going.{Going, going-start, going-length, going-end}
-use Rattle.writer.specs.Parts.{parted}
+use Rattle.words.proofs.Going.{Going, going-start, going-length, going-end}
+use Rattle.words.specs.Parts.{parted}
 use Rattle.writelaws.specs.Writing.{tableWriting}
 use Rattle.acts.proofs.Sounding.{Sound, sound-so}
 use Rattle.rules.specs.Record.{listed}

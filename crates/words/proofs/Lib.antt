@@ -1,0 +1,4 @@
+pub mod Putting
+pub mod Going
+pub mod Numbers
+pub mod Texts
