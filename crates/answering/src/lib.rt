@@ -2,13 +2,18 @@
 // for each. It holds no rule of its own: it decodes, lends storage, calls the library and prints. A line of over
 // 131,072 bytes is answered as no request.
 mod ask;
+mod checks;
+mod fields;
+mod out;
+mod records;
+mod runs;
 mod shows;
 mod writes;
 
 ghost use Prim.Native.Nat.{_≤_, _<_};
 ghost use mathlib.Core.Path.{_≡_};
 ghost use lib.ListN.{length};
-ghost use Rattle.saying.specs.Storage.{Rows, Storage};
+ghost use Rattle.answering.specs.Storage.{Rows, Storage};
 use libc::STDIN_FILENO;
 
 // A byte that no request begins with: it stands for the front of a line that is too long.
@@ -76,7 +81,7 @@ fn answer_lines(
         start = newline + 1;
         newline = wire::find(input, start, b'\n');
     }
-    saying::flush(out, at);
+    out::flush(out, at);
     start
 }
 
@@ -94,7 +99,7 @@ fn answer_last(
 {
     if 0 < line.len() {
         let at = ask::answer(line, text, lent, list, store, out, 0);
-        saying::flush(out, at);
+        out::flush(out, at);
     }
 }
 

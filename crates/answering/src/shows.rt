@@ -1,10 +1,10 @@
 // `steps`: what the program `steps` prints of the text.
 ghost use mathlib.Core.Path.{_≡_};
 ghost use lib.ListN.{length};
-ghost use Rattle.saying.specs.Storage.{Filled};
-use saying::say;
-use saying::say_text;
-use saying::say_what;
+ghost use Rattle.answering.specs.Storage.{Filled};
+use crate::out::say;
+use crate::out::say_text;
+use crate::out::say_what;
 use wire::Text;
 
 // Room for all that can be printed.

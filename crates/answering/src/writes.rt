@@ -1,17 +1,17 @@
 // `write`: the text is prepared, and the text of its records is printed.
-ghost use Rattle.saying.specs.Storage.{Filled, Storage};
+ghost use Rattle.answering.specs.Storage.{Filled, Storage};
 use crate::ask::MOST_ROOM;
 use crate::ask::say_lent;
+use crate::checks::first;
+use crate::out::say_refusal;
+use crate::out::say_what;
+use crate::records::MOST_STEPS;
+use crate::records::is_untouched;
+use crate::records::untouched;
 use prepare::Preparing;
 use prepare::prepare;
 use rules::Prepared;
 use rules::Table;
-use saying::say_refusal;
-use saying::say_what;
-use stepping::checks::first;
-use stepping::records::MOST_STEPS;
-use stepping::records::is_untouched;
-use stepping::records::untouched;
 use wire::Text;
 
 // `write TEXT`.

@@ -3,7 +3,7 @@ use Rattle.answering.proofs.shows.answer_steps.Statement.{statement}
 use Rattle.answering.proofs.shows.answer_steps.Tie as tie
 use Rattle.answering.proofs.shows.answer_steps.Reads as reads
 use Rattle.answering.proofs.shows.answer_steps.Lts as lts
-use Rattle.saying.proofs.say_what.Reads as say-what-reads
+use Rattle.answering.proofs.out.say_what.Reads as say-what-reads
 use Rattle.answering.proofs.shows.say_shown.Reads as say-shown-reads
 use Rattle.wire.proofs.field.Reads as field-reads
 use Rattle.wire.proofs.fields.Reads as fields-reads

@@ -4,8 +4,8 @@ use Rattle.answering.proofs.shows.say_shown.Statement.{statement}
 use Rattle.answering.proofs.shows.say_shown.Tie as tie
 use Rattle.answering.proofs.shows.say_shown.Reads as reads
 use Rattle.answering.proofs.shows.say_shown.Lts as lts
-use Rattle.saying.proofs.say.Reads as say-reads
-use Rattle.saying.proofs.say_text.Reads as say-text-reads
+use Rattle.answering.proofs.out.say.Reads as say-reads
+use Rattle.answering.proofs.out.say_text.Reads as say-text-reads
 use Rattle.answering.proofs.shows.print_room.Reads as print-room-reads
 use Rattle.io.proofs.large_buffer.Reads as large-buffer-reads
 use Rattle.shown.proofs.show.Reads as show-reads

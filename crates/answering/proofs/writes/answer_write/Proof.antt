@@ -3,8 +3,8 @@ use Rattle.answering.proofs.writes.answer_write.Statement.{statement}
 use Rattle.answering.proofs.writes.answer_write.Tie as tie
 use Rattle.answering.proofs.writes.answer_write.Reads as reads
 use Rattle.answering.proofs.writes.answer_write.Lts as lts
-use Rattle.saying.proofs.say_what.Reads as say-what-reads
-use Rattle.stepping.proofs.records.untouched.Reads as untouched-reads
+use Rattle.answering.proofs.out.say_what.Reads as say-what-reads
+use Rattle.answering.proofs.records.untouched.Reads as untouched-reads
 use Rattle.answering.proofs.writes.write_prepared.Reads as write-prepared-reads
 use Rattle.prepare.proofs.prepare.Reads as prepare-reads
 use Rattle.wire.proofs.field.Reads as field-reads
