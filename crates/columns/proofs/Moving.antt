@@ -18,8 +18,8 @@ use Rattle.rules.specs.Columns.{pushed, flipped, topped}
 use Rattle.rules.specs.Tuples.{State, column, stored, onNumbers, drained}
 use Rattle.rules.specs.declared.Coord.{Coord}
 use Rattle.steplaws.specs.Walk.{pushed-more, flipped-more}
-use Rattle.columns.specs.Stores.{col, columnsOf, Stacked}
-use Rattle.columns.proofs.Standing.{under, not-over, drop-same, columns-length, columns-at, columns-same, columns-are, put-own, put-else, put-after}
+use Rattle.store.specs.Stores.{col, columnsOf, Stacked}
+use Rattle.store.proofs.Standing.{under, not-over, drop-same, columns-length, columns-at, columns-same, columns-are, put-own, put-else, put-after}
 
 -- ---- the places of the first arguments
 

@@ -14,7 +14,7 @@ use Rattle.rules.specs.declared.Coord.{Coord}
 use Rattle.steplaws.specs.Lengths.{tuples-length}
 use Rattle.coordinate.specs.Coords.{noTuple}
 use Rattle.coordinate.proofs.Firsts.{eachFrom, firstsFrom, firsts-at, firsts-turn, firsts-all}
-use Rattle.columns.proofs.Standing.{paste-after}
+use Rattle.store.proofs.Standing.{paste-after}
 
 -- the number of tuple k in a column
 pub column-at : (i k : ℕ) (ts : List Coord) → k < length ts → number i (getD ts k noTuple) ≡ getD (column i ts) k nan

@@ -16,11 +16,11 @@ use Rattle.rules.specs.Tuples.{tuples, onNumbers, drained, stomped}
 use Rattle.rules.specs.declared.Coord.{Coord}
 use Rattle.laws.specs.Separators.{and-left, and-right}
 use Rattle.coordinate.specs.Coords.{noTuple}
-use Rattle.columns.specs.Stores.{columnsOf, held, Stacked}
+use Rattle.store.specs.Stores.{columnsOf, held, Stacked}
 use Rattle.columns.specs.Moves.{moves, depthMoved, enough, Ready, Moved}
 use Rattle.columns.specs.declared.Move.{Move}
 use Rattle.columns.specs.declared.Move.the-variants.{Push, Pop, Flip, Roll, Swap, Stomp}
-use Rattle.columns.proofs.Standing.{columns-drop}
+use Rattle.store.proofs.Standing.{columns-drop}
 use Rattle.columns.proofs.Moving.{drained-columns, places-length}
 
 -- what `Ready` says of a flip, of a roll and of a push

@@ -9,7 +9,7 @@ use lib.Ieee.{Float}
 use Rattle.rules.specs.Act.{pushes, flips, rolls, swaps}
 use Rattle.rules.specs.Columns.{moved}
 use Rattle.rules.specs.Tuples.{State, onNumbers, drained, stomped}
-use Rattle.columns.specs.Stores.{held}
+use Rattle.store.specs.Stores.{held}
 use Rattle.columns.specs.declared.Move.{Move}
 use Rattle.columns.specs.declared.Move.the-variants.{Push, Pop, Flip, Roll, Swap, Stomp}
 

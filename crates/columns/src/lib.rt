@@ -7,21 +7,20 @@ use coordinate::not_a_number;
 use coordinate::number_of;
 use coordinate::set_coord;
 use coordinate::with_number;
+use store::roll;
+use store::swap;
 ghost use mathlib.Core.Path.{_≡_};
-ghost use Prim.Native.Nat.{_+_, _-_, _*_, _≤_, _<_, _/_};
-ghost use mathlib.Core.Bool.{false};
-ghost use mathlib.Core.List.{_++_, map};
-ghost use lib.ListN.{length, getD, take, drop, replicate};
+ghost use Prim.Native.Nat.{_+_, _*_, _≤_, _/_};
+ghost use mathlib.Core.List.{map};
+ghost use lib.ListN.{length, take, drop};
 ghost use lib.Seq.{paste};
-ghost use lib.IntN.{pos};
-ghost use lib.Ieee.{nan, fin};
-ghost use Rattle.rules.specs.Record.{size};
+ghost use lib.Ieee.{nan};
 ghost use Rattle.rules.specs.Act.{places};
 ghost use Rattle.rules.specs.Coordinate.{put};
-ghost use Rattle.rules.specs.Columns.{pushed, flipped, rolled, swappedTop};
+ghost use Rattle.rules.specs.Columns.{pushed, flipped};
 ghost use Rattle.rules.specs.Tuples.{tuples, column, stored, onNumbers, drained};
 ghost use Rattle.coordinate.specs.Coords.{noTuple};
-ghost use Rattle.columns.specs.Stores.{col, columnsOf, Stacked, Exchanged, Reversed};
+ghost use Rattle.store.specs.Stores.{columnsOf, Stacked};
 ghost use Rattle.columns.specs.Moves.{Ready, Moved};
 
 // What a step does: the places that it pushes, pops or flips stand beside it.
@@ -94,22 +93,6 @@ fn nan_column(xs: &mut [f64], i: usize)
     }
 }
 
-// The n numbers from a on exchanged with the n from b on.
-fn exchange(store: &mut [f64], a: usize, b: usize, n: usize)
-    requires { ⌜ a + n ≤ b ⌝ }
-    requires { ⌜ b + n ≤ length (now store) ⌝ }
-    ensures { λ _. ⌜ Exchanged a b n (now (store .entry)) (now (store .exit)) ⌝ }
-{
-    let mut k = 0;
-    while k < n {
-        let x = store[a + k];
-        let y = store[b + k];
-        store[a + k] = y;
-        store[b + k] = x;
-        k += 1;
-    }
-}
-
 // ---- all columns of a step
 
 // Push: a column for each place, in their order.
@@ -159,45 +142,6 @@ fn flip(xs: &mut [f64], store: &mut [f64], depth: usize, args: &[i32])
     }
 }
 
-// The columns from one up to another in the opposite order.
-fn reverse(store: &mut [f64], n: usize, from: usize, to: usize)
-    requires { ⌜ from ≤ to ⌝ }
-    requires { ⌜ to ≤ 64 ⌝ }
-    requires { ⌜ to * n ≤ length (now store) ⌝ }
-    ensures { λ _. ⌜ Reversed n from to (now (store .entry)) (now (store .exit)) ⌝ }
-{
-    let mut i = from;
-    let mut j = to;
-    while i + 1 < j {
-        j -= 1;
-        exchange(store, i * n, j * n, n);
-        i += 1;
-    }
-}
-
-// Roll: the top column goes under the top m, r times. So the first r go behind the others: each part turned round, and then
-// the whole.
-fn roll(store: &mut [f64], n: usize, depth: usize, m: usize, r: usize)
-    requires { ⌜ (r ≤ m) × ((m ≤ depth) × (depth ≤ 64)) ⌝ }
-    requires { ⌜ depth * n ≤ length (now store) ⌝ }
-    ensures { λ _. ⌜ Stacked n depth (rolled m r (columnsOf n depth (now (store .entry)))) (now (store .entry)) (now (store .exit)) ⌝ }
-{
-    reverse(store, n, depth - r, depth);
-    reverse(store, n, depth - m, depth - r);
-    reverse(store, n, depth - m, depth);
-}
-
-// Swap: the two top columns exchanged, where there are two.
-fn swap(store: &mut [f64], n: usize, depth: usize)
-    requires { ⌜ depth * n ≤ length (now store) ⌝ }
-    ensures { λ _. ⌜ Stacked n depth (swappedTop (columnsOf n depth (now (store .entry)))) (now (store .entry)) (now (store .exit)) ⌝ }
-{
-    if depth < 2 {
-        return;
-    }
-    exchange(store, (depth - 2) * n, (depth - 1) * n, n);
-}
-
 // No number of any tuple is one.
 fn stomp(xs: &mut [f64])
     ensures { λ _. ⌜ tuples (now (xs .exit)) ≡ map (λ _. noTuple) (tuples (now (xs .entry))) ⌝ }
@@ -222,18 +166,5 @@ pub fn move_all(xs: &mut [f64], store: &mut [f64], depth: usize, mv: Move, args:
         Move::Roll { m: w, n: r } => roll(store, xs.len() / 4, depth, w, r),
         Move::Swap => swap(store, xs.len() / 4, depth),
         Move::Stomp => stomp(xs),
-    }
-}
-
-// The numbers of a store from one place up to another become zero.
-pub fn zero_rest(store: &mut [f64], from: usize, to: usize)
-    requires { ⌜ from ≤ to ⌝ }
-    requires { ⌜ to ≤ length (now store) ⌝ }
-    ensures { λ _. ⌜ now (store .exit) ≡ take from (now (store .entry)) ++ (replicate (to - from) (fin false 0 (pos 0)) ++ drop to (now (store .entry))) ⌝ }
-{
-    let mut i = from;
-    while i < to {
-        store[i] = 0.0;
-        i += 1;
     }
 }

@@ -25,9 +25,9 @@ use Rattle.laws.specs.Separators.{or-left, or-right}
 use Rattle.steplaws.specs.Tests.{never}
 use Rattle.steplaws.specs.Depth.{depthAfter}
 use Rattle.steplaws.specs.Lengths.{numbers-tuples}
-use Rattle.columns.specs.Stores.{columnsOf, held}
-use Rattle.columns.proofs.Standing.{columns-length}
-use Rattle.columns.proofs.Zeroing.{columns-flat}
+use Rattle.store.specs.Stores.{columnsOf, held}
+use Rattle.store.proofs.Standing.{columns-length}
+use Rattle.store.proofs.Zeroing.{columns-flat}
 use Rattle.pipeline.specs.Plans.{passesFrom, deepestFrom, Gives, Ends}
 use Rattle.pipeline.proofs.Planning.{passes-same, deepest-same}
 

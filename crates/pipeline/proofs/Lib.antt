@@ -1,5 +1,3 @@
-pub mod Depths
-pub mod Choosing
 pub mod Stepping
 pub mod Checking
 pub mod Planning

@@ -22,8 +22,8 @@ use Rattle.rules.specs.declared.Direction.{Direction}
 use Rattle.steplaws.specs.Tests.{never}
 use Rattle.steplaws.specs.Depth.{depthAfter}
 use Rattle.steplaws.specs.Lengths.{tuples-length}
-use Rattle.columns.specs.Stores.{columnsOf, held}
-use Rattle.columns.proofs.Standing.{held-depth}
+use Rattle.store.specs.Stores.{columnsOf, held}
+use Rattle.store.proofs.Standing.{held-depth}
 use Rattle.acts.specs.Visits.{visited, leftFrom}
 use Rattle.acts.proofs.Visiting.{left-all, left-none, left-next}
 use Rattle.pipeline.specs.Plans.{depthStepped, stepped, countStepped, passesFrom, deepestFrom, Stepped, Ends}

@@ -14,9 +14,9 @@ use Rattle.rules.specs.declared.Direction.{Direction}
 use Rattle.steplaws.specs.Depth.{depthAfter}
 use Rattle.acts.specs.Doings.{doing, Does}
 use Rattle.acts.specs.declared.Doing.{Doing}
-use Rattle.columns.specs.Stores.{held}
+use Rattle.store.specs.Stores.{held}
 use Rattle.pipeline.specs.Plans.{depthStepped, noneStepped, stepped, countStepped, Stepped}
-use Rattle.pipeline.specs.Ways.{Acted}
+use Rattle.ways.specs.Ways.{Acted}
 
 -- the act of a step is what its doing does
 pub own : {a : rules.Act} {r : Doing} → Does a r → Does (doing r) r

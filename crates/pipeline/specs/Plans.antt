@@ -15,7 +15,7 @@ use Rattle.rules.specs.declared.Step.{Step}
 use Rattle.rules.specs.declared.Direction.{Direction}
 use Rattle.rules.specs.declared.Ran.{Ran}
 use Rattle.steplaws.specs.Depth.{depthAfter}
-use Rattle.columns.specs.Stores.{held}
+use Rattle.store.specs.Stores.{held}
 use Rattle.pipeline.specs.declared.Stood.{Stood}
 
 -- ---- one step, which may be omitted

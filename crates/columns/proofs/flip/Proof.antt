@@ -1,7 +1,7 @@
 use lib.Seq.{paste}
 use Rattle.columns.proofs.Moving.{Flipping, flip-none, flip-turn, flip-end}
 use Rattle.steplaws.specs.Lengths.{tuples-length}
-use Rattle.columns.proofs.Standing.{under}
+use Rattle.store.proofs.Standing.{under}
 use Rattle.rules.specs.Tuples.{tuples, stored, column}
 use native.Mathlib.Omega.{arith}
 use lib.ListN.{length, getD, take, drop}

@@ -14,9 +14,9 @@ use Rattle.columns.proofs.move_all.Lts as lts
 use Rattle.columns.proofs.flip.Reads as flip-reads
 use Rattle.columns.proofs.pop.Reads as pop-reads
 use Rattle.columns.proofs.push.Reads as push-reads
-use Rattle.columns.proofs.roll.Reads as roll-reads
+use Rattle.store.proofs.roll.Reads as roll-reads
 use Rattle.columns.proofs.stomp.Reads as stomp-reads
-use Rattle.columns.proofs.swap.Reads as swap-reads
+use Rattle.store.proofs.swap.Reads as swap-reads
 
 -- src/lib.rt:227:28
 enum-told : tie.Need-enum-told

@@ -1,7 +1,7 @@
 use Rattle.rules.specs.Act.{places}
 use Rattle.columns.proofs.Moving.{popsLeft, pop-none, pop-turn, pop-stops, pop-end}
-use Rattle.columns.proofs.Standing.{under}
-use Rattle.columns.specs.Stores.{columnsOf, col}
+use Rattle.store.proofs.Standing.{under}
+use Rattle.store.specs.Stores.{columnsOf, col}
 use Rattle.rules.specs.Tuples.{State, tuples, drained, stored}
 use native.Mathlib.Omega.{arith}
 use lib.ListN.{length, getD, take, drop}

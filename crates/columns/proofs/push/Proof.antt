@@ -1,6 +1,6 @@
 use Rattle.columns.proofs.Moving.{Pushing, push-none, push-turn, push-end}
 use Rattle.steplaws.specs.Lengths.{tuples-length}
-use Rattle.columns.proofs.Standing.{under}
+use Rattle.store.proofs.Standing.{under}
 use Rattle.rules.specs.Tuples.{tuples}
 use native.Mathlib.Omega.{arith}
 use lib.ListN.{length, getD, take, drop}

@@ -1,8 +1,8 @@
 use mathlib.Core.Path.{_≡_, sym, _∙_}
 use lib.ListN.{length, take, length-map}
 use Rattle.acts.specs.Doings.{doing}
-use Rattle.pipeline.proofs.Depths.{args-length}
-use Rattle.pipeline.proofs.Choosing.{move-ready, move-acted, order-ready, order-acted, adapt-ready, adapt-gone, stay-acted, chosen-as}
+use Rattle.ways.proofs.Depths.{args-length}
+use Rattle.ways.proofs.Choosing.{move-ready, move-acted, order-ready, order-acted, adapt-ready, adapt-gone, stay-acted, chosen-as}
 use borrow.Author.Needs.{needs}
 use Rattle.pipeline.proofs.run_act.Statement.{statement}
 use Rattle.pipeline.proofs.run_act.Tie as tie

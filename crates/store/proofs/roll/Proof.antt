@@ -1,13 +1,13 @@
-use Rattle.columns.proofs.Turning.{roll-end}
-use Rattle.columns.proofs.Standing.{not-over}
+use Rattle.store.proofs.Turning.{roll-end}
+use Rattle.store.proofs.Standing.{not-over}
 use Prim.Native.Nat.{_-_}
 use native.Mathlib.Omega.{arith}
 use borrow.Author.Needs.{needs}
-use Rattle.columns.proofs.roll.Statement.{statement}
-use Rattle.columns.proofs.roll.Tie as tie
-use Rattle.columns.proofs.roll.Reads as reads
-use Rattle.columns.proofs.roll.Lts as lts
-use Rattle.columns.proofs.reverse.Reads as reverse-reads
+use Rattle.store.proofs.roll.Statement.{statement}
+use Rattle.store.proofs.roll.Tie as tie
+use Rattle.store.proofs.roll.Reads as reads
+use Rattle.store.proofs.roll.Lts as lts
+use Rattle.store.proofs.reverse.Reads as reverse-reads
 
 -- src/lib.rt:193:23
 sub-reverse : tie.Need-sub-reverse

@@ -1,7 +1,7 @@
 use borrow.Author.Tests.{lt-ltb, le-ltb}
-use Rattle.pipeline.specs.Ways.{turns}
-use Rattle.pipeline.proofs.turns_of.Statement.{statement}
-use Rattle.pipeline.proofs.turns_of.Tie as tie
+use Rattle.ways.specs.Ways.{turns}
+use Rattle.ways.proofs.turns_of.Statement.{statement}
+use Rattle.ways.proofs.turns_of.Tie as tie
 
 returns : tie.Need-returns
 unfolding turns

@@ -1,6 +1,6 @@
 use mathlib.Core.Path.{subst}
-use Rattle.columns.proofs.Turning.{exchange-none, exchange-turn}
-use Rattle.columns.specs.Stores.{Exchanged}
+use Rattle.store.proofs.Turning.{exchange-none, exchange-turn}
+use Rattle.store.specs.Stores.{Exchanged}
 use mathlib.Core.List.{List}
 use lib.Ieee.{Float, nan}
 use native.Mathlib.Omega.{arith}
@@ -8,10 +8,10 @@ use lib.ListN.{length, getD, set, take, drop, length-set}
 use Prim.Native.Nat.{ℕ, _+_, _-_, _*_, _/_, _≤_, _<_}
 use mathlib.Core.Path.{_≡_, refl, sym, ap, _∙_}
 use borrow.Author.Needs.{needs}
-use Rattle.columns.proofs.exchange.Statement.{statement}
-use Rattle.columns.proofs.exchange.Tie as tie
-use Rattle.columns.proofs.exchange.Reads as reads
-use Rattle.columns.proofs.exchange.Lts as lts
+use Rattle.store.proofs.exchange.Statement.{statement}
+use Rattle.store.proofs.exchange.Tie as tie
+use Rattle.store.proofs.exchange.Reads as reads
+use Rattle.store.proofs.exchange.Lts as lts
 
 abbrev Inv-loop : tie.InvT-loop
 Inv-loop store₀ a b n k₀ store k = Exchanged a b k store₀ store × (length store ≡ length store₀) × (k ≤ n)

@@ -1,13 +1,13 @@
-use Rattle.columns.proofs.Turning.{swap-few, swap-end}
-use Rattle.columns.proofs.Standing.{under}
+use Rattle.store.proofs.Turning.{swap-few, swap-end}
+use Rattle.store.proofs.Standing.{under}
 use Prim.Native.Nat.{_-_}
 use native.Mathlib.Omega.{arith}
 use borrow.Author.Needs.{needs}
-use Rattle.columns.proofs.swap.Statement.{statement}
-use Rattle.columns.proofs.swap.Tie as tie
-use Rattle.columns.proofs.swap.Reads as reads
-use Rattle.columns.proofs.swap.Lts as lts
-use Rattle.columns.proofs.exchange.Reads as exchange-reads
+use Rattle.store.proofs.swap.Statement.{statement}
+use Rattle.store.proofs.swap.Tie as tie
+use Rattle.store.proofs.swap.Reads as reads
+use Rattle.store.proofs.swap.Lts as lts
+use Rattle.store.proofs.exchange.Reads as exchange-reads
 
 -- src/lib.rt:204:9
 returns : tie.Need-returns

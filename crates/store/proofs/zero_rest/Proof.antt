@@ -5,10 +5,10 @@ use mathlib.Core.Bool.{false}
 use lib.ListN.{length, set, length-set}
 use lib.IntN.{pos}
 use lib.Ieee.{Float, fin, ofBits}
-use Rattle.columns.proofs.Zeroing.{filled, filled-none, filled-more}
+use Rattle.store.proofs.Zeroing.{filled, filled-none, filled-more}
 use native.Mathlib.Omega.{arith}
-use Rattle.columns.proofs.zero_rest.Statement.{statement}
-use Rattle.columns.proofs.zero_rest.Tie as tie
+use Rattle.store.proofs.zero_rest.Statement.{statement}
+use Rattle.store.proofs.zero_rest.Tie as tie
 
 abbrev Inv-loop : tie.InvT-loop
 Inv-loop store₀ from to i₀ store i = (store ≡ filled store₀ from i (fin false 0 (pos 0))) × (length store ≡ length store₀) × (from ≤ i) × (i ≤ to)

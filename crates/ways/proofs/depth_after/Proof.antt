@@ -1,9 +1,9 @@
 use mathlib.Core.Path.{sym, _∙_}
 use lib.ListN.{length-map}
-use Rattle.pipeline.proofs.Depths.{after-pushes, after-pops, after-pops-few, after-popsAll-few, after-popsAll, after-flips, after-rolls, after-swaps, after-drops, after-orders, after-adapts}
+use Rattle.ways.proofs.Depths.{after-pushes, after-pops, after-pops-few, after-popsAll-few, after-popsAll, after-flips, after-rolls, after-swaps, after-drops, after-orders, after-adapts}
 use borrow.Author.Needs.{needs}
-use Rattle.pipeline.proofs.depth_after.Statement.{statement}
-use Rattle.pipeline.proofs.depth_after.Tie as tie
+use Rattle.ways.proofs.depth_after.Statement.{statement}
+use Rattle.ways.proofs.depth_after.Tie as tie
 
 returns : tie.Need-returns
 returns c =

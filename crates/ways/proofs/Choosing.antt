@@ -26,17 +26,17 @@ use Rattle.acts.specs.declared.Act.{Act}
 use Rattle.acts.specs.declared.Act.the-variants.{Pushes, Pops, PopsAll, Flips, Rolls, Swaps, Drops}
 use Rattle.acts.specs.declared.Act.the-variants as act-is
 use Rattle.acts.specs.declared.Doing.{Doing}
-use Rattle.columns.specs.Stores.{columnsOf, held}
+use Rattle.store.specs.Stores.{columnsOf, held}
 use Rattle.columns.specs.Moves.{moves, depthMoved, enough, Ready, Moved}
 use Rattle.columns.specs.declared.Move.{Move}
 use Rattle.columns.specs.declared.Move.the-variants.{Push, Pop, Flip, Roll, Swap, Stomp}
 use Rattle.columns.proofs.Acting.{push-acted, pop-acted, popAll-acted, flip-acted, roll-acted, swap-acted, moves-depth}
-use Rattle.columns.proofs.Standing.{held-depth}
+use Rattle.store.proofs.Standing.{held-depth}
 use Rattle.steplaws.specs.Rolls.{rolled-again}
-use Rattle.pipeline.specs.Ways.{goes, depthGone, able, Chosen, Acted, turns}
-use Rattle.pipeline.specs.declared.Way.{Way}
-use Rattle.pipeline.specs.declared.Way.the-variants.{Moves, Orders, Adapts, Stays}
-use Rattle.pipeline.proofs.Depths.{length-places}
+use Rattle.ways.specs.Ways.{goes, depthGone, able, Chosen, Acted, turns}
+use Rattle.ways.specs.declared.Way.{Way}
+use Rattle.ways.specs.declared.Way.the-variants.{Moves, Orders, Adapts, Stays}
+use Rattle.ways.proofs.Depths.{length-places}
 
 -- ---- a roll of a full turn
 

@@ -12,8 +12,8 @@ use lib.Seq.{length-take-le, getD-take, getD-drop, getD-append-add, getD-set-sam
 use lib.Ieee.{Float, nan}
 use Rattle.rules.specs.Columns.{rolled, swappedTop}
 use Rattle.steplaws.specs.Rolls.{turnedTop, top-length, rolled-is}
-use Rattle.columns.specs.Stores.{col, columnsOf, Stacked, Off, Exchanged, Reversed}
-use Rattle.columns.proofs.Standing.{under, not-over, other-column, drop-same, col-same, columns-length, columns-at, columns-same, columns-are}
+use Rattle.store.specs.Stores.{col, columnsOf, Stacked, Off, Exchanged, Reversed}
+use Rattle.store.proofs.Standing.{under, not-over, other-column, drop-same, col-same, columns-length, columns-at, columns-same, columns-are}
 
 -- ---- numbers exchanged, one after the other
 

@@ -11,7 +11,7 @@ use lib.Dec.{ltb, eqb}
 use lib.ListN.{length, getD, set, take, drop, length-set, length-drop, List·getD-append}
 use lib.Seq.{ext-getD, getD-take, getD-drop, getD-append-add, getD-set-same, getD-set-other, length-take-le, length-paste-head, paste}
 use lib.Ieee.{Float, nan}
-use Rattle.columns.specs.Stores.{col, columnsOf, held}
+use Rattle.store.specs.Stores.{col, columnsOf, held}
 
 -- ---- places
 

@@ -8,7 +8,7 @@ use native.Mathlib.Omega.{arith}
 use lib.ListN.{length, getD, set, take, drop, replicate, take-append-drop, length-append, length-replicate}
 use lib.Seq.{take-add, drop-cons, length-take-le, set-at}
 use lib.Ieee.{Float}
-use Rattle.columns.specs.Stores.{columnsOf}
+use Rattle.store.specs.Stores.{columnsOf}
 
 module _ {A : Type 0} where
   -- one more of a part

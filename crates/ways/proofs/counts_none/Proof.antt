@@ -1,9 +1,9 @@
 use mathlib.Core.Path.{sym, _∙_}
 use lib.ListN.{length-map}
-use Rattle.pipeline.proofs.Depths.{none-pushes, none-pops, none-popsAll, none-flips, none-rolls, none-swaps, none-drops, none-orders, none-adapts}
+use Rattle.ways.proofs.Depths.{none-pushes, none-pops, none-popsAll, none-flips, none-rolls, none-swaps, none-drops, none-orders, none-adapts}
 use borrow.Author.Needs.{needs}
-use Rattle.pipeline.proofs.counts_none.Statement.{statement}
-use Rattle.pipeline.proofs.counts_none.Tie as tie
+use Rattle.ways.proofs.counts_none.Statement.{statement}
+use Rattle.ways.proofs.counts_none.Tie as tie
 
 returns : tie.Need-returns
 returns c =

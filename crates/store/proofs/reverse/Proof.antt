@@ -1,7 +1,7 @@
-use Rattle.columns.proofs.Turning.{Reversing, reverse-none, reverse-turn, reverse-end}
+use Rattle.store.proofs.Turning.{Reversing, reverse-none, reverse-turn, reverse-end}
 use Rattle.steplaws.specs.Lengths.{tuples-length}
-use Rattle.columns.proofs.Standing.{under, not-over}
-use Rattle.columns.specs.Stores.{columnsOf, col, Exchanged}
+use Rattle.store.proofs.Standing.{under, not-over}
+use Rattle.store.specs.Stores.{columnsOf, col, Exchanged}
 use Rattle.rules.specs.Tuples.{tuples, drained}
 use mathlib.Core.List.{List}
 use lib.Ieee.{Float, nan}
@@ -10,11 +10,11 @@ use lib.ListN.{length, getD, set, take, drop, length-set}
 use Prim.Native.Nat.{ℕ, _+_, _-_, _*_, _/_, _≤_, _<_}
 use mathlib.Core.Path.{_≡_, refl, sym, ap, _∙_, subst}
 use borrow.Author.Needs.{needs}
-use Rattle.columns.proofs.reverse.Statement.{statement}
-use Rattle.columns.proofs.reverse.Tie as tie
-use Rattle.columns.proofs.reverse.Reads as reads
-use Rattle.columns.proofs.reverse.Lts as lts
-use Rattle.columns.proofs.exchange.Reads as exchange-reads
+use Rattle.store.proofs.reverse.Statement.{statement}
+use Rattle.store.proofs.reverse.Tie as tie
+use Rattle.store.proofs.reverse.Reads as reads
+use Rattle.store.proofs.reverse.Lts as lts
+use Rattle.store.proofs.exchange.Reads as exchange-reads
 
 abbrev Inv-loop : tie.InvT-loop
 Inv-loop store₀ n from to i₀ j₀ store i j = Reversing n from to store₀ store i j

@@ -3,12 +3,12 @@ use mathlib.Core.Bool.{true}
 use lib.ListN.{length, take, length-map}
 use Rattle.acts.specs.Doings as acts
 use Rattle.acts.specs.declared.Act.{Act}
-use Rattle.pipeline.proofs.Depths.{args-length}
-use Rattle.pipeline.proofs.Choosing.{way-found, way-push, way-pop, way-popAll-few, way-popAll, way-flip-few, way-flip, way-roll-few, way-roll, way-swap, way-drop, way-order, way-adapt}
+use Rattle.ways.proofs.Depths.{args-length}
+use Rattle.ways.proofs.Choosing.{way-found, way-push, way-pop, way-popAll-few, way-popAll, way-flip-few, way-flip, way-roll-few, way-roll, way-swap, way-drop, way-order, way-adapt}
 use borrow.Author.Needs.{needs}
 use native.Mathlib.Omega.{arith}
-use Rattle.pipeline.proofs.way_of.Statement.{statement}
-use Rattle.pipeline.proofs.way_of.Tie as tie
+use Rattle.ways.proofs.way_of.Statement.{statement}
+use Rattle.ways.proofs.way_of.Tie as tie
 
 -- how many arguments there are
 long : (s : tie.Start) → length (take (s .args .d .n) (s .args .d .args)) ≡ s .args .d .n

@@ -13,10 +13,10 @@ use Rattle.rules.specs.Act as rules
 use Rattle.rules.specs.Act.{places}
 use Rattle.rules.specs.Tuples.{State, acted}
 use Rattle.steplaws.specs.Depth.{depthAfter}
-use Rattle.columns.specs.Stores.{held}
+use Rattle.store.specs.Stores.{held}
 use Rattle.columns.specs.Moves.{moves, depthMoved, enough}
-use Rattle.pipeline.specs.declared.Way.{Way}
-use Rattle.pipeline.specs.declared.Way.the-variants.{Moves, Orders, Adapts, Stays}
+use Rattle.ways.specs.declared.Way.{Way}
+use Rattle.ways.specs.declared.Way.the-variants.{Moves, Orders, Adapts, Stays}
 
 -- on tuples and columns
 unfoldable pub goes : Way → List ℤ → State → State
