@@ -20,7 +20,7 @@ use Rattle.projwords.specs.Heads.{elements, IsHead, IsElement}
 use Rattle.projwords.specs.Facts.{IsMarks}
 use Rattle.projwords.specs.declared.Head.{Head}
 use Rattle.projwords.specs.declared.Marks.{Marks}
-use Rattle.projstep.specs.Pens.{RoomForAll, PensAll}
+use Rattle.projelement.specs.Pens.{RoomForAll, PensAll}
 use Rattle.projstep.specs.Plans.{pipelineOf, globalled}
 
 -- ---- the globals

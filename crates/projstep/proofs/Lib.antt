@@ -1,4 +1,3 @@
-pub mod Penning
 pub mod Planning
 pub mod Telling
 pub mod Gathering

@@ -17,9 +17,9 @@ use Rattle.projlaws.specs.Tidying.{tidyRest, ellpsOf, ownWord, rest-end, rest-n
 use Rattle.projlaws.specs.Flowing.{emitted, flow, more, flow-append, more-append}
 use Rattle.projwords.specs.Heads.{elements, IsHead, IsElement}
 use Rattle.projwords.specs.declared.Head.{Head}
-use Rattle.projstep.specs.Pens.{RoomFor, RoomForAll, Pens, PensAll, inserted, closing}
+use Rattle.projelement.specs.Pens.{RoomFor, RoomForAll, Pens, PensAll, inserted, closing}
 use Rattle.projstep.specs.Plans.{globalled, IsFate, lastWords, IsPlan}
-use Rattle.projstep.specs.declared.Pen.{Pen}
+use Rattle.projelement.specs.declared.Pen.{Pen}
 use Rattle.projstep.specs.declared.Plan.{Plan}
 use Rattle.projstep.specs.declared.Fate.{Fate}
 

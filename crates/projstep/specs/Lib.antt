@@ -1,2 +1,1 @@
-pub mod Pens
 pub mod Plans

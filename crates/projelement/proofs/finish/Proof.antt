@@ -1,8 +1,8 @@
-use Rattle.projstep.proofs.Penning.{finish-ellps, finish-globals, finish-owed, finish-done, finish-room, finish-none}
+use Rattle.projelement.proofs.Penning.{finish-ellps, finish-globals, finish-owed, finish-done, finish-room, finish-none}
 use denote.Ref.{now}
 use borrow.Author.Needs.{needs}
-use Rattle.projstep.proofs.finish.Statement.{statement}
-use Rattle.projstep.proofs.finish.Tie as tie
+use Rattle.projelement.proofs.finish.Statement.{statement}
+use Rattle.projelement.proofs.finish.Tie as tie
 
 ellps-requires : tie.Need-ellps-requires
 ellps-requires c κs = finish-ellps (c .before .before .before .before .before .before .args .composed) (now (c .before .before .before .before .before .before .args .a)) (now (c .before .before .before .before .before .before .args .rf)) (c .before .before .before .before .before .before .args .fresh) (now (c .before .before .before .before .before .before .args .g)) (c .before .before .before .before .before .before .pre) (c .before .if1 .taken)

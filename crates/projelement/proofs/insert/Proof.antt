@@ -1,8 +1,8 @@
-use Rattle.projstep.proofs.Penning.{insert-room, insert-done, insert-empty, insert-later}
+use Rattle.projelement.proofs.Penning.{insert-room, insert-done, insert-empty, insert-later}
 use denote.Ref.{now}
 use borrow.Author.Needs.{needs}
-use Rattle.projstep.proofs.insert.Statement.{statement}
-use Rattle.projstep.proofs.insert.Tie as tie
+use Rattle.projelement.proofs.insert.Statement.{statement}
+use Rattle.projelement.proofs.insert.Tie as tie
 
 element-requires : tie.Need-element-requires
 element-requires c κs = insert-room (now (c .before .before .before .before .before .args .g)) (c .before .before .if1 .taken) (c .before .if2 .taken) (c .before .before .before .before .before .pre)

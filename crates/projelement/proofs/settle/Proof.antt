@@ -1,8 +1,8 @@
-use Rattle.projstep.proofs.Penning.{settle-room, settle-done, settle-none}
+use Rattle.projelement.proofs.Penning.{settle-room, settle-done, settle-none}
 use Rattle.rules.specs.Ascii.{ascii}
 use borrow.Author.Needs.{needs}
-use Rattle.projstep.proofs.settle.Statement.{statement}
-use Rattle.projstep.proofs.settle.Tie as tie
+use Rattle.projelement.proofs.settle.Statement.{statement}
+use Rattle.projelement.proofs.settle.Tie as tie
 
 slice-aggregate-word : tie.Need-slice-aggregate-word
 slice-aggregate-word c = search needs

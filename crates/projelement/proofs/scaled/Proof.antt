@@ -1,9 +1,9 @@
-use Rattle.projstep.proofs.Penning.{scale-own, own-room, own-then, own-done}
+use Rattle.projelement.proofs.Penning.{scale-own, own-room, own-then, own-done}
 use Rattle.rules.specs.Ascii.{ascii}
 use denote.Ref.{now}
 use borrow.Author.Needs.{needs}
-use Rattle.projstep.proofs.scaled.Statement.{statement}
-use Rattle.projstep.proofs.scaled.Tie as tie
+use Rattle.projelement.proofs.scaled.Statement.{statement}
+use Rattle.projelement.proofs.scaled.Tie as tie
 
 slice-aggregate-word : tie.Need-slice-aggregate-word
 slice-aggregate-word c = search needs

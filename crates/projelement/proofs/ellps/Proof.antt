@@ -1,9 +1,9 @@
-use Rattle.projstep.proofs.Penning.{ellps-first, ellps-second, ellps-third, ellps-whole, ellps-own, own-then, own-done}
+use Rattle.projelement.proofs.Penning.{ellps-first, ellps-second, ellps-third, ellps-whole, ellps-own, own-then, own-done}
 use Rattle.rules.specs.Ascii.{ascii}
 use denote.Ref.{now}
 use borrow.Author.Needs.{needs}
-use Rattle.projstep.proofs.ellps.Statement.{statement}
-use Rattle.projstep.proofs.ellps.Tie as tie
+use Rattle.projelement.proofs.ellps.Statement.{statement}
+use Rattle.projelement.proofs.ellps.Tie as tie
 
 slice-aggregate-word : tie.Need-slice-aggregate-word
 slice-aggregate-word c = search needs

@@ -1,11 +1,11 @@
-use Rattle.projstep.proofs.Penning.{plain-empty, plain-room, plain-done, mark-fwd, mark-inv, mark-other}
+use Rattle.projelement.proofs.Penning.{plain-empty, plain-room, plain-done, mark-fwd, mark-inv, mark-other}
 use Rattle.rules.specs.Lists.{nonEmpty}
 use Rattle.rules.specs.Ascii.{ascii}
 use denote.Ref.{now}
 use mathlib.Core.Path.{refl, sym, _∙_}
 use borrow.Author.Needs.{needs}
-use Rattle.projstep.proofs.plain.Statement.{statement}
-use Rattle.projstep.proofs.plain.Tie as tie
+use Rattle.projelement.proofs.plain.Statement.{statement}
+use Rattle.projelement.proofs.plain.Tie as tie
 use Rattle.projlaws.specs.Tests.{some-is}
 
 returns : tie.Need-returns

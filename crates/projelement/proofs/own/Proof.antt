@@ -1,9 +1,9 @@
-use Rattle.projstep.proofs.Penning.{own-word, own-globals, own-both, own-scale, own-plain}
+use Rattle.projelement.proofs.Penning.{own-word, own-globals, own-both, own-scale, own-plain}
 use native.Mathlib.Omega.{arith}
 use denote.Ref.{now}
 use borrow.Author.Needs.{needs}
-use Rattle.projstep.proofs.own.Statement.{statement}
-use Rattle.projstep.proofs.own.Tie as tie
+use Rattle.projelement.proofs.own.Statement.{statement}
+use Rattle.projelement.proofs.own.Tie as tie
 
 sub-scaled : tie.Need-sub-scaled
 sub-scaled c = omega (arith, c .before .before .before .before .pre .0 (c .if1 .taken))

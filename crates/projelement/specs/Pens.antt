@@ -10,7 +10,7 @@ use Rattle.rules.specs.Translate.{isInv}
 use Rattle.pen.specs.Adding.{Room, Adds}
 use Rattle.projlaws.specs.Tidying.{ellpsOf}
 use Rattle.projlaws.specs.Flowing.{emitted, flow, more}
-use Rattle.projstep.specs.declared.Pen.{Pen}
+use Rattle.projelement.specs.declared.Pen.{Pen}
 
 -- there is room for words, for elements, and for elements with what is owed after them
 pub record Fits (write : Bool) (ds : Words) (pen : Pen) (dst : Bytes) : Type 0 where

@@ -15,8 +15,8 @@ use Rattle.pen.proofs.Adding.{adds-nothing, first-room, then-room, adds-both, r
 use Rattle.projlaws.specs.Tests.{or-no, or-yes, or-assoc, and-yes, and-no, and-assoc, any-append, all-append, empty-is}
 use Rattle.projlaws.specs.Tidying.{ellpsOf, ownWord}
 use Rattle.projlaws.specs.Flowing.{forth, emitted, flow, more, flow-append, emitted-append, flow-end, more-none, more-empty, more-word, more-append}
-use Rattle.projstep.specs.Pens.{Fits, RoomFor, RoomForAll, Emits, Pens, PensAll, owing, inserted, closing}
-use Rattle.projstep.specs.declared.Pen.{Pen}
+use Rattle.projelement.specs.Pens.{Fits, RoomFor, RoomForAll, Emits, Pens, PensAll, owing, inserted, closing}
+use Rattle.projelement.specs.declared.Pen.{Pen}
 
 -- ---- words
 

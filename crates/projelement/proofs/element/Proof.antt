@@ -1,8 +1,8 @@
-use Rattle.projstep.proofs.Penning.{element-inv, element-first, element-then, element-done}
+use Rattle.projelement.proofs.Penning.{element-inv, element-first, element-then, element-done}
 use mathlib.Core.Path.{sym, _∙_}
 use borrow.Author.Needs.{needs}
-use Rattle.projstep.proofs.element.Statement.{statement}
-use Rattle.projstep.proofs.element.Tie as tie
+use Rattle.projelement.proofs.element.Statement.{statement}
+use Rattle.projelement.proofs.element.Tie as tie
 
 is-inv-requires : tie.Need-is-inv-requires
 is-inv-requires c κs = search needs
