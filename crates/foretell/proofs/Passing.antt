@@ -28,10 +28,11 @@ use Rattle.acts.proofs.Visiting.{left-all, left-none, left-next}
 use Rattle.acts.specs.declared.Bad.{Bad}
 use Rattle.acts.specs.declared.Bad.the-variants.{At, Nowhere}
 use Rattle.acts.specs.Tests.{badOf}
-use Rattle.foretell.specs.declared.Judged.the-variants.{Few, Many, Goes}
+use Rattle.depths.specs.declared.Judged.the-variants.{Few, Many, Goes}
 use Rattle.traces.specs.Traces.{placeOf, placesOf, Traced, machine, depth, Whole, Ready}
-use Rattle.foretell.specs.Steps.{judged, Sofar, sofar, Begun, Went, toldOf}
-use Rattle.foretell.proofs.Judging.{goes-is, verdict-few, verdict-many, verdict-goes}
+use Rattle.depths.specs.Judged.{judged}
+use Rattle.foretell.specs.Steps.{Sofar, sofar, Begun, Went, toldOf}
+use Rattle.depths.proofs.Judging.{goes-is, verdict-few, verdict-many, verdict-goes}
 
 -- what the steps so far have come to
 pub record Gathered (l : List Numbered) (c : Sofar) : Type 0 where

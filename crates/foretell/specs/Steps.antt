@@ -4,20 +4,11 @@ use Prim.Native.Nat.{ℕ, _+_, max}
 use mathlib.Core.Bool.{Bool, false, cond, not, _||_}
 use mathlib.Core.List.{List}
 use lib.ListN.{set, replicate}
-use lib.Dec.{ltb}
 use Rattle.rules.specs.Act.{Act}
-use Rattle.rules.specs.Columns.{tooFew}
 use Rattle.rules.specs.Check.{adapting, noPlace, four, plus}
-use Rattle.steplaws.specs.Depth.{grown}
-use Rattle.foretell.specs.declared.Judged.{Judged}
-use Rattle.foretell.specs.declared.Judged.the-variants.{Few, Many, Goes}
 use Rattle.traces.specs.Traces.{Traced, traced, depth, Moved}
 use Rattle.rules.specs.declared.Foretold.{Foretold}
 use Rattle.rules.specs.declared.Verdict.the-variants.{Passes}
-
--- too few columns, too many after the act, or so many
-unfoldable pub judged : Act → ℕ → Judged
-judged a depth = cond (tooFew a depth) Few (cond (ltb 64 (grown a depth)) Many (Goes (grown a depth)))
 
 -- what the steps so far have come to: the places, how many ran, the depth after each, the deepest, and whether an
 -- `adapt` step ran

@@ -4,8 +4,8 @@ use Rattle.rules.specs.Columns.{takes}
 use Rattle.acts.specs.Doings.{does, doing}
 use Rattle.traces.proofs.Stepping.{places-many}
 use borrow.Author.Needs.{needs}
-use Rattle.foretell.proofs.takes.Statement.{statement}
-use Rattle.foretell.proofs.takes.Tie as tie
+use Rattle.depths.proofs.takes.Statement.{statement}
+use Rattle.depths.proofs.takes.Tie as tie
 
 enum-told : tie.Need-enum-told
 enum-told c = search needs

@@ -7,8 +7,8 @@ use Rattle.acts.specs.declared.Act as code
 use Rattle.acts.specs.Doings.{does, doing}
 use Rattle.traces.proofs.Stepping.{places-many, popped-fits}
 use borrow.Author.Needs.{needs}
-use Rattle.foretell.proofs.grown.Statement.{statement}
-use Rattle.foretell.proofs.grown.Tie as tie
+use Rattle.depths.proofs.grown.Statement.{statement}
+use Rattle.depths.proofs.grown.Tie as tie
 
 enum-told : tie.Need-enum-told
 enum-told c = search needs

@@ -12,8 +12,8 @@ use Rattle.rules.specs.Columns.{takes, tooFew, moved}
 use Rattle.rules.specs.Check.{Traced, onPlaces, verdict}
 use Rattle.rules.specs.declared.Verdict.the-variants.{TooFew, TooMany}
 use Rattle.steplaws.specs.Depth.{grown, moved-depth}
-use Rattle.foretell.specs.declared.Judged.the-variants.{Few, Many, Goes}
-use Rattle.foretell.specs.Steps.{judged}
+use Rattle.depths.specs.declared.Judged.the-variants.{Few, Many, Goes}
+use Rattle.depths.specs.Judged.{judged}
 
 module _ (a : Act) {depth n : ℕ} (t : n ≡ takes a) where
   pub few-so : depth < n → Few ≡ judged a depth

@@ -1,7 +1,7 @@
-use Rattle.foretell.proofs.Judging.{few-so, many-so, goes-so}
+use Rattle.depths.proofs.Judging.{few-so, many-so, goes-so}
 use borrow.Author.Needs.{needs}
-use Rattle.foretell.proofs.judge.Statement.{statement}
-use Rattle.foretell.proofs.judge.Tie as tie
+use Rattle.depths.proofs.judge.Statement.{statement}
+use Rattle.depths.proofs.judge.Tie as tie
 
 takes-requires : tie.Need-takes-requires
 takes-requires c κs = search needs
