@@ -1,14 +1,13 @@
 -- The columns of a step, one place after the other: push, pop and flip.
-use mathlib.Core.Path.{_≡_, refl, sym, ap, _∙_, subst}
-use Prim.Native.Nat.{ℕ, zero, suc, _+_, _-_, _*_, _<_, _≤_}
+use mathlib.Core.Path.{_≡_, refl, sym, ap, _∙_}
+use Prim.Native.Nat.{ℕ, suc, _+_, _-_, _*_, _<_, _≤_}
 use mathlib.Core.Bool.{Bool, true, false}
-use mathlib.Core.List.{List, [], _∷_, _++_, map, map-append}
-use native.Mathlib.Numerals.{add-one}
+use mathlib.Core.List.{List, [], _∷_, map}
 use native.Mathlib.Omega.{arith}
 use borrow.Author.Tests.{eqb-true, eqb-false}
 use lib.Dec.{eqb}
 use lib.ListN.{length, getD, set, take, drop, length-map, length-set, drop-of-length-le}
-use lib.Seq.{take-suc, take-all, drop-cons, length-take-le, getD-set-same, getD-set-other, paste}
+use lib.Seq.{take-all, getD-set-same, getD-set-other, paste}
 use lib.IntN.{ℤ, pos}
 use lib.Ieee.{Float, nan}
 use Rattle.rules.specs.Record.{size}
@@ -17,23 +16,10 @@ use Rattle.rules.specs.Coordinate.{put}
 use Rattle.rules.specs.Columns.{pushed, flipped, topped}
 use Rattle.rules.specs.Tuples.{State, column, stored, onNumbers, drained}
 use Rattle.rules.specs.declared.Coord.{Coord}
+use Rattle.steplaws.specs.PlacesOf.{places-many, places-more, places-next}
 use Rattle.steplaws.specs.Walk.{pushed-more, flipped-more}
 use Rattle.store.specs.Stores.{col, columnsOf, Stacked}
-use Rattle.store.proofs.Standing.{under, not-over, drop-same, columns-length, columns-at, columns-same, columns-are, put-own, put-else, put-after}
-
--- ---- the places of the first arguments
-
-places-more : (l : List ℤ) (j : ℕ) → j < length l → places (take (j + 1) l) ≡ places (take j l) ++ (size (getD l j (pos 0)) ∷ [])
-unfolding places
-places-more l j h = rw (add-one j, take-suc l j (pos 0) h) (map-append size (take j l) (getD l j (pos 0) ∷ []))
-
-pub places-length : (l : List ℤ) (j : ℕ) → j ≤ length l → length (places (take j l)) ≡ j
-unfolding places
-places-length l j h = length-map (take j l) size ∙ length-take-le j l h
-
-places-next : (l : List ℤ) (j : ℕ) → j < length l → places (drop j l) ≡ size (getD l j (pos 0)) ∷ places (drop (j + 1) l)
-unfolding places
-places-next l j h = ap (map size) (drop-cons l j (pos 0) h) ∙ (λ i. size (getD l j (pos 0)) ∷ map size (drop (sym (add-one j) i) l))
+use Rattle.store.proofs.Standing.{under, drop-same, columns-length, columns-at, columns-same, columns-are, put-own, put-else, put-after}
 
 -- ---- one of the columns stored anew
 
@@ -197,7 +183,7 @@ module _ (n d : ℕ) (l : List ℤ) (ts₀ : List Coord) (s₀ : List Float) whe
       let v = column r ts in
       let long : length v ≡ n = length-map ts _ ∙ many in
       let fits : q * n + n ≤ length s = omega (arith, under q d n (omega arith), inv .same-length) in
-      let count : length is ≡ j = places-length l j (omega arith) in
+      let count : length is ≡ j = places-many l j (omega arith) in
       let whole : flipped onNumbers (places (take (j + 1) l)) ts₀ c₀ ≡ record { tuples = stored i (getD c₀ (length is) []) (f .tuples); columns = set (f .columns) (length is) (column i (f .tuples)) } =
       ap (λ (z : List ℕ). flipped onNumbers z ts₀ c₀) (places-more l j h) ∙ flipped-more onNumbers is i [] ts₀ c₀ (omega (arith, columns-length n d s₀)) in
       let was : col n q s ≡ getD c₀ (length is) [] =

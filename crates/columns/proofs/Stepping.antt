@@ -16,12 +16,13 @@ use Rattle.rules.specs.Tuples.{tuples, onNumbers, drained, stomped}
 use Rattle.rules.specs.declared.Coord.{Coord}
 use Rattle.laws.specs.Separators.{and-left, and-right}
 use Rattle.coordinate.specs.Coords.{noTuple}
+use Rattle.steplaws.specs.PlacesOf.{places-many}
 use Rattle.store.specs.Stores.{columnsOf, held, Stacked}
 use Rattle.columns.specs.Moves.{moves, depthMoved, enough, Ready, Moved}
 use Rattle.columns.specs.declared.Move.{Move}
 use Rattle.columns.specs.declared.Move.the-variants.{Push, Pop, Flip, Roll, Swap, Stomp}
 use Rattle.store.proofs.Standing.{columns-drop}
-use Rattle.columns.proofs.Moving.{drained-columns, places-length}
+use Rattle.columns.proofs.Moving.{drained-columns}
 
 -- what `Ready` says of a flip, of a roll and of a push
 pub flip-deep : (m d n total : ℕ) → Ready Flip m d n total → m ≤ d
@@ -74,7 +75,7 @@ module _ (l : List ℤ) (m d : ℕ) (xs s : List Float) (few : m ≤ length l) w
       let left : columnsOf (length xs′ / 4) (d - m) s ≡ drained is (tuples xs) (columnsOf n d s) .columns =
       ap (λ (z : ℕ). columnsOf (z / 4) (d - m) s) len
       ∙ sym (columns-drop n d m s)
-      ∙ ap (λ (z : ℕ). drop z (columnsOf n d s)) (sym (places-length l m few))
+      ∙ ap (λ (z : ℕ). drop z (columnsOf n d s)) (sym (places-many l m few))
       ∙ sym (drained-columns is (tuples xs) (columnsOf n d s)) in
       record { machine = λ i. record { tuples = h i; columns = left i }; beyond = refl }
 

@@ -3,17 +3,30 @@ use mathlib.Core.Path.{_≡_, refl, ap, subst}
 use Prim.Native.Nat.{ℕ, _≤_, _<_}
 use mathlib.Core.Bool.{Bool, true, false, cond}
 use mathlib.Core.List.{List, _∷_}
+use native.Mathlib.Omega.{arith}
 use borrow.Author.Tests.{lt-ltb, le-ltb, ltb-false}
 use lib.Dec.{ltb}
-use Rattle.steplaws.specs.Tests.{never}
-use lib.ListN.{length}
-use Rattle.rules.specs.Act.{Act, Numbered}
+use lib.IntN.{ℤ}
+use lib.ListN.{length, take}
+use Rattle.rules.specs.Act.{Act, Numbered, places}
 use Rattle.rules.specs.Columns.{takes, tooFew, moved}
 use Rattle.rules.specs.Check.{Traced, onPlaces, verdict}
 use Rattle.rules.specs.declared.Verdict.the-variants.{TooFew, TooMany}
+use Rattle.steplaws.specs.Tests.{never}
 use Rattle.steplaws.specs.Depth.{grown, moved-depth}
+use Rattle.steplaws.specs.PlacesOf.{places-many}
 use Rattle.depths.specs.declared.Judged.the-variants.{Few, Many, Goes}
 use Rattle.depths.specs.Judged.{judged}
+
+-- ---- how many places the first n of eight arguments have
+
+pub eight-places : (args : List ℤ) (n : ℕ) → length args ≡ 8 → n ≤ 8 → length (places (take n args)) ≡ n
+eight-places args n e h = places-many args n (omega (arith, e, h))
+
+pub popped-fits : (args : List ℤ) (n d : ℕ) → length args ≡ 8 → n ≤ 8 → length (places (take n args)) ≤ d → n ≤ d
+popped-fits args n d e h r = omega (arith, r, eight-places args n e h)
+
+-- ---- what the check makes of an act
 
 module _ (a : Act) {depth n : ℕ} (t : n ≡ takes a) where
   pub few-so : depth < n → Few ≡ judged a depth

@@ -125,7 +125,15 @@ fn insert(fresh: bool, g: &[u8], out: &mut [u8], pen: Pen, write: bool) -> Pen
 }
 
 // Adds a word of the step's own, or the scale, and after the first the globals.
-pub fn own(x: &[u8], scale: bool, fresh: bool, g: &[u8], out: &mut [u8], pen: Pen, write: bool) -> Pen
+pub fn own(
+    x: &[u8],
+    scale: bool,
+    fresh: bool,
+    g: &[u8],
+    out: &mut [u8],
+    pen: Pen,
+    write: bool,
+) -> Pen
     requires { ⌜ (scale ≡ true → 2 ≤ length (now x)) ⌝ }
     requires { ⌜ RoomFor write (ownWord scale (now x) ∷ inserted fresh (now g)) pen (now out) ⌝ }
     ensures { λ r. ⌜ Pens write (ownWord scale (now (x .entry)) ∷ inserted fresh (now (g .entry))) pen (now (out .entry)) r (now (out .exit)) ⌝ }

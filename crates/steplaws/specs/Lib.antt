@@ -2,6 +2,7 @@
 pub mod Tests
 pub mod Depth
 pub mod Rolls
+pub mod PlacesOf
 pub mod Verdict
 pub mod Places
 pub mod Keeps

@@ -3,7 +3,6 @@ use mathlib.Core.Path.{_≡_, refl, sym, ap, _∙_, subst}
 use Prim.Native.Nat.{ℕ, zero, suc, _+_, _-_, _*_, _<_, _≤_}
 use mathlib.Core.Bool.{Bool, true, false, cond}
 use mathlib.Core.List.{List, [], _∷_, _++_}
-use native.Mathlib.Nat.{suc-mul}
 use native.Mathlib.Omega.{arith}
 use borrow.Author.Tests.{ltb-true, ltb-false}
 use lib.Dec.{ltb}
@@ -12,7 +11,7 @@ use lib.Seq.{length-take-le, getD-take, getD-drop, getD-append-add, getD-set-sam
 use lib.Ieee.{Float, nan}
 use Rattle.rules.specs.Columns.{rolled, swappedTop}
 use Rattle.steplaws.specs.Rolls.{turnedTop, top-length, rolled-is}
-use Rattle.store.specs.Stores.{col, columnsOf, Stacked, Off, Exchanged, Reversed}
+use Rattle.store.specs.Stores.{col, columnsOf, Stacked, Exchanged, Reversed}
 use Rattle.store.proofs.Standing.{under, not-over, other-column, drop-same, col-same, columns-length, columns-at, columns-same, columns-are}
 
 -- ---- numbers exchanged, one after the other

@@ -1,18 +1,15 @@
 -- Four places by their number, as elements of a list of four; and arguments that name them.
-use mathlib.Core.Path.{_≡_, refl, sym, ap, _∙_, subst}
-use Prim.Native.Nat.{ℕ, zero, suc, _+_, _≤_, _<_}
+use mathlib.Core.Path.{_≡_, refl, sym, subst}
+use Prim.Native.Nat.{ℕ, zero, suc, _≤_, _<_}
 use mathlib.Core.Bool.{Bool, true}
-use mathlib.Core.List.{List, [], _∷_, _++_}
+use mathlib.Core.List.{List, [], _∷_}
 use native.Mathlib.Omega.{arith}
-use native.Mathlib.Numerals.{add-one}
 use lib.Dec.{leb, T, leb→le}
 use lib.IntN.{ℤ, pos}
-use lib.ListN.{length, getD, set, take}
-use lib.Seq.{take-suc}
+use lib.ListN.{length, getD, set}
 use Rattle.laws.specs.Separators.{and-left, and-right}
 use Rattle.rules.specs.Lists.{all}
 use Rattle.rules.specs.Record.{size}
-use Rattle.rules.specs.Act.{places}
 use Rattle.rules.specs.Check.{noPlace, place, putPlace}
 use Rattle.rules.specs.declared.Place.{Place}
 use Rattle.traces.specs.Traces.{isAxis}
@@ -65,12 +62,3 @@ axis-at (x ∷ l) zero e h =
     let own = and-left (isAxis x) _ e in
     record { low = leb→le _ _ (so (and-left (leb 1 (size x)) _ own)); high = leb→le _ _ (so (and-right (leb 1 (size x)) _ own)) }
 axis-at (x ∷ l) (suc i) e h = axis-at l i (and-right (isAxis x) _ e) (omega (arith, h))
-
-map-append : (l m : List ℤ) → places (l ++ m) ≡ places l ++ places m
-unfolding places
-map-append [] m = refl
-map-append (x ∷ l) m = ap (λ (r : List ℕ). size x ∷ r) (map-append l m)
-
-pub places-more : (l : List ℤ) (i : ℕ) → i < length l → places (take (i + 1) l) ≡ places (take i l) ++ (size (getD l i (pos 0)) ∷ [])
-unfolding places
-places-more l i h = ap (λ (k : ℕ). places (take k l)) (add-one i) ∙ ap places (take-suc l i (pos 0) h) ∙ map-append (take i l) (getD l i (pos 0) ∷ [])

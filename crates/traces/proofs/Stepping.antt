@@ -1,5 +1,5 @@
 -- One step: what each act needs, out of what the check has found.
-use mathlib.Core.Path.{_≡_, refl, sym, _∙_, subst}
+use mathlib.Core.Path.{_≡_, refl, sym, subst}
 use Prim.Native.Nat.{ℕ, _+_, _*_, _≤_, _<_, _-_}
 use mathlib.Core.Bool.{Bool, true, _&&_, not}
 use mathlib.Core.List.{List}
@@ -8,8 +8,7 @@ use native.Mathlib.Omega.{arith}
 use borrow.Author.Tests.{le-leb}
 use lib.Dec.{leb, ltb, T, leb→le, ltb→lt}
 use lib.IntN.{ℤ}
-use lib.ListN.{length, take}
-use lib.Seq.{length-take-le}
+use lib.ListN.{length}
 use Rattle.laws.specs.Separators.{and-left, and-right}
 use Rattle.rules.specs.Lists.{all}
 use Rattle.rules.specs.Decimal.{minus}
@@ -17,11 +16,11 @@ use Rattle.rules.specs.Record.{size, isPlace, isOrder}
 use Rattle.rules.specs.Act.{places, pops, popsAll, drops, adapts}
 use Rattle.rules.specs.Columns.{takes, moved}
 use Rattle.steplaws.specs.Depth.{grown}
+use Rattle.steplaws.specs.PlacesOf.{places-length}
 use Rattle.steplaws.specs.Tests.{all-so}
 use Rattle.acts.specs.declared.Act.the-variants.{Pushes, Pops, PopsAll, Flips, Rolls, Orders}
 use Rattle.acts.specs.Doings.{does, able}
 use Rattle.traces.specs.Traces.{Traced, machine, depth, isAxis, Whole, Moved, Ready}
-use Rattle.traces.proofs.Tracing.{places-length}
 
 so : {b : Bool} → b ≡ true → T b
 so e = subst T (sym e) tt
@@ -83,11 +82,3 @@ moves-none w = record { whole = w; same = refl }
 pub moves-no-place : {t : Traced} {back : Bool} {l : List ℤ} → Whole t → Moved (adapts back l) t t
 unfolding moved machine
 moves-no-place w = record { whole = w; same = refl }
-
--- ---- how many places
-
-pub places-many : (args : List ℤ) (n : ℕ) → length args ≡ 8 → n ≤ 8 → length (places (take n args)) ≡ n
-places-many args n e h = places-length (take n args) ∙ length-take-le n args (omega (arith, e, h))
-
-pub popped-fits : (args : List ℤ) (n d : ℕ) → length args ≡ 8 → n ≤ 8 → length (places (take n args)) ≤ d → n ≤ d
-popped-fits args n d e h r = omega (arith, r, places-many args n e h)

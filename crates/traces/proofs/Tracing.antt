@@ -6,20 +6,17 @@ use native.Mathlib.Nat.{add-zero, add-assoc}
 use native.Mathlib.Omega.{arith}
 use native.Mathlib.Numerals.{add-one}
 use lib.IntN.{ℤ, pos}
-use lib.ListN.{length, getD, set, take, drop, length-set, length-map, length-drop}
-use lib.Seq.{drop-cons, drop-drop, drop-set-lt, drop-set-add, getD-drop, getD-set-same, length-take-le, take-all}
+use lib.ListN.{length, getD, set, take, drop, length-set, length-drop}
+use lib.Seq.{drop-cons, drop-drop, drop-set-lt, drop-set-add, getD-drop, getD-set-same, take-all}
 use Rattle.rules.specs.Record.{size}
 use Rattle.rules.specs.Act.{places, pushes, pops, flips}
 use Rattle.rules.specs.Columns.{Machine, moved, pushed, popped, flipped}
 use Rattle.rules.specs.Check.{noPlace, place, putPlace, onPlaces}
 use Rattle.rules.specs.declared.Place.{Place}
+use Rattle.steplaws.specs.PlacesOf.{places-many, places-more}
 use Rattle.steplaws.specs.Walk.{pushed-more, popped-more, flipped-more}
 use Rattle.traces.specs.Traces.{Traced, machine, AxisAt, Whole, Moved}
-use Rattle.traces.proofs.Four.{place-is, put-is, places-more}
-
-pub places-length : (l : List ℤ) → length (places l) ≡ length l
-unfolding places
-places-length l = length-map l size
+use Rattle.traces.proofs.Four.{place-is, put-is}
 
 -- what lies from a place on, with that place stored
 pub drop-set : (l : List Place) (j : ℕ) (v : Place) → j < length l → drop j (set l j v) ≡ v ∷ drop (suc j) l
@@ -140,7 +137,7 @@ flip-turn {tuple₀} {columns₀} {tuple} {columns} {top} {i} {k} {l} p h room m
     let x = getD tuple k noPlace in
     let is = places (take i l) in
     let j = size (getD l i (pos 0)) in
-    let so-many : length is ≡ i = places-length (take i l) ∙ length-take-le i l (p .ahead) in
+    let so-many : length is ≡ i = places-many l i (p .ahead) in
     let deep : length is < length (drop top columns₀) = rw (length-drop, so-many, most) (omega (arith, h, room)) in
     let old : v ≡ getD (drop top columns₀) i noPlace =
     first columns (top + i) noPlace

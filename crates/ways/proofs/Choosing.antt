@@ -32,11 +32,11 @@ use Rattle.columns.specs.declared.Move.{Move}
 use Rattle.columns.specs.declared.Move.the-variants.{Push, Pop, Flip, Roll, Swap, Stomp}
 use Rattle.columns.proofs.Acting.{push-acted, pop-acted, popAll-acted, flip-acted, roll-acted, swap-acted, moves-depth}
 use Rattle.store.proofs.Standing.{held-depth}
+use Rattle.steplaws.specs.PlacesOf.{places-length}
 use Rattle.steplaws.specs.Rolls.{rolled-again}
 use Rattle.ways.specs.Ways.{goes, depthGone, able, Chosen, Acted, turns}
 use Rattle.ways.specs.declared.Way.{Way}
 use Rattle.ways.specs.declared.Way.the-variants.{Moves, Orders, Adapts, Stays}
-use Rattle.ways.proofs.Depths.{length-places}
 
 -- ---- a roll of a full turn
 
@@ -78,25 +78,25 @@ module _ (l : List ℤ) (d : ℕ) where
   unfolding does goes able enough moves starved tooFew takes
   way-popAll-few h =
       record {
-        same = λ m e. starved-acted (rules.popsAll (places l)) m (lt-ltb (length (m .columns)) (length (places l)) (omega (arith, length-places l)));
+        same = λ m e. starved-acted (rules.popsAll (places l)) m (lt-ltb (length (m .columns)) (length (places l)) (omega (arith, places-length l)));
         ready = refl;
       }
 
   pub way-popAll : length l ≤ d → Chosen (does PopsAll l) l d (Moves Pop)
   unfolding does goes able enough
-  way-popAll h = record { same = λ m e. popAll-acted m (places l) (omega (arith, length-places l)); ready = refl }
+  way-popAll h = record { same = λ m e. popAll-acted m (places l) (omega (arith, places-length l)); ready = refl }
 
   pub way-flip-few : d < length l → Chosen (does Flips l) l d (Moves Stomp)
   unfolding does goes able enough moves starved tooFew takes
   way-flip-few h =
       record {
-        same = λ m e. starved-acted (rules.flips (places l)) m (lt-ltb (length (m .columns)) (length (places l)) (omega (arith, length-places l)));
+        same = λ m e. starved-acted (rules.flips (places l)) m (lt-ltb (length (m .columns)) (length (places l)) (omega (arith, places-length l)));
         ready = refl;
       }
 
   pub way-flip : length l ≤ d → Chosen (does Flips l) l d (Moves Flip)
   unfolding does goes able enough
-  way-flip h = record { same = λ m e. flip-acted m (places l) (omega (arith, length-places l)); ready = le-leb (length l) d h }
+  way-flip h = record { same = λ m e. flip-acted m (places l) (omega (arith, places-length l)); ready = le-leb (length l) d h }
 
   pub way-roll-few : (w r : ℕ) → d < w → Chosen (does (Rolls w r) l) l d (Moves Stomp)
   unfolding does goes able enough moves starved tooFew takes
@@ -140,7 +140,7 @@ way-found d {x} {depth} {w} e h = subst (λ (a : Act). Chosen (does a (take (d .
 module _ (a : rules.Act) (l : List ℤ) (d : ℕ) (w : Way) (h : Chosen a l d w) where
   goes-depth : (w : Way) (m : State) → length (goes w l m .columns) ≡ depthGone w (length l) (length (m .columns))
   unfolding goes depthGone
-  goes-depth (Moves mv) m = moves-depth m mv (places l) ∙ ap (λ (n : ℕ). depthMoved mv n (length (m .columns))) (length-places l)
+  goes-depth (Moves mv) m = moves-depth m mv (places l) ∙ ap (λ (n : ℕ). depthMoved mv n (length (m .columns))) (places-length l)
   goes-depth (Orders back) m = refl
   goes-depth (Adapts back) m = refl
   goes-depth Stays m = refl

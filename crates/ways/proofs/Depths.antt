@@ -7,13 +7,14 @@ use native.Mathlib.Omega.{arith}
 use borrow.Author.Tests.{lt-ltb, le-ltb}
 use lib.Dec.{ltb, eqb}
 use lib.IntN.{ℤ}
-use lib.ListN.{length, take, length-map}
+use lib.ListN.{length, take}
 use lib.Seq.{length-take-le}
 use Rattle.rules.specs.Act as rules
 use Rattle.rules.specs.Act.{places}
 use Rattle.rules.specs.Columns.{takes, tooFew}
 use Rattle.rules.specs.Tuples.{countsNone}
 use Rattle.steplaws.specs.Depth.{grown, left, depthAfter}
+use Rattle.steplaws.specs.PlacesOf.{places-many}
 use Rattle.acts.specs.Doings.{does, doing}
 use Rattle.acts.specs.declared.Act.{Act}
 use Rattle.acts.specs.declared.Act.the-variants.{Pushes, Pops, PopsAll, Flips, Rolls, Swaps, Drops, Orders, Adapts}
@@ -22,10 +23,6 @@ use Rattle.acts.specs.declared.Doing.{Doing}
 same : (b : Bool) (x : ℕ) → cond b x x ≡ x
 same true x = refl
 same false x = refl
-
-pub length-places : (l : List ℤ) → length (places l) ≡ length l
-unfolding places
-length-places l = length-map l _
 
 -- the arguments of a doing
 pub args-length : (d : Doing) → length (d .args) ≡ 8 → d .n ≤ 8 → length (take (d .n) (d .args)) ≡ d .n
@@ -37,7 +34,7 @@ module _ (d : Doing) (full : length (d .args) ≡ 8) (few : d .n ≤ 8) (depth :
 
   long : length (places l) ≡ d .n
   unfolding l
-  long = length-places l ∙ args-length d full few
+  long = places-many (d .args) (d .n) (omega (arith, full, few))
 
   -- of the act that a match found
   by : {x : Act} {A : Type 0} (f : rules.Act → A) → d .act ≡ x → f (does x l) ≡ f (doing d)

@@ -4,9 +4,9 @@ use Rattle.steplaws.specs.Lengths.{tuples-length}
 use Rattle.store.proofs.Standing.{under}
 use Rattle.rules.specs.Tuples.{tuples, stored, column}
 use native.Mathlib.Omega.{arith}
-use lib.ListN.{length, getD, take, drop}
-use Prim.Native.Nat.{ℕ, _+_, _-_, _*_, _/_, _≤_, _<_}
-use mathlib.Core.Path.{_≡_, refl, sym, ap, _∙_}
+use lib.ListN.{length, take, drop}
+use Prim.Native.Nat.{ℕ, _-_, _*_, _/_}
+use mathlib.Core.Path.{_≡_, refl, ap, _∙_}
 use borrow.Author.Needs.{needs}
 use Rattle.columns.proofs.flip.Statement.{statement}
 use Rattle.columns.proofs.flip.Tie as tie

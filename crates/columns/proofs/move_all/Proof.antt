@@ -2,9 +2,9 @@ use Rattle.columns.proofs.Stepping.{flip-deep, roll-deep, roll-times, p
 use Rattle.columns.specs.declared.Move.{Move}
 use Rattle.columns.specs.Moves.{Ready}
 use lib.Seq.{length-take-le}
-use lib.ListN.{length, take}
+use lib.ListN.{length}
 use Prim.Native.Nat.{ℕ, _+_, _*_, _/_, _≤_}
-use mathlib.Core.Path.{_≡_, sym, subst}
+use mathlib.Core.Path.{sym, subst}
 use native.Mathlib.Omega.{arith}
 use borrow.Author.Needs.{needs}
 use Rattle.columns.proofs.move_all.Statement.{statement}

@@ -1,11 +1,11 @@
 use Rattle.rules.specs.Act.{places}
 use Rattle.columns.proofs.Moving.{popsLeft, pop-none, pop-turn, pop-stops, pop-end}
 use Rattle.store.proofs.Standing.{under}
-use Rattle.store.specs.Stores.{columnsOf, col}
+use Rattle.store.specs.Stores.{columnsOf}
 use Rattle.rules.specs.Tuples.{State, tuples, drained, stored}
 use native.Mathlib.Omega.{arith}
-use lib.ListN.{length, getD, take, drop}
-use Prim.Native.Nat.{ℕ, _+_, _-_, _*_, _/_, _≤_, _<_}
+use lib.ListN.{length, take, drop}
+use Prim.Native.Nat.{ℕ, _-_, _*_, _/_}
 use mathlib.Core.Path.{_≡_, refl, sym, ap, _∙_}
 use borrow.Author.Needs.{needs}
 use Rattle.columns.proofs.pop.Statement.{statement}

@@ -3,9 +3,8 @@ use Rattle.steplaws.specs.Lengths.{tuples-length}
 use Rattle.store.proofs.Standing.{under}
 use Rattle.rules.specs.Tuples.{tuples}
 use native.Mathlib.Omega.{arith}
-use lib.ListN.{length, getD, take, drop}
-use Prim.Native.Nat.{ℕ, _+_, _-_, _*_, _/_, _≤_, _<_}
-use mathlib.Core.Path.{_≡_, refl, sym, ap, _∙_}
+use lib.ListN.{length}
+use Prim.Native.Nat.{_+_, _-_, _/_}
 use borrow.Author.Needs.{needs}
 use Rattle.columns.proofs.push.Statement.{statement}
 use Rattle.columns.proofs.push.Tie as tie

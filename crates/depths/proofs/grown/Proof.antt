@@ -5,7 +5,7 @@ use Rattle.rules.specs.Columns.{takes}
 use Rattle.steplaws.specs.Depth.{grown}
 use Rattle.acts.specs.declared.Act as code
 use Rattle.acts.specs.Doings.{does, doing}
-use Rattle.traces.proofs.Stepping.{places-many, popped-fits}
+use Rattle.depths.proofs.Judging.{eight-places, popped-fits}
 use borrow.Author.Needs.{needs}
 use Rattle.depths.proofs.grown.Statement.{statement}
 use Rattle.depths.proofs.grown.Tie as tie
@@ -50,15 +50,15 @@ enum-known-act-3 c = search needs
 
 returns : tie.Need-returns
 unfolding doing does grown
-returns c = rw (c .before .enum-told .given .1, places-many (c .before .before .before .args .d .args) (c .before .before .before .args .d .n) (sym (length-map (c .before .before .before .args .d .args) _) ∙ c .before .before .before .good .0 .1 .1 .1 .0 .1 .0 .1) (c .before .before .before .pre .0)) refl
+returns c = rw (c .before .enum-told .given .1, eight-places (c .before .before .before .args .d .args) (c .before .before .before .args .d .n) (sym (length-map (c .before .before .before .args .d .args) _) ∙ c .before .before .before .good .0 .1 .1 .1 .0 .1 .0 .1) (c .before .before .before .pre .0)) refl
 
 returns-2 : tie.Need-returns-2
 unfolding doing does grown
-returns-2 c = rw (c .before .enum-told2 .given .1, places-many (c .before .before .before .args .d .args) (c .before .before .before .args .d .n) (sym (length-map (c .before .before .before .args .d .args) _) ∙ c .before .before .before .good .0 .1 .1 .1 .0 .1 .0 .1) (c .before .before .before .pre .0)) refl
+returns-2 c = rw (c .before .enum-told2 .given .1, eight-places (c .before .before .before .args .d .args) (c .before .before .before .args .d .n) (sym (length-map (c .before .before .before .args .d .args) _) ∙ c .before .before .before .good .0 .1 .1 .1 .0 .1 .0 .1) (c .before .before .before .pre .0)) refl
 
 returns-3 : tie.Need-returns-3
 unfolding doing does grown
-returns-3 c = rw (c .before .enum-told3 .given .1, places-many (c .before .before .before .args .d .args) (c .before .before .before .args .d .n) (sym (length-map (c .before .before .before .args .d .args) _) ∙ c .before .before .before .good .0 .1 .1 .1 .0 .1 .0 .1) (c .before .before .before .pre .0)) refl
+returns-3 c = rw (c .before .enum-told3 .given .1, eight-places (c .before .before .before .args .d .args) (c .before .before .before .args .d .n) (sym (length-map (c .before .before .before .args .d .args) _) ∙ c .before .before .before .good .0 .1 .1 .1 .0 .1 .0 .1) (c .before .before .before .pre .0)) refl
 
 returns-4 : tie.Need-returns-4
 unfolding doing does grown

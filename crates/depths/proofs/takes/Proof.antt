@@ -2,7 +2,7 @@ use mathlib.Core.Path.{refl, sym, _∙_}
 use lib.ListN.{length-map}
 use Rattle.rules.specs.Columns.{takes}
 use Rattle.acts.specs.Doings.{does, doing}
-use Rattle.traces.proofs.Stepping.{places-many}
+use Rattle.depths.proofs.Judging.{eight-places}
 use borrow.Author.Needs.{needs}
 use Rattle.depths.proofs.takes.Statement.{statement}
 use Rattle.depths.proofs.takes.Tie as tie
@@ -40,15 +40,15 @@ returns c = rw (c .enum-told .given .1) refl
 
 returns-2 : tie.Need-returns-2
 unfolding doing does takes
-returns-2 c = rw (c .enum-told2 .given .1) (sym (places-many _ _ (sym (length-map (c .before .before .args .d .args) _) ∙ c .before .before .good .0 .1 .1 .1 .0 .1 .0 .1) (c .before .before .pre)))
+returns-2 c = rw (c .enum-told2 .given .1) (sym (eight-places _ _ (sym (length-map (c .before .before .args .d .args) _) ∙ c .before .before .good .0 .1 .1 .1 .0 .1 .0 .1) (c .before .before .pre)))
 
 returns-3 : tie.Need-returns-3
 unfolding doing does takes
-returns-3 c = rw (c .enum-told3 .given .1) (sym (places-many _ _ (sym (length-map (c .before .before .args .d .args) _) ∙ c .before .before .good .0 .1 .1 .1 .0 .1 .0 .1) (c .before .before .pre)))
+returns-3 c = rw (c .enum-told3 .given .1) (sym (eight-places _ _ (sym (length-map (c .before .before .args .d .args) _) ∙ c .before .before .good .0 .1 .1 .1 .0 .1 .0 .1) (c .before .before .pre)))
 
 returns-4 : tie.Need-returns-4
 unfolding doing does takes
-returns-4 c = rw (c .enum-told4 .given .1) (sym (places-many _ _ (sym (length-map (c .before .before .args .d .args) _) ∙ c .before .before .good .0 .1 .1 .1 .0 .1 .0 .1) (c .before .before .pre)))
+returns-4 c = rw (c .enum-told4 .given .1) (sym (eight-places _ _ (sym (length-map (c .before .before .args .d .args) _) ∙ c .before .before .good .0 .1 .1 .1 .0 .1 .0 .1) (c .before .before .pre)))
 
 returns-5 : tie.Need-returns-5
 unfolding doing does takes

@@ -1,12 +1,10 @@
 use mathlib.Core.Path.{subst}
 use Rattle.store.proofs.Turning.{exchange-none, exchange-turn}
 use Rattle.store.specs.Stores.{Exchanged}
-use mathlib.Core.List.{List}
-use lib.Ieee.{Float, nan}
 use native.Mathlib.Omega.{arith}
-use lib.ListN.{length, getD, set, take, drop, length-set}
-use Prim.Native.Nat.{ℕ, _+_, _-_, _*_, _/_, _≤_, _<_}
-use mathlib.Core.Path.{_≡_, refl, sym, ap, _∙_}
+use lib.ListN.{length, set, length-set}
+use Prim.Native.Nat.{ℕ, _+_, _-_, _≤_}
+use mathlib.Core.Path.{_≡_, refl, _∙_}
 use borrow.Author.Needs.{needs}
 use Rattle.store.proofs.exchange.Statement.{statement}
 use Rattle.store.proofs.exchange.Tie as tie

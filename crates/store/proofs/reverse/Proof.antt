@@ -1,14 +1,7 @@
 use Rattle.store.proofs.Turning.{Reversing, reverse-none, reverse-turn, reverse-end}
-use Rattle.steplaws.specs.Lengths.{tuples-length}
-use Rattle.store.proofs.Standing.{under, not-over}
-use Rattle.store.specs.Stores.{columnsOf, col, Exchanged}
-use Rattle.rules.specs.Tuples.{tuples, drained}
-use mathlib.Core.List.{List}
-use lib.Ieee.{Float, nan}
+use Rattle.store.proofs.Standing.{under}
 use native.Mathlib.Omega.{arith}
-use lib.ListN.{length, getD, set, take, drop, length-set}
-use Prim.Native.Nat.{ℕ, _+_, _-_, _*_, _/_, _≤_, _<_}
-use mathlib.Core.Path.{_≡_, refl, sym, ap, _∙_, subst}
+use Prim.Native.Nat.{_-_}
 use borrow.Author.Needs.{needs}
 use Rattle.store.proofs.reverse.Statement.{statement}
 use Rattle.store.proofs.reverse.Tie as tie
