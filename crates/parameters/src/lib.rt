@@ -1,4 +1,5 @@
 // Cutting a step into its parameters. The Rust is `split_into_parameters` of src/token/mod.rs.
+use normal::normal_of;
 use rules::Written;
 use table::Entered;
 use table::Part;
@@ -6,7 +7,6 @@ use table::enter;
 use table::part_at;
 use text::in_domain;
 use text::put;
-use token::normal_of;
 use walk::Kind;
 use walk::is_blank;
 use walk::is_lead;

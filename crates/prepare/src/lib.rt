@@ -2,6 +2,7 @@
 use judge::Judged;
 use judge::judge;
 use judge::refused;
+use normal::normal_of;
 use parameters::table_of;
 use rules::Cursor;
 use rules::Found;
@@ -13,7 +14,6 @@ use split::fault_of;
 use split::step_at;
 use text::in_domain;
 use text::put;
-use token::normal_of;
 use walk::Kind;
 use walk::is_blank;
 use walk::is_lead;

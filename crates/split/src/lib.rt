@@ -1,4 +1,5 @@
 // Splitting a definition into its steps. The Rust is `split_into_steps` of src/token/mod.rs.
+use normal::normal_of;
 use rules::Cursor;
 use rules::Found;
 use rules::Written;
@@ -9,7 +10,6 @@ use text::put;
 use text::replace_into;
 use text::squeeze_into;
 use text::trim;
-use token::normal_of;
 use walk::is_blank;
 use walk::is_lead;
 use walk::lead_end;

@@ -1,4 +1,4 @@
-use Rattle.token.proofs.Weighing.{text-weight}
+use Rattle.normal.proofs.Weighing.{text-weight}
 use native.Mathlib.Omega.{arith}
 use Rattle.text.proofs.Writing.{wrote-fits, wrote-counts}
 use Rattle.parameters.proofs.Answering.{words-room, front-spelt, front-small, parameters-so}

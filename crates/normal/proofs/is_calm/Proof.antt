@@ -2,10 +2,10 @@ use mathlib.Core.Path.{sym, _∙_}
 use Prim.Native.Nat.{_-_}
 use lib.ListN.{length}
 use borrow.Author.Tests.{not-true, not-false}
-use Rattle.token.proofs.Calming.{Calms, calms-none, calms-stop, calms-more, calms-end}
+use Rattle.normal.proofs.Calming.{Calms, calms-none, calms-stop, calms-more, calms-end}
 use borrow.Author.Needs.{needs}
-use Rattle.token.proofs.is_calm.Statement.{statement}
-use Rattle.token.proofs.is_calm.Tie as tie
+use Rattle.normal.proofs.is_calm.Statement.{statement}
+use Rattle.normal.proofs.is_calm.Tie as tie
 
 abbrev Inv-loop : tie.InvT-loop
 Inv-loop text last₀ i₀ last i = Calms text last i

@@ -3,11 +3,11 @@ use borrow.Author.Needs.{needs}
 use Prim.Native.Nat.{_-_, _+_}
 use native.Mathlib.Omega.{arith}
 use lib.ListN.{length, take}
-use Rattle.token.proofs.Running.{Running, running-start, running-more, running-last, running-asks, running-next, running-end}
+use Rattle.normal.proofs.Running.{Running, running-start, running-more, running-last, running-asks, running-next, running-end}
 use Rattle.laws.specs.Sizes.{replacements-light}
 use Rattle.rules.specs.Normal.{replacements, run}
-use Rattle.token.proofs.run_all.Statement.{statement}
-use Rattle.token.proofs.run_all.Tie as tie
+use Rattle.normal.proofs.run_all.Statement.{statement}
+use Rattle.normal.proofs.run_all.Tie as tie
 
 abbrev Inv-loop : tie.InvT-loop
 Inv-loop rules a₀ n b₀ at₀ m₀ a b at m = Running rules (run replacements (take n a₀)) a₀ b₀ at m a b

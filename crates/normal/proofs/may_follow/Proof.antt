@@ -1,8 +1,8 @@
 use mathlib.Core.Path.{refl}
 use borrow.Author.Tests.{eq-eqb, ne-eqb, lt-ltb, le-ltb}
-use Rattle.token.specs.Calm.{follows}
-use Rattle.token.proofs.may_follow.Statement.{statement}
-use Rattle.token.proofs.may_follow.Tie as tie
+use Rattle.normal.specs.Calm.{follows}
+use Rattle.normal.proofs.may_follow.Statement.{statement}
+use Rattle.normal.proofs.may_follow.Tie as tie
 
 returns : tie.Need-returns
 unfolding follows

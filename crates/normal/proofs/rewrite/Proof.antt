@@ -4,10 +4,10 @@ use mathlib.Core.Path.{sym}
 use denote.Ref.{now}
 use native.Mathlib.Omega.{arith}
 use lib.Seq.{length-take-le}
-use Rattle.token.proofs.Running.{rewrite-none}
+use Rattle.normal.proofs.Running.{rewrite-none}
 use Rattle.text.proofs.Writing.{wrote-front, wrote-counts, wrote-holds}
-use Rattle.token.proofs.rewrite.Statement.{statement}
-use Rattle.token.proofs.rewrite.Tie as tie
+use Rattle.normal.proofs.rewrite.Statement.{statement}
+use Rattle.normal.proofs.rewrite.Tie as tie
 
 slice-reshare-prefix-find : tie.Need-slice-reshare-prefix-find
 slice-reshare-prefix-find c = search needs

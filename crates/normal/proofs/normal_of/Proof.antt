@@ -1,8 +1,8 @@
 use mathlib.Core.Path.{sym, _∙_}
-use Rattle.token.proofs.Calming.{calm-room, calm-holds}
+use Rattle.normal.proofs.Calming.{calm-room, calm-holds}
 use borrow.Author.Needs.{needs}
-use Rattle.token.proofs.normal_of.Statement.{statement}
-use Rattle.token.proofs.normal_of.Tie as tie
+use Rattle.normal.proofs.normal_of.Statement.{statement}
+use Rattle.normal.proofs.normal_of.Tie as tie
 
 is-calm-requires : tie.Need-is-calm-requires
 is-calm-requires c κs = search needs

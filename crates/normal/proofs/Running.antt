@@ -18,7 +18,7 @@ use Rattle.text.specs.Writing.{Holds}
 use Rattle.text.specs.Places.{ahead}
 use Rattle.text.proofs.Writing.{wrote-front, wrote-fits, holds-front}
 use Rattle.text.proofs.Replacing.{replace-none}
-use Rattle.token.specs.Table.{table}
+use Rattle.normal.specs.Table.{table}
 
 -- what the code makes of the bytes at `at`
 abbrev pub oldAt : Bytes → ℕ → Bytes

@@ -2,10 +2,10 @@
 use borrow.Author.Needs.{needs}
 use denote.Ref.{now}
 use native.Mathlib.Omega.{arith}
-use Rattle.token.proofs.Weighing.{opened-room, begun-room, begun-wrote}
+use Rattle.normal.proofs.Weighing.{opened-room, begun-room, begun-wrote}
 use Rattle.text.proofs.Writing.{wrote-fits, wrote-counts}
-use Rattle.token.proofs.cleaned.Statement.{statement}
-use Rattle.token.proofs.cleaned.Tie as tie
+use Rattle.normal.proofs.cleaned.Statement.{statement}
+use Rattle.normal.proofs.cleaned.Tie as tie
 
 trim-requires : tie.Need-trim-requires
 trim-requires c κs = search needs

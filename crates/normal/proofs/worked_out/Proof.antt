@@ -2,13 +2,13 @@
 use borrow.Author.Needs.{needs}
 use mathlib.Core.Path.{refl, _∙_}
 use denote.Ref.{now}
-use Rattle.token.proofs.Weighing.{run-room, squeezed-room, normal-holds}
-use Rattle.token.specs.Table.{table}
+use Rattle.normal.proofs.Weighing.{run-room, squeezed-room, normal-holds}
+use Rattle.normal.specs.Table.{table}
 use Rattle.text.proofs.Writing.{wrote-fits, wrote-counts}
 use Rattle.rules.specs.Normal.{becomes, subscriptBecomes, replacements}
 use Rattle.rules.specs.Ascii.{ascii}
-use Rattle.token.proofs.worked_out.Statement.{statement}
-use Rattle.token.proofs.worked_out.Tie as tie
+use Rattle.normal.proofs.worked_out.Statement.{statement}
+use Rattle.normal.proofs.worked_out.Tie as tie
 
 cleaned-requires : tie.Need-cleaned-requires
 cleaned-requires c κs = search needs

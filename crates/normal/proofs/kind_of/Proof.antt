@@ -1,8 +1,8 @@
 use mathlib.Core.Path.{refl}
 use borrow.Author.Tests.{eq-eqb, ne-eqb, lt-ltb, le-ltb}
-use Rattle.token.specs.Calm.{kind}
-use Rattle.token.proofs.kind_of.Statement.{statement}
-use Rattle.token.proofs.kind_of.Tie as tie
+use Rattle.normal.specs.Calm.{kind}
+use Rattle.normal.proofs.kind_of.Statement.{statement}
+use Rattle.normal.proofs.kind_of.Tie as tie
 
 returns : tie.Need-returns
 unfolding kind

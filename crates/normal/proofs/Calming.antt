@@ -18,7 +18,7 @@ use Rattle.laws.specs.Sizes.{weight, length-weight}
 use Rattle.text.specs.Writing.{Wrote, Holds}
 use Rattle.text.proofs.Writing.{wrote-holds}
 use Rattle.text.proofs.Squeezing.{left, left-end, left-after, left-word, left-space, left-start}
-use Rattle.token.specs.Calm.{kind, follows, calmFrom}
+use Rattle.normal.specs.Calm.{kind, follows, calmFrom}
 
 -- ---- the first byte
 
