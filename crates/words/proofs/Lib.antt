@@ -1,4 +1,2 @@
-pub mod Putting
-pub mod Going
-pub mod Numbers
+pub mod Flagging
 pub mod Texts

@@ -21,8 +21,10 @@ use Rattle.text.specs.Writing.{WroteAt}
 use Rattle.writelaws.specs.Writing.{listing, pair, flagOf, letter, endingOf, fromWord, toWord, nameWord, argWords, markWord, markWords, stepWords, writing}
 use Rattle.writelaws.specs.Calm.{so, so-at}
 use Rattle.writelaws.specs.Sayings.{rising-places}
-use Rattle.words.proofs.Putting.{room-as, as-written, first-room, then-room, both-written}
-use Rattle.words.specs.Parts.{Room, rest, isAxis, lettered, fromText, toText, argText, marked, markText}
+use Rattle.numerals.proofs.Putting.{room-as, as-written, first-room, then-room, both-written}
+use Rattle.numerals.specs.Parts.{Room}
+use Rattle.adaptwords.specs.Parts.{isAxis, fromText, toText}
+use Rattle.words.specs.Parts.{argText, marked, markText}
 
 -- ---- the arguments of each operator
 
@@ -122,52 +124,7 @@ pub rest-adapt : {k : ℕ} → k ≤ 10 → 1 < k → (k ≡ 2 → ⊥) → (k �
 unfolding operatorOf
 rest-adapt {k} h l a b c d e f g i = let z : k ≡ 10 = past-nine k h (past-five k l a b c d) e f g i in rw z
 
--- ---- letters and endings
-
-pub letters-rest : (begun : Bool) (l : List ℤ) → map letter l ≡ rest lettered begun l
-unfolding rest lettered
-letters-rest begun [] = refl
-letters-rest begun (x ∷ l) = ap (λ (t : Bytes). letter x ∷ t) (letters-rest true l)
-
-pub axis-least : (x : ℤ) {m : ℕ} → m ≡ size x → isAxis x ≡ true → 1 ≤ m
-unfolding isAxis
-axis-least x e h = omega (arith, leb-true 1 (size x) (and-left (leb 1 (size x)) _ h))
-
-pub axis-most : (x : ℤ) {m : ℕ} → m ≡ size x → isAxis x ≡ true → m - 1 < 4
-unfolding isAxis
-axis-most x e h = omega (arith, leb-true 1 (size x) (and-left (leb 1 (size x)) _ h), leb-true (size x) 4 (and-right (leb 1 (size x)) _ h))
-
-pub letter-turned : (x : ℤ) {m r : ℕ} → m ≡ size x → minus x ≡ true → r ≡ getD (119 ∷ 115 ∷ 100 ∷ 112 ∷ []) (m - 1) 0 → r ≡ letter x
-unfolding letter ascii
-letter-turned x e s h = rw (s, ← e) h
-
-pub letter-plain : (x : ℤ) {m r : ℕ} → m ≡ size x → minus x ≡ false → r ≡ getD (101 ∷ 110 ∷ 117 ∷ 102 ∷ []) (m - 1) 0 → r ≡ letter x
-unfolding letter ascii
-letter-plain x e s h = rw (s, ← e) h
-
-pub no-ending : {k : ℕ} → k ≡ 0 → endingOf k ≡ []
-unfolding endingOf
-no-ending e = rw e
-
-pub deg-ending : {k : ℕ} → k ≡ 1 → endingOf k ≡ 95 ∷ 100 ∷ 101 ∷ 103 ∷ []
-unfolding endingOf ascii
-deg-ending e = rw e
-
-pub gon-ending : (k : ℕ) → (k ≡ 0 → ⊥) → (k ≡ 1 → ⊥) → endingOf k ≡ 95 ∷ 103 ∷ 111 ∷ 110 ∷ []
-unfolding endingOf ascii
-gon-ending zero a b = absurd (a refl)
-gon-ending (suc zero) a b = absurd (b refl)
-gon-ending (suc (suc k)) a b = refl
-
 -- ---- the words of `adapt`
-
-pub from-is : (code : ℕ) → fromText code ≡ (32 ∷ 102 ∷ 114 ∷ 111 ∷ 109 ∷ 61 ∷ 101 ∷ 110 ∷ 117 ∷ 102 ∷ []) ++ endingOf (code / 3)
-unfolding fromText ascii
-from-is code = refl
-
-pub to-is : (code : ℕ) (l : List ℤ) → toText code l ≡ (32 ∷ 116 ∷ 111 ∷ 61 ∷ []) ++ (map letter l ++ endingOf (code % 3))
-unfolding toText ascii
-to-is code l = refl
 
 pub adapt-is : (l : List ℤ) {code : ℕ} → code ≡ size (getD l 4 (pos 0)) → argText Adapt l ≡ fromText code ++ toText code (take 4 l)
 unfolding argText argWords afterEach pair fromWord toWord fromText toText arg ascii

@@ -32,10 +32,11 @@ use Rattle.writelaws.specs.Records.{made-keeps}
 use Rattle.writelaws.specs.Written.{writing-short}
 use Rattle.writelaws.specs.Faithful.{table-short}
 use Rattle.writelaws.specs.Returning.{not-18}
-use Rattle.words.specs.Parts.{Room, rest, argText, markText, parted}
-use Rattle.words.proofs.Putting.{room-as, as-written, first-room, then-room, both-written}
-use Rattle.words.proofs.Numbers.{put-written}
-use Rattle.words.proofs.Going.{Going, going-room, going-turn}
+use Rattle.numerals.specs.Parts.{Room, rest}
+use Rattle.words.specs.Parts.{argText, markText, parted}
+use Rattle.numerals.proofs.Putting.{room-as, as-written, first-room, then-room, both-written}
+use Rattle.numerals.proofs.Numbers.{put-written}
+use Rattle.numerals.proofs.Going.{Going, going-room, going-turn}
 use Rattle.words.proofs.Texts.{step-is}
 
 -- ---- a record

@@ -20,7 +20,8 @@ ghost use Rattle.rules.specs.Record.{made, refusal18, listed};
 ghost use Rattle.laws.specs.Entry.{Lends};
 ghost use Rattle.text.specs.Writing.{WroteAt};
 ghost use Rattle.writelaws.specs.Writing.{writing, tableWriting, write};
-ghost use Rattle.words.specs.Parts.{Room, parted};
+ghost use Rattle.numerals.specs.Parts.{Room};
+ghost use Rattle.words.specs.Parts.{parted};
 
 // The text of a record.
 fn step(s: Step, out: &mut [u8], o: usize) -> usize

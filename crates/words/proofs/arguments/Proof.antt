@@ -1,6 +1,6 @@
 use Rattle.words.proofs.Texts.{push-text, pop-text, flip-text, roll-text, unroll-text, order-text, swap-text, drop-text, flags-text, flags-rule, rest-adapt, adapt-rule, adapt-text}
-use Rattle.words.proofs.Numbers.{put-written}
-use Rattle.words.proofs.Putting.{room-as, as-written}
+use Rattle.numerals.proofs.Numbers.{put-written}
+use Rattle.numerals.proofs.Putting.{room-as, as-written}
 use mathlib.Core.Path.{sym}
 use borrow.Author.Needs.{needs}
 use Rattle.words.proofs.arguments.Statement.{statement}

@@ -1,7 +1,7 @@
 use Rattle.writelaws.specs.Writing.{listing}
 use denote.Ref.{now}
-use Rattle.words.proofs.Numbers.{put-written}
-use Rattle.words.proofs.Putting.{first-room, then-room, both-written}
+use Rattle.numerals.proofs.Numbers.{put-written}
+use Rattle.numerals.proofs.Putting.{first-room, then-room, both-written}
 use borrow.Author.Needs.{needs}
 use Rattle.words.proofs.keyed.Statement.{statement}
 use Rattle.words.proofs.keyed.Tie as tie

@@ -1,6 +1,6 @@
 use Rattle.words.proofs.Texts.{push-name, pop-name, axisswap-name, adapt-name, rest-name}
-use Rattle.words.proofs.Numbers.{put-written}
-use Rattle.words.proofs.Putting.{room-as, as-written}
+use Rattle.numerals.proofs.Numbers.{put-written}
+use Rattle.numerals.proofs.Putting.{room-as, as-written}
 use mathlib.Core.Path.{sym}
 use borrow.Author.Needs.{needs}
 use Rattle.words.proofs.name.Statement.{statement}
