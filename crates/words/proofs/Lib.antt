@@ -1,2 +1,3 @@
 pub mod Flagging
+pub mod Rows
 pub mod Texts

@@ -1,13 +1,23 @@
 -- The parts of a step's text, as the functions write them: each word after its space.
-use Prim.Native.Nat.{ℕ}
-use mathlib.Core.Bool.{Bool, cond}
+use Prim.Native.Nat.{ℕ, _+_, _-_}
+use mathlib.Core.Bool.{Bool, cond, _&&_}
 use mathlib.Core.List.{List, [], _∷_, _++_}
 use lib.IntN.{ℤ}
+use lib.Dec.{leb, ltb}
+use lib.ListN.{length, take, drop, getD}
 use Rattle.rules.specs.Ascii.{ascii}
 use Rattle.rules.specs.Text.{Bytes, afterEach}
 use Rattle.rules.specs.Record.{Operator, isSet}
 use Rattle.rules.specs.declared.Step.{Step}
 use Rattle.writelaws.specs.Writing.{argWords, flagOf, writing}
+
+-- piece i of a row of texts that follow each other: `ends` has the end of each, after a 0
+unfoldable pub piece : Bytes → Bytes → ℕ → Bytes
+piece row ends i = take (getD ends (i + 1) 0 - getD ends i 0) (drop (getD ends i 0) row)
+
+-- such a piece lies in the row
+unfoldable pub isCut : Bytes → Bytes → ℕ → Bool
+isCut row ends i = ltb (i + 1) (length ends) && (leb (getD ends i 0) (getD ends (i + 1) 0) && leb (getD ends (i + 1) 0) (length row))
 
 -- the arguments' words, and the marks, each after a space
 unfoldable pub argText : Operator → List ℤ → Bytes

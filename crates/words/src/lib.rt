@@ -7,7 +7,7 @@ use numerals::put_byte;
 use text::put;
 ghost use mathlib.Core.Path.{_≡_};
 ghost use mathlib.Core.Bool.{true};
-ghost use mathlib.Core.List.{[], _∷_, _++_, map};
+ghost use mathlib.Core.List.{[], _∷_, map};
 ghost use Prim.Native.Nat.{_≤_, _<_};
 ghost use lib.ListN.{length, getD};
 ghost use lib.IntN.{pos};
@@ -17,7 +17,7 @@ ghost use Rattle.rules.specs.Record.{Adapt, operatorOf, isPlace, isAdapt, isArg
 ghost use Rattle.text.specs.Writing.{WroteAt};
 ghost use Rattle.writelaws.specs.Writing.{listing, flagOf, nameWord};
 ghost use Rattle.numerals.specs.Parts.{Room};
-ghost use Rattle.words.specs.Parts.{argText, marked, markText};
+ghost use Rattle.words.specs.Parts.{isCut, piece, argText, marked, markText};
 
 // The flags of the axes in l, each after a space.
 pub fn flags(l: &[i32], out: &mut [u8], o: usize) -> usize
@@ -56,14 +56,15 @@ fn adapted(l: &[i32], out: &mut [u8], o: usize) -> usize
     to_word(code, &l[..4], out, e)
 }
 
-// A key, and the numbers of l.
-fn keyed(key: &[u8], l: &[i32], out: &mut [u8], o: usize) -> usize
-    requires { ⌜ all nineDigits (now l) ≡ true ⌝ }
-    requires { ⌜ Room (now key ++ listing (now l)) o (now out) ⌝ }
-    ensures { λ r. ⌜ WroteAt (now (key .entry) ++ listing (now (l .entry))) (now (out .entry)) o r (now (out .exit)) ⌝ }
+// Piece i of a row of texts that follow each other: it ends where byte i + 1 of `ends` says, and begins where byte i says.
+fn piece(row: &[u8], ends: &[u8], i: usize, out: &mut [u8], o: usize) -> usize
+    requires { ⌜ isCut (now row) (now ends) i ≡ true ⌝ }
+    requires { ⌜ Room (piece (now row) (now ends) i) o (now out) ⌝ }
+    ensures { λ r. ⌜ WroteAt (piece (now (row .entry)) (now (ends .entry)) i) (now (out .entry)) o r (now (out .exit)) ⌝ }
 {
-    let e = put(key, out, o);
-    listing(l, out, e)
+    let from = ends[i] as usize;
+    let end = ends[i + 1] as usize;
+    put(&row[from..end], out, o)
 }
 
 // The operator's name.
@@ -72,16 +73,12 @@ pub fn name(operator: u8, out: &mut [u8], o: usize) -> usize
     requires { ⌜ Room (nameWord (operatorOf operator)) o (now out) ⌝ }
     ensures { λ r. ⌜ WroteAt (nameWord (operatorOf operator)) (now (out .entry)) o r (now (out .exit)) ⌝ }
 {
-    match operator {
-        0 => put(b"push", out, o),
-        1 => put(b"pop", out, o),
-        9 => put(b"axisswap", out, o),
-        10 => put(b"adapt", out, o),
-        _ => put(b"stack", out, o),
-    }
+    let row = b"pushpopstackstackstackstackstackstackstackaxisswapadapt";
+    let ends = b"\x00\x04\x07\x0c\x11\x16\x1b\x20\x25\x2a\x32\x37";
+    piece(row, ends, operator as usize, out, o)
 }
 
-// The arguments' words, each after a space.
+// The arguments' words, each after a space: flags, the words of `adapt`, or a key and the numbers.
 pub fn arguments(operator: u8, l: &[i32], out: &mut [u8], o: usize) -> usize
     requires { ⌜ operator ≤ 10 ⌝ }
     requires { ⌜ all nineDigits (now l) ≡ true ⌝ }
@@ -92,17 +89,13 @@ pub fn arguments(operator: u8, l: &[i32], out: &mut [u8], o: usize) -> usize
     if operator <= 1 {
         return flags(l, out, o);
     }
-    match operator {
-        2 => keyed(b" push=", l, out, o),
-        3 => keyed(b" pop=", l, out, o),
-        4 => keyed(b" flip=", l, out, o),
-        5 => keyed(b" roll=", l, out, o),
-        6 => keyed(b" unroll=", l, out, o),
-        7 => put(b" swap", out, o),
-        8 => put(b" drop", out, o),
-        9 => keyed(b" order=", l, out, o),
-        _ => adapted(l, out, o),
+    if operator == 10 {
+        return adapted(l, out, o);
     }
+    let row = b" push= pop= flip= roll= unroll= swap drop order=";
+    let ends = b"\x00\x00\x00\x06\x0b\x11\x17\x1f\x24\x29\x30";
+    let e = piece(row, ends, operator as usize, out, o);
+    listing(l, out, e)
 }
 
 // A mark's word, if the mark is set.
