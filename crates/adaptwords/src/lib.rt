@@ -1,7 +1,7 @@
 // The two words of `adapt`, `from` and `to`, each written into a buffer after a space.
-use acts::minus_at;
-use acts::size_at;
 use numerals::put_byte;
+use sizes::minus_at;
+use sizes::size_at;
 use text::put;
 ghost use mathlib.Core.Path.{_≡_};
 ghost use mathlib.Core.Bool.{true};

@@ -11,13 +11,13 @@ use crate::out::say_refusal;
 use crate::out::say_signed;
 use crate::out::say_sizes;
 use crate::out::say_what;
-use acts::is_minus;
-use acts::size_of;
 use prepare::Preparing;
 use prepare::prepare;
 use rules::Prepared;
 use rules::Step;
 use rules::Table;
+use sizes::is_minus;
+use sizes::size_of;
 use wire::Natural;
 use wire::Text;
 

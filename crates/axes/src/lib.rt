@@ -1,7 +1,4 @@
 // `axisswap` and `adapt`, each over every coordinate of a list: what does not change from one to the next is made once.
-use acts::is_minus;
-use acts::minus_at;
-use acts::size_of;
 use coordinate::Slots;
 use coordinate::Turns;
 use coordinate::get_coord;
@@ -12,6 +9,9 @@ use coordinate::set_coord;
 use coordinate::slots_of;
 use coordinate::turned;
 use rules::Coord;
+use sizes::is_minus;
+use sizes::minus_at;
+use sizes::size_of;
 ghost use mathlib.Core.Path.{_≡_};
 ghost use mathlib.Core.Bool.{true};
 ghost use mathlib.Core.List.{map};

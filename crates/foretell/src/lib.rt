@@ -1,16 +1,16 @@
 // The check: the steps run on signed places instead of numbers.
 use acts::Act;
-use acts::Bad;
 use acts::Doing;
 use acts::act_of;
 use acts::is_omitted;
-use acts::refusal18;
-use acts::visited_of;
 use rules::Direction;
 use rules::Foretold;
 use rules::Place;
 use rules::Table;
 use rules::Verdict;
+use sound::Bad;
+use sound::refusal18;
+use sound::visited_of;
 use traces::step;
 ghost use mathlib.Core.Path.{_≡_};
 ghost use mathlib.Core.Bool.{true, false, cond, not, _||_};

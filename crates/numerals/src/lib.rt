@@ -1,6 +1,6 @@
 // Whole numbers and lists of them, written into a buffer in digits.
-use acts::minus_at;
-use acts::size_at;
+use sizes::minus_at;
+use sizes::size_at;
 ghost use mathlib.Core.Path.{_≡_};
 ghost use mathlib.Core.Bool.{true};
 ghost use mathlib.Core.List.{[], _∷_};

@@ -1,9 +1,9 @@
 // The words of a step record: its name, its arguments and its marks, each written into a buffer.
-use acts::size_at;
 use adaptwords::from_word;
 use adaptwords::to_word;
 use numerals::listing;
 use numerals::put_byte;
+use sizes::size_at;
 use text::put;
 ghost use mathlib.Core.Path.{_≡_};
 ghost use mathlib.Core.Bool.{true};

@@ -23,10 +23,10 @@ use Rattle.laws.specs.Entry.{Lends, lends-refusal, lends-no-room, lends-text}
 use Rattle.text.specs.Writing.{Wrote, WroteAt}
 use Rattle.text.proofs.Writing.{wrote-front, wrote-fits, wrote-counts}
 use Rattle.steplaws.specs.Tests.{never}
-use Rattle.acts.specs.Tests.{badOf}
-use Rattle.acts.specs.declared.Bad.{Bad}
-use Rattle.acts.specs.declared.Bad.the-variants.{At, Nowhere}
-use Rattle.acts.proofs.Sounding.{Sound}
+use Rattle.sound.specs.Records.{badOf}
+use Rattle.sound.specs.declared.Bad.{Bad}
+use Rattle.sound.specs.declared.Bad.the-variants.{At, Nowhere}
+use Rattle.sound.proofs.Sounding.{Sound}
 use Rattle.writelaws.specs.Writing.{nameWord, writing, tableWriting, unless18, write}
 use Rattle.writelaws.specs.Records.{made-keeps}
 use Rattle.writelaws.specs.Written.{writing-short}

@@ -1,10 +1,10 @@
 // Writing the text of a step record, and of a whole table: what preparing it gives is the record again.
-use acts::Bad;
-use acts::made;
-use acts::refusal18;
 use rules::Step;
 use rules::Table;
 use rules::Written;
+use sound::Bad;
+use sound::made;
+use sound::refusal18;
 use text::put;
 use words::arguments;
 use words::marks;
