@@ -1,9 +1,9 @@
 // Preparing: from a text to its step records, in a table of 64 by value.
+use elements::table_of;
 use judge::Judged;
 use judge::judge;
 use judge::refused;
 use normal::normal_of;
-use parameters::table_of;
 use rules::Cursor;
 use rules::Found;
 use rules::Prepared;
@@ -30,7 +30,7 @@ ghost use Rattle.rules.specs.Split.{modifier, stepsOf, stepText};
 ghost use Rattle.rules.specs.Parameters.{textTable, parametersOf};
 ghost use Rattle.rules.specs.Prepare.{judged};
 ghost use Rattle.laws.specs.Sizes.{weight};
-ghost use Rattle.parameters.specs.Elements.{Spelt};
+ghost use Rattle.elements.specs.Elements.{Spelt};
 ghost use Rattle.split.specs.Faults.{faultOf};
 ghost use Rattle.split.specs.declared.Fault.the-variants.{Nothing};
 ghost use Rattle.judge.specs.Judging.{replyIs};
