@@ -15,7 +15,7 @@ use Rattle.walk.proofs.Leading.{word-there, none-left, words-nil}
 use Rattle.table.specs.Parts.{Parts, Entered, partOf, listed, Good, Enters}
 use Rattle.table.specs.declared.Part.{Part}
 use Rattle.table.proofs.Growing.{entered-all-longer}
-use Rattle.table.proofs.Entering.{enters-no-room, enters-table, enters-good}
+use Rattle.filling.proofs.Entering.{enters-no-room, enters-table, enters-good}
 use Rattle.elements.specs.Elements.{element, elementsFrom, IsPart, EntersAll}
 use Rattle.elements.proofs.Cutting.{drop-take}
 

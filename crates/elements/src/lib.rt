@@ -1,9 +1,9 @@
 // Cutting a step's words into the table of its parameters.
+use filling::enter;
+use leads::lead_end;
 use table::Entered;
 use table::Part;
-use table::enter;
 use walk::Kind;
-use walk::lead_end;
 use walk::run_end;
 ghost use mathlib.Core.Path.{_≡_};
 ghost use mathlib.Core.Bool.{false};

@@ -1,15 +1,15 @@
 // Cutting a step into its parameters. The Rust is `split_into_parameters` of src/token/mod.rs.
+use domain::in_domain;
 use elements::table_of;
+use filling::enter;
+use leads::is_lead;
 use normal::normal_of;
 use rules::Written;
 use table::Part;
-use table::enter;
 use table::part_at;
-use text::in_domain;
 use text::put;
 use walk::Kind;
 use walk::is_blank;
-use walk::is_lead;
 use walk::run_end;
 ghost use mathlib.Core.Path.{_≡_};
 ghost use mathlib.Core.Bool.{true};

@@ -1,8 +1,11 @@
 // Preparing: from a text to its step records, in a table of 64 by value.
+use domain::in_domain;
 use elements::table_of;
 use judge::Judged;
 use judge::judge;
 use judge::refused;
+use leads::is_lead;
+use leads::next_step;
 use normal::normal_of;
 use rules::Cursor;
 use rules::Found;
@@ -12,12 +15,9 @@ use split::Fault;
 use split::clean_into;
 use split::fault_of;
 use split::step_at;
-use text::in_domain;
 use text::put;
 use walk::Kind;
 use walk::is_blank;
-use walk::is_lead;
-use walk::next_step;
 use walk::run_end;
 ghost use mathlib.Core.Path.{_≡_};
 ghost use mathlib.Core.Bool.{true, false};

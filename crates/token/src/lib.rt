@@ -1,7 +1,7 @@
 // Reading text: the normal form. The Rust is `normalize` of src/token/mod.rs.
+use domain::in_domain;
 use normal::normal_of;
 use rules::Written;
-use text::in_domain;
 use text::put;
 ghost use mathlib.Core.Path.{_≡_};
 ghost use mathlib.Core.Bool.{true};
