@@ -1,12 +1,12 @@
 -- What is known of a record that a preparation makes.
 use mathlib.Core.Path.{_≡_, refl, sym, ap, _∙_, subst}
-use Prim.Native.Nat.{ℕ, _≤_, _<_}
-use mathlib.Core.Bool.{Bool, true, _&&_, not}
-use mathlib.Core.List.{List, [], _∷_, _++_, map, reverse, reverse-cons}
+use Prim.Native.Nat.{ℕ, _≤_}
+use mathlib.Core.Bool.{Bool, true, not}
+use mathlib.Core.List.{List, [], _∷_, _++_, reverse, reverse-cons}
 use lib.Dec.{leb, ltb, eqb, T, leb→le, ltb→lt, eqb→eq}
 use native.Mathlib.Omega.{arith}
 use lib.IntN.{ℤ}
-use lib.ListN.{length, take}
+use lib.ListN.{length}
 use borrow.Author.Tests.{ne-eqb}
 use Rattle.laws.specs.Separators.{and-left, and-right}
 use Rattle.rules.specs.Lists.{all}
@@ -15,9 +15,7 @@ use Rattle.rules.specs.Record.{size, arg, made, args, unused, operator, operato
 use Rattle.steplaws.specs.Tests.{all-append}
 use Rattle.rules.specs.Act.{places}
 use Rattle.rules.specs.declared.Step.{Step}
-use Rattle.acts.specs.Tests.{isMarked, isWritten}
 use Rattle.acts.specs.Doings.{Roll}
-use Rattle.acts.proofs.Testing.{made-tests}
 
 so : {b : Bool} → b ≡ true → T b
 so e = subst T (sym e) tt
@@ -28,10 +26,11 @@ pub record Made (s : Step) : Type 0 where
   pub rule : isArgs (operator s) (args s) ≡ true
 
 pub made-so : (s : Step) → made s ≡ true → Made s
-unfolding isWritten operator
+unfolding made
 made-so s e =
-    let tests = and-right (leb (s .operator) 10) _ (sym (made-tests s) ∙ e) in
-    let written = and-right (isMarked s) _ (and-right (leb (s .n) 8) _ tests) in
+    let tests = and-right (leb (s .operator) 10) _ e in
+    let marks = and-right (leb (s .n) 8) _ tests in
+    let written = and-right (leb (s .«omit_inv») 1) _ (and-right (leb (s .«omit_fwd») 1) _ (and-right (leb (s .inv) 1) _ marks)) in
     let rules = and-right (all _ (unused s)) _ written in
     record {
       slots = leb→le _ _ (so (and-left (leb (s .n) 8) _ tests));

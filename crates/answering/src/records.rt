@@ -11,13 +11,13 @@ use crate::out::say_refusal;
 use crate::out::say_signed;
 use crate::out::say_sizes;
 use crate::out::say_what;
-use acts::is_minus;
-use acts::size_of;
 use prepare::Preparing;
 use prepare::prepare;
 use rules::Prepared;
 use rules::Step;
 use rules::Table;
+use sizes::is_minus;
+use sizes::size_of;
 use wire::Natural;
 use wire::Text;
 
@@ -170,8 +170,8 @@ fn say_adapt(args: [i32; 8], out: &mut [u8], at: usize) -> usize
     let p2 = size_of(args[1]);
     let p3 = size_of(args[2]);
     let p4 = size_of(args[3]);
-    let m = axes::mults_of(args);
-    if axes::is_noop(p1, p2, p3, p4, m) {
+    let m = factors::mults_of(args);
+    if factors::is_noop(p1, p2, p3, p4, m) {
         return say(b"noop", out, at);
     }
     let post = [p1, p2, p3, p4];

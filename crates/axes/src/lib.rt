@@ -1,27 +1,27 @@
 // `axisswap` and `adapt`, each over every coordinate of a list: what does not change from one to the next is made once.
-use acts::is_minus;
-use acts::minus_at;
-use acts::size_of;
 use coordinate::Slots;
 use coordinate::Turns;
 use coordinate::get_coord;
-use coordinate::number_of;
 use coordinate::pick;
 use coordinate::place;
 use coordinate::set_coord;
 use coordinate::slots_of;
 use coordinate::turned;
+use factors::is_noop;
+use factors::mults_of;
+use factors::overs_of;
+use factors::picked_of;
 use rules::Coord;
+use sizes::minus_at;
 ghost use mathlib.Core.Path.{_≡_};
 ghost use mathlib.Core.Bool.{true};
 ghost use mathlib.Core.List.{map};
-ghost use Prim.Native.Nat.{_+_, _*_, _≤_, _<_};
+ghost use Prim.Native.Nat.{_≤_};
 ghost use lib.ListN.{take};
-ghost use Rattle.rules.specs.Decimal.{minus};
-ghost use Rattle.rules.specs.Record.{size, isOrder, isAdapt};
-ghost use Rattle.rules.specs.Coordinate.{number, turn, swapped, angle, factor, adapted};
+ghost use Rattle.rules.specs.Record.{isOrder, isAdapt};
+ghost use Rattle.rules.specs.Coordinate.{swapped, adapted};
 ghost use Rattle.rules.specs.Tuples.{tuples};
-ghost use Rattle.coordinate.specs.Coords.{slot, Within, turnAt, turnsOf, picked, turnedBy, scaledBy, ordered, unordered, scaled, unscaled, staying, mults, overs, allStaying};
+ghost use Rattle.coordinate.specs.Coords.{Within, turnAt, turnsOf, turnedBy, scaledBy, ordered, unordered, scaled, unscaled};
 
 // ---- axisswap
 
@@ -103,93 +103,6 @@ pub fn axisswap(xs: &mut [f64], back: bool, args: [i32; 8], n: usize)
 }
 
 // ---- adapt
-
-// An angle in radians: 0 is 1, 1 is a degree, 2 is a gon.
-pub fn angle_of(k: usize) -> f64
-    ensures { λ r. ⌜ r ≡ angle k ⌝ }
-{
-    if k == 0 {
-        1.0
-    } else if k == 1 {
-        3.141592653589793 / 180.0
-    } else {
-        3.141592653589793 / 200.0
-    }
-}
-
-// The factor of a code: one angle over the other.
-pub fn factor_of(code: usize) -> f64
-    ensures { λ r. ⌜ r ≡ factor code ⌝ }
-{
-    angle_of(code / 3) / angle_of(code % 3)
-}
-
-// A factor with its sign: that of the output's argument, and the size of its code.
-pub fn mult_of(x: i32, code: i32) -> f64
-    ensures { λ r. ⌜ r ≡ turn (minus x) (factor (size code)) ⌝ }
-{
-    turned(is_minus(x), factor_of(size_of(code)))
-}
-
-// Is the number at i the input's own, times 1?
-fn is_staying(p: usize, m: f64, i: usize) -> bool
-    ensures { λ r. ⌜ r ≡ staying p m i ⌝ }
-{
-    p == i && m == 1.0
-}
-
-// The four factors of a step.
-pub fn mults_of(args: [i32; 8]) -> Coord
-    ensures { λ r. ⌜ r ≡ mults args ⌝ }
-{
-    Coord {
-        a: mult_of(args[0], args[4]),
-        b: mult_of(args[1], args[5]),
-        c: mult_of(args[2], args[6]),
-        d: mult_of(args[3], args[7]),
-    }
-}
-
-// 1 over each of four factors.
-fn overs_of(m: Coord) -> Coord
-    ensures { λ r. ⌜ r ≡ overs m ⌝ }
-{
-    Coord {
-        a: 1.0 / m.a,
-        b: 1.0 / m.b,
-        c: 1.0 / m.c,
-        d: 1.0 / m.d,
-    }
-}
-
-// Is a step a no-op, by its four places and factors?
-pub fn is_noop(p1: usize, p2: usize, p3: usize, p4: usize, m: Coord) -> bool
-    ensures { λ r. ⌜ r ≡ allStaying p1 p2 p3 p4 m ⌝ }
-{
-    if !is_staying(p1, m.a, 1) {
-        return false;
-    }
-    if !is_staying(p2, m.b, 2) {
-        return false;
-    }
-    if !is_staying(p3, m.c, 3) {
-        return false;
-    }
-    is_staying(p4, m.d, 4)
-}
-
-// The numbers of a coordinate at given slots.
-fn picked_of(c: Coord, o: Slots) -> Coord
-    requires { ⌜ Within o ⌝ }
-    ensures { λ r. ⌜ r ≡ picked o c ⌝ }
-{
-    Coord {
-        a: number_of(c, o.s1 + 1),
-        b: number_of(c, o.s2 + 1),
-        c: number_of(c, o.s3 + 1),
-        d: number_of(c, o.s4 + 1),
-    }
-}
 
 // Each number of a coordinate times its factor.
 fn scaled_by(m: Coord, c: Coord) -> Coord

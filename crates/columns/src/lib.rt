@@ -1,12 +1,12 @@
 // Whole columns between a list of tuples and a lent store. Column q of n numbers stands in the store from q * n on. A step
 // goes column by column: each tuple is a record of four numbers that goes by value, and one number of it moves.
-use acts::size_at;
 use coordinate::get_coord;
 use coordinate::no_coord;
 use coordinate::not_a_number;
 use coordinate::number_of;
 use coordinate::set_coord;
 use coordinate::with_number;
+use sizes::size_at;
 use store::roll;
 use store::swap;
 ghost use mathlib.Core.Path.{_≡_};

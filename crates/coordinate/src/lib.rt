@@ -1,6 +1,6 @@
 // One coordinate, and a list of them: the numbers by their place, and several at once by their slots. Places count from 1, slots from 0.
-use acts::size_at;
 use rules::Coord;
+use sizes::size_at;
 ghost use mathlib.Core.Path.{_≡_};
 ghost use Prim.Native.Nat.{_+_, _*_, _≤_, _<_};
 ghost use lib.ListN.{length, getD, set};

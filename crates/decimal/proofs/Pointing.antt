@@ -18,7 +18,7 @@ use Rattle.steplaws.specs.Tests.{never}
 use Rattle.walk.specs.Runs.{Run}
 use Rattle.walk.proofs.Walking.{other}
 use Rattle.walk.proofs.Leading.{part-from}
-use Rattle.parameters.proofs.Cutting.{run-before, run-behind, run-any, run-none}
+use Rattle.elements.proofs.Cutting.{run-before, run-behind, run-any, run-none}
 use Rattle.decimal.specs.declared.Spelled.the-variants.{Are, Not}
 use Rattle.decimal.specs.Reading.{spelledTo}
 use Rattle.decimal.proofs.Spelling.{digit-high}

@@ -24,7 +24,7 @@ use Rattle.steplaws.specs.Series.{series-read}
 use Rattle.walk.specs.Runs.{Run}
 use Rattle.walk.proofs.Walking.{other}
 use Rattle.table.proofs.Placing.{map-append}
-use Rattle.parameters.proofs.Cutting.{run-before, run-behind, run-any, run-none}
+use Rattle.elements.proofs.Cutting.{run-before, run-behind, run-any, run-none}
 use Rattle.decimal.specs.declared.Whole.{Whole}
 use Rattle.decimal.specs.Reading.{wholeIs, wholesIn, lowest, Reads}
 

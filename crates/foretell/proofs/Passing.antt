@@ -23,11 +23,11 @@ use Rattle.steplaws.specs.Walk.{after-more, depths-more, deepest-more}
 use Rattle.steplaws.specs.Tests.{never}
 use Rattle.acts.specs.declared.Doing.{Doing}
 use Rattle.acts.specs.Doings.{doing, Does}
-use Rattle.acts.specs.Visits.{visited, leftFrom}
-use Rattle.acts.proofs.Visiting.{left-all, left-none, left-next}
-use Rattle.acts.specs.declared.Bad.{Bad}
-use Rattle.acts.specs.declared.Bad.the-variants.{At, Nowhere}
-use Rattle.acts.specs.Tests.{badOf}
+use Rattle.sound.specs.Visits.{visited, leftFrom}
+use Rattle.sound.proofs.Visiting.{left-all, left-none, left-next}
+use Rattle.sound.specs.declared.Bad.{Bad}
+use Rattle.sound.specs.declared.Bad.the-variants.{At, Nowhere}
+use Rattle.sound.specs.Records.{badOf}
 use Rattle.depths.specs.declared.Judged.the-variants.{Few, Many, Goes}
 use Rattle.traces.specs.Traces.{placeOf, placesOf, Traced, machine, depth, Whole, Ready}
 use Rattle.depths.specs.Judged.{judged}

@@ -1,11 +1,8 @@
 // The check: the steps run on signed places instead of numbers.
 use acts::Act;
-use acts::Bad;
 use acts::Doing;
 use acts::act_of;
 use acts::is_omitted;
-use acts::refusal18;
-use acts::visited_of;
 use depths::Judged;
 use depths::judge;
 use rules::Direction;
@@ -13,6 +10,9 @@ use rules::Foretold;
 use rules::Place;
 use rules::Table;
 use rules::Verdict;
+use sound::Bad;
+use sound::refusal18;
+use sound::visited_of;
 use traces::step;
 ghost use mathlib.Core.Path.{_≡_};
 ghost use mathlib.Core.Bool.{cond, not, _||_};

@@ -1,5 +1,3 @@
-pub mod Cutting
-pub mod Filling
 pub mod Lining
-pub mod Tabling
+pub mod Replying
 pub mod Answering

@@ -16,7 +16,7 @@ use Rattle.text.proofs.Writing.{Sofar, sofar-at, sofar-start, sofar-byte, sofar
 use Rattle.table.specs.Parts.{Parts, partOf, keyOf, valueOf, held, Within, Good}
 use Rattle.table.specs.declared.Part.{Part}
 use Rattle.table.proofs.Placing.{held-length, held-at, good-at}
-use Rattle.parameters.specs.Elements.{linesOf}
+use Rattle.parameters.specs.Replies.{linesOf}
 
 -- ---- a line
 
@@ -109,10 +109,6 @@ module _ {s : Bytes} {t : Parts} {dst₀ : Bytes} {i o : ℕ} {dst : Bytes} (m :
     lines-turn {p} {r} {last} e w = lines-more (subst (λ (q : Part). WroteAt (parameterLine (partOf s q)) dst o r last) e w)
 
 -- ---- how long they are
-
--- what reading beyond a table's end would give
-abbrev pub no-part : Part
-no-part = record { key = 0; «key_end» = 0; value = 0; «value_end» = 0 }
 
 -- no line is longer than this
 abbrev most : ℕ

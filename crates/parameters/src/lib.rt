@@ -1,127 +1,34 @@
 // Cutting a step into its parameters. The Rust is `split_into_parameters` of src/token/mod.rs.
+use domain::in_domain;
+use elements::table_of;
+use filling::enter;
+use leads::is_lead;
+use normal::normal_of;
 use rules::Written;
-use table::Entered;
 use table::Part;
-use table::enter;
 use table::part_at;
-use text::in_domain;
 use text::put;
-use token::normal_of;
 use walk::Kind;
 use walk::is_blank;
-use walk::is_lead;
-use walk::lead_end;
 use walk::run_end;
 ghost use mathlib.Core.Path.{_≡_};
-ghost use mathlib.Core.Bool.{true, false};
+ghost use mathlib.Core.Bool.{true};
 ghost use Prim.Native.Nat.{_+_, _*_, _≤_};
-ghost use lib.ListN.{length, take, drop};
-ghost use Rattle.rules.specs.Lists.{all};
+ghost use lib.ListN.{length, take};
 ghost use Rattle.rules.specs.Text.{words, inDomain};
 ghost use Rattle.rules.specs.Refusal.{answers, Writes};
-ghost use Rattle.rules.specs.Split.{modifier};
 ghost use Rattle.rules.specs.Parameters.{parameterLine, parameters};
 ghost use Rattle.laws.specs.Entry.{Lends};
 ghost use Rattle.text.specs.Writing.{Wrote, WroteAt};
-ghost use Rattle.table.specs.Parts.{partOf, Within, Good, tableIn, enteredIn};
-ghost use Rattle.parameters.specs.Elements.{Spelt, IsPart, elementsFrom, EntersAll, Tabled, linesOf, stepReply, nameReply, textReply};
+ghost use Rattle.table.specs.Parts.{partOf, Within, Good, tableIn};
+ghost use Rattle.elements.specs.Elements.{Spelt};
+ghost use Rattle.parameters.specs.Replies.{linesOf, stepReply, nameReply, textReply};
 
 // "a text .. is over 4,096 bytes": 1
 const MOST: usize = 4096;
 
 // A text of so few bytes, ten times as long, has room in 4,096 with nine bytes behind it.
 const FEW: usize = 408;
-
-// The parameter that the word of s from `from` up to `to` is. At `n` stand `_name` and `true`, for a word without `=`: the
-// first is the name, another has the value `true`.
-fn part_of(s: &[u8], from: usize, to: usize, n: usize, first: bool) -> Part
-    requires { ⌜ Spelt (now s) n ⌝ }
-    requires { ⌜ (from ≤ to) × (to ≤ length (now s)) ⌝ }
-    ensures { λ r. ⌜ IsPart (now (s .entry)) from to first r ⌝ }
-{
-    let q = run_end(Kind::Key, &s[from..to], 0);
-    if q < to - from {
-        let r = run_end(Kind::Key, &s[from..to], q + 1);
-        return Part {
-            key: from,
-            key_end: from + q,
-            value: from + q + 1,
-            value_end: from + r,
-        };
-    }
-    if first {
-        return Part {
-            key: n,
-            key_end: n + 5,
-            value: from,
-            value_end: to,
-        };
-    }
-    Part {
-        key: from,
-        key_end: to,
-        value: n + 5,
-        value_end: n + 9,
-    }
-}
-
-// Enters the words of s from `from` up to `to` into the table of `count` parts, one after the other, until one finds no room.
-// The first of them may be the name.
-fn enter_words(
-    s: &[u8],
-    row: &mut [usize; 128],
-    count: usize,
-    from: usize,
-    to: usize,
-    n: usize,
-    first: bool,
-) -> Entered
-    requires { ⌜ Spelt (now s) n ⌝ }
-    requires { ⌜ (from ≤ to) × (to ≤ length (now s)) ⌝ }
-    requires { ⌜ Good (now s) (tableIn (now row) count) ⌝ }
-    ensures { λ r. ⌜ EntersAll (now (s .entry)) (tableIn (now (row .entry)) count) (elementsFrom first (words (drop from (take to (now (s .entry)))))) (enteredIn (now (row .exit)) r) ⌝ }
-{
-    let mut held = count;
-    let mut name = first;
-    let mut k = from;
-    while k < to {
-        let a = run_end(Kind::White, &s[..to], k);
-        let e = run_end(Kind::Word, &s[..to], a);
-        if e <= a {
-            return Entered {
-                full: false,
-                n: held,
-            };
-        }
-        let entered = enter(s, row, held, part_of(s, a, e, n, name));
-        if entered.full {
-            return entered;
-        }
-        held = entered.n;
-        name = false;
-        k = e;
-    }
-    Entered {
-        full: false,
-        n: held,
-    }
-}
-
-// The table of a step's words, which stand in the first n bytes of s: those after the modifiers in front, then these. It is
-// made in a lent row.
-pub fn table_of(s: &[u8], n: usize, row: &mut [usize; 128]) -> Entered
-    requires { ⌜ Spelt (now s) n ⌝ }
-    requires { ⌜ all modifier (words (take n (now s))) ≡ false ⌝ }
-    requires { ⌜ length (now row) ≡ 128 ⌝ }
-    ensures { λ r. ⌜ Tabled (now (s .entry)) (words (take n (now (s .entry)))) (enteredIn (now (row .exit)) r) ⌝ }
-{
-    let k = lead_end(&s[..n]);
-    let first = enter_words(s, row, 0, k, n, n, true);
-    if first.full {
-        return first;
-    }
-    enter_words(s, row, first.n, 0, k, n, false)
-}
 
 // Writes a parameter as `key=value`, with a newline after it.
 fn line_at(s: &[u8], p: Part, dst: &mut [u8], at: usize) -> usize

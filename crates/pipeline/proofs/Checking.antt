@@ -11,8 +11,8 @@ use lib.Seq.{getD-take, length-take-le}
 use Rattle.rules.specs.Record.{made, firstBad, refusal18, listed}
 use Rattle.rules.specs.declared.Step.{Step}
 use Rattle.rules.specs.declared.Table.{Table}
-use Rattle.acts.proofs.Testing.{listed-length, bad-few, bad-next, bad-here, bad-none}
-use Rattle.acts.proofs.Rest.{Rest, rest-all, rest-next, rest-here, rest-end}
+use Rattle.sound.proofs.Refusing.{listed-length, bad-few, bad-next, bad-here, bad-none}
+use Rattle.argtests.proofs.Rest.{Rest, rest-all, rest-next, rest-here, rest-end}
 
 -- the first i records are made: the answer is that of the others
 abbrev pub Checked : List Step → ℕ → Type 0

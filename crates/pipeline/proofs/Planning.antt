@@ -20,9 +20,9 @@ use Rattle.rules.specs.declared.Table.{Table}
 use Rattle.rules.specs.declared.Direction.{Direction}
 use Rattle.steplaws.specs.Tests.{never}
 use Rattle.steplaws.specs.Depth.{depthAfter, acted-depth}
-use Rattle.acts.specs.Visits.{visited, leftFrom}
-use Rattle.acts.proofs.Sounding.{sound-so}
-use Rattle.acts.proofs.Visiting.{left-all, left-none, left-next}
+use Rattle.sound.specs.Visits.{visited, leftFrom}
+use Rattle.sound.proofs.Sounding.{sound-so}
+use Rattle.sound.proofs.Visiting.{left-all, left-none, left-next}
 use Rattle.pipeline.specs.Plans.{depthStepped, passesFrom, deepestFrom}
 
 -- ---- a table that is not refused 18

@@ -24,8 +24,8 @@ use Rattle.steplaws.specs.Depth.{depthAfter}
 use Rattle.steplaws.specs.Lengths.{tuples-length}
 use Rattle.store.specs.Stores.{columnsOf, held}
 use Rattle.store.proofs.Standing.{held-depth}
-use Rattle.acts.specs.Visits.{visited, leftFrom}
-use Rattle.acts.proofs.Visiting.{left-all, left-none, left-next}
+use Rattle.sound.specs.Visits.{visited, leftFrom}
+use Rattle.sound.proofs.Visiting.{left-all, left-none, left-next}
 use Rattle.pipeline.specs.Plans.{depthStepped, stepped, countStepped, passesFrom, deepestFrom, Stepped, Ends}
 use Rattle.pipeline.proofs.Planning.{table-steps, steps-length, step-is}
 

@@ -2,8 +2,6 @@
 use acts::Doing;
 use acts::act_of;
 use acts::is_omitted;
-use acts::made;
-use acts::visited_of;
 use axes::adapt;
 use axes::axisswap;
 use columns::move_all;
@@ -11,6 +9,8 @@ use rules::Direction;
 use rules::Ran;
 use rules::Step;
 use rules::Table;
+use sound::made;
+use sound::visited_of;
 use store::zero_rest;
 use ways::Way;
 use ways::counts_none;

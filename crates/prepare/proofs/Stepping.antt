@@ -28,9 +28,9 @@ use Rattle.walk.specs.Runs.{Run}
 use Rattle.walk.proofs.Walking.{other, words-none, words-blank}
 use Rattle.table.specs.Parts.{Entered, partOf, held, listed}
 use Rattle.table.proofs.Placing.{held-length}
-use Rattle.parameters.specs.Elements.{Spelt, Tabled}
-use Rattle.parameters.proofs.Cutting.{run-any, run-none}
-use Rattle.parameters.proofs.Tabling.{spelt-fits}
+use Rattle.elements.specs.Elements.{Spelt, Tabled}
+use Rattle.elements.proofs.Cutting.{run-any, run-none}
+use Rattle.elements.proofs.Tabling.{spelt-fits}
 use Rattle.prepare.specs.Lending.{Roomy, stepReply}
 use Rattle.prepare.proofs.Weighing.{normal-fits}
 

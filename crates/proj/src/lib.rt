@@ -1,4 +1,5 @@
 // Translating a PROJ text. The Rust is `parse_proj` of src/token/mod.rs.
+use domain::in_domain;
 use projclean::clean_into;
 use projout::all_out;
 use projstep::globals_into;
@@ -9,7 +10,6 @@ use rules::Cursor;
 use rules::Found;
 use rules::Written;
 use text::find;
-use text::in_domain;
 use text::put;
 ghost use mathlib.Core.Path.{_≡_};
 ghost use mathlib.Core.Bool.{true, false, _&&_, _||_, not};

@@ -1,12 +1,12 @@
 // Cleaning a PROJ text before it is cut into steps: line ends, the `+` signs, comments, the normal form. The Rust is the
 // first half of `parse_proj` of src/token/mod.rs.
+use normal::normal_of;
 use split::lines_into;
 use split::newlines_into;
 use text::Edge;
 use text::start_of;
 use text::starts_at;
 use text::trim;
-use token::normal_of;
 ghost use mathlib.Core.Path.{_≡_};
 ghost use Prim.Native.Nat.{_*_, _<_, _≤_};
 ghost use lib.ListN.{length};

@@ -16,7 +16,7 @@ impl<'a> Reader<'a> {
     pub fn next(self) -> Found
         ensures { λ r. ⌜ r ≡ next (now (self .entry .text)) (self .entry .at) ⌝ }
     {
-        walk::next_step(self.text, Cursor { at: self.at })
+        leads::next_step(self.text, Cursor { at: self.at })
     }
 }
 

@@ -1,19 +1,19 @@
 // Splitting a definition into its steps. The Rust is `split_into_steps` of src/token/mod.rs.
+use domain::in_domain;
+use leads::is_lead;
+use leads::lead_end;
+use leads::next_step;
+use normal::normal_of;
 use rules::Cursor;
 use rules::Found;
 use rules::Written;
 use text::Edge;
 use text::find;
-use text::in_domain;
 use text::put;
 use text::replace_into;
 use text::squeeze_into;
 use text::trim;
-use token::normal_of;
 use walk::is_blank;
-use walk::is_lead;
-use walk::lead_end;
-use walk::next_step;
 ghost use mathlib.Core.Path.{_≡_};
 ghost use mathlib.Core.Bool.{true, false};
 ghost use mathlib.Core.List.{_++_};

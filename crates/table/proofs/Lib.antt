@@ -2,5 +2,3 @@ pub mod Rows
 pub mod Growing
 pub mod Comparing
 pub mod Placing
-pub mod Inserting
-pub mod Entering

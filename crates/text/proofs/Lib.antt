@@ -4,4 +4,3 @@ pub mod Finding
 pub mod Replacing
 pub mod Squeezing
 pub mod Trimming
-pub mod Domain

@@ -5,7 +5,7 @@ use mathlib.Core.Bool.{Bool, false, cond}
 use mathlib.Core.List.{[], _∷_}
 use lib.ListN.{length, take, drop}
 use lib.Dec.{eqb}
-use Rattle.rules.specs.Text.{Bytes, white, inDomain, starts, trimStart, trimEnd}
+use Rattle.rules.specs.Text.{Bytes, white, starts, trimStart, trimEnd}
 use Rattle.text.specs.declared.Edge.{Edge}
 use Rattle.text.specs.declared.Edge.the-variants.{White, Byte}
 
@@ -23,12 +23,6 @@ pub record Passed (src : Bytes) (from : ℕ) (old : Bytes) (r : ℕ) : Type 0 wh
 -- either no `old` begins from `from` up to r, or it is said that one may
 pub record Sought (src : Bytes) (from : ℕ) (old : Bytes) (r : ℕ) (found : Bool) : Type 0 where
   pub none : found ≡ false → Passed src from old r
-
--- r is reached from `from`, and what stands between is in the domain, so what follows decides
-pub record Clear (s : Bytes) (from r : ℕ) : Type 0 where
-  pub onward : from ≤ r
-  pub within : r ≤ length s
-  pub same : inDomain (drop from s) ≡ inDomain (drop r s)
 
 -- the bytes that a trim takes away
 abbrev pub cutBy : Edge → ℕ → Bool

@@ -1,7 +1,7 @@
 -- Each return of `normalise` is the one that its promise names.
 use mathlib.Core.Path.{_≡_, refl}
 use mathlib.Core.Bool.{true}
-use Prim.Native.Nat.{ℕ, _≤_, _<_}
+use Prim.Native.Nat.{ℕ, _*_, _≤_, _<_}
 use native.Mathlib.Omega.{arith}
 use lib.ListN.{length, take}
 use Rattle.rules.specs.Text.{Bytes, inDomain}
@@ -27,3 +27,7 @@ module _ {t out a : Bytes} {n : ℕ} (short : length t ≤ 4096) (domain : inDom
   wrote-answer l w =
       let v = rw (wrote-front h) at w in
       answered short domain (is-normal t) (omega (arith, h .count)) (v .count) (v .whole)
+
+-- a text of at most n bytes has room in ten times as many
+pub tenfold-room : (t : Bytes) (n : ℕ) {x : ℕ} → length t ≤ n → 10 * n ≤ x → 10 * length t ≤ x
+tenfold-room t n h l = omega arith

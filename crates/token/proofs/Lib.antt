@@ -1,4 +1,1 @@
-pub mod Weighing
-pub mod Running
 pub mod Answering
-pub mod Calming

@@ -1,8 +1,8 @@
 // The acts on signed places instead of numbers: what the check runs.
 use acts::Act;
 use acts::Doing;
-use acts::minus_at;
-use acts::size_at;
+use sizes::minus_at;
+use sizes::size_at;
 ghost use mathlib.Core.Path.{_≡_};
 ghost use mathlib.Core.Bool.{true, false};
 ghost use Prim.Native.Nat.{_+_, _*_, _≤_, _<_};

@@ -1,16 +1,12 @@
-// Places in a text: runs of bytes, the modifiers in front of a step's words, and the walk over the steps of a normalised
-// text.
-use rules::Cursor;
-use rules::Found;
+// Places in a text: runs of bytes, and words that are modifiers.
 use text::is_white;
 ghost use mathlib.Core.Path.{_≡_};
 ghost use Prim.Native.Nat.{_≤_};
 ghost use lib.ListN.{length};
 ghost use Rattle.rules.specs.Lists.{all};
-ghost use Rattle.rules.specs.Text.{white, same, words};
+ghost use Rattle.rules.specs.Text.{white, same};
 ghost use Rattle.rules.specs.Split.{modifier};
-ghost use Rattle.rules.specs.Reader.{next};
-ghost use Rattle.walk.specs.Runs.{Run, isOf, Lead};
+ghost use Rattle.walk.specs.Runs.{Run, isOf};
 
 // Is there nothing but white space in s?
 pub fn is_blank(s: &[u8]) -> bool
@@ -67,30 +63,6 @@ pub fn run_end(kind: Kind, s: &[u8], at: usize) -> usize
     i
 }
 
-// The next step of a normalised text from the cursor on: the first piece between `|` that is not empty.
-pub fn next_step(normal: &[u8], cursor: Cursor) -> Found
-    ensures { λ r. ⌜ r ≡ next (now (normal .entry)) (cursor .at) ⌝ }
-{
-    let mut i = cursor.at;
-    while i < normal.len() {
-        let e = run_end(Kind::Piece, normal, i);
-        if is_blank(&normal[i..e]) {
-            if e < normal.len() {
-                i = e + 1;
-            } else {
-                return Found::End;
-            }
-        } else {
-            return Found::Step {
-                from: i,
-                to: e,
-                then: Cursor { at: e },
-            };
-        }
-    }
-    Found::End
-}
-
 // Are the two texts the same?
 pub fn is_same(a: &[u8], b: &[u8]) -> bool
     ensures { λ r. ⌜ r ≡ same (now (a .entry)) (now (b .entry)) ⌝ }
@@ -119,29 +91,4 @@ pub fn is_modifier(word: &[u8]) -> bool
         return true;
     }
     is_same(word, b"omit_inv")
-}
-
-// Where the modifiers in front of a step's other words end.
-pub fn lead_end(s: &[u8]) -> usize
-    ensures { λ r. ⌜ Lead (now (s .entry)) r ⌝ }
-{
-    let mut k = 0;
-    while k < s.len() {
-        let a = run_end(Kind::White, s, k);
-        let e = run_end(Kind::Word, s, a);
-        if is_modifier(&s[a..e]) {
-            k = e;
-        } else {
-            return k;
-        }
-    }
-    k
-}
-
-// Are all words of s modifiers?
-pub fn is_lead(s: &[u8]) -> bool
-    ensures { λ r. ⌜ r ≡ all modifier (words (now (s .entry))) ⌝ }
-{
-    let k = lead_end(s);
-    is_blank(&s[k..])
 }

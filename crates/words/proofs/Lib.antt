@@ -1,4 +1,3 @@
-pub mod Putting
-pub mod Going
-pub mod Numbers
+pub mod Flagging
+pub mod Rows
 pub mod Texts

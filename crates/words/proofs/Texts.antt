@@ -2,61 +2,28 @@
 use mathlib.Core.Path.{_≡_, refl, sym, ap, _∙_}
 use mathlib.Core.Bool.{Bool, true, false, cond, _&&_}
 use mathlib.Core.List.{List, [], _∷_, _++_, map, append-nil, append-assoc}
-use Prim.Native.Nat.{ℕ, zero, suc, _-_, _/_, _%_, _≤_, _<_}
+use Prim.Native.Nat.{ℕ, zero, suc, _-_, _/_, _%_, _≤_}
 use native.Mathlib.Omega.{arith}
-use borrow.Author.Tests.{leb-true, le-leb, eqb-true, ne-eqb}
+use borrow.Author.Tests.{eqb-true, ne-eqb}
 use lib.ListN.{length, take, getD}
 use lib.Seq.{length-take-le}
 use lib.Dec.{leb, eqb}
 use lib.IntN.{ℤ, pos}
 use Rattle.rules.specs.Ascii.{ascii}
 use Rattle.rules.specs.Lists.{all}
-use Rattle.rules.specs.Text.{Bytes, Words, same, afterEach, joinedBy, joined}
-use Rattle.rules.specs.Decimal.{minus}
+use Rattle.rules.specs.Text.{Bytes, Words, afterEach, joinedBy, joined}
 use Rattle.rules.specs.Record.{Operator, Adapt, operatorOf, operator, args, arg, size, isSet, isPlace, isRising, isOrder, isAdapt, isArgs}
 use Rattle.rules.specs.declared.Step.{Step}
-use Rattle.laws.specs.Separators.{and-left, and-right, same-is}
-use Rattle.steplaws.specs.Tests.{below, below-at}
+use Rattle.laws.specs.Separators.{and-left, and-right}
 use Rattle.text.specs.Writing.{WroteAt}
-use Rattle.writelaws.specs.Writing.{listing, pair, flagOf, letter, endingOf, fromWord, toWord, nameWord, argWords, markWord, markWords, stepWords, writing}
-use Rattle.writelaws.specs.Calm.{so, so-at}
+use Rattle.writelaws.specs.Writing.{pair, flagOf, letter, endingOf, fromWord, toWord, nameWord, argWords, markWord, markWords, stepWords, writing}
 use Rattle.writelaws.specs.Sayings.{rising-places}
-use Rattle.words.proofs.Putting.{room-as, as-written, first-room, then-room, both-written}
-use Rattle.words.specs.Parts.{Room, rest, isAxis, lettered, fromText, toText, argText, marked, markText}
+use Rattle.numerals.proofs.Putting.{room-as, as-written, first-room, then-room, both-written}
+use Rattle.numerals.specs.Parts.{Room}
+use Rattle.adaptwords.specs.Parts.{isAxis, fromText, toText}
+use Rattle.words.specs.Parts.{argText, marked, markText}
 
 -- ---- the arguments of each operator
-
-pub push-text : {k : ℕ} (l : List ℤ) → k ≡ 2 → argText (operatorOf k) l ≡ (32 ∷ 112 ∷ 117 ∷ 115 ∷ 104 ∷ 61 ∷ []) ++ listing l
-unfolding argText operatorOf argWords pair afterEach ascii
-push-text l e = rw (e, append-nil (listing l))
-
-pub pop-text : {k : ℕ} (l : List ℤ) → k ≡ 3 → argText (operatorOf k) l ≡ (32 ∷ 112 ∷ 111 ∷ 112 ∷ 61 ∷ []) ++ listing l
-unfolding argText operatorOf argWords pair afterEach ascii
-pop-text l e = rw (e, append-nil (listing l))
-
-pub flip-text : {k : ℕ} (l : List ℤ) → k ≡ 4 → argText (operatorOf k) l ≡ (32 ∷ 102 ∷ 108 ∷ 105 ∷ 112 ∷ 61 ∷ []) ++ listing l
-unfolding argText operatorOf argWords pair afterEach ascii
-flip-text l e = rw (e, append-nil (listing l))
-
-pub roll-text : {k : ℕ} (l : List ℤ) → k ≡ 5 → argText (operatorOf k) l ≡ (32 ∷ 114 ∷ 111 ∷ 108 ∷ 108 ∷ 61 ∷ []) ++ listing l
-unfolding argText operatorOf argWords pair afterEach ascii
-roll-text l e = rw (e, append-nil (listing l))
-
-pub unroll-text : {k : ℕ} (l : List ℤ) → k ≡ 6 → argText (operatorOf k) l ≡ (32 ∷ 117 ∷ 110 ∷ 114 ∷ 111 ∷ 108 ∷ 108 ∷ 61 ∷ []) ++ listing l
-unfolding argText operatorOf argWords pair afterEach ascii
-unroll-text l e = rw (e, append-nil (listing l))
-
-pub order-text : {k : ℕ} (l : List ℤ) → k ≡ 9 → argText (operatorOf k) l ≡ (32 ∷ 111 ∷ 114 ∷ 100 ∷ 101 ∷ 114 ∷ 61 ∷ []) ++ listing l
-unfolding argText operatorOf argWords pair afterEach ascii
-order-text l e = rw (e, append-nil (listing l))
-
-pub swap-text : {k : ℕ} (l : List ℤ) → k ≡ 7 → argText (operatorOf k) l ≡ 32 ∷ 115 ∷ 119 ∷ 97 ∷ 112 ∷ []
-unfolding argText operatorOf argWords afterEach ascii
-swap-text l e = rw e
-
-pub drop-text : {k : ℕ} (l : List ℤ) → k ≡ 8 → argText (operatorOf k) l ≡ 32 ∷ 100 ∷ 114 ∷ 111 ∷ 112 ∷ []
-unfolding argText operatorOf argWords afterEach ascii
-drop-text l e = rw e
 
 pub flags-text : {k : ℕ} (l : List ℤ) → k ≤ 1 → argText (operatorOf k) l ≡ afterEach (32 ∷ []) (map flagOf l)
 unfolding argText operatorOf argWords
@@ -82,92 +49,7 @@ flags-rule {k} l h r = rising-places 0 l (go k h r)
         none : suc (suc k) ≤ 1 → ⊥
         none h = omega arith
 
--- ---- the name
-
-stack-names : below 9 (λ k. so (leb 2 k) (same (nameWord (operatorOf k)) (115 ∷ 116 ∷ 97 ∷ 99 ∷ 107 ∷ []))) ≡ true
-unfolding below so nameWord operatorOf same ascii
-stack-names = refl
-
-pub stack-name : (k : ℕ) → 2 ≤ k → k ≤ 8 → nameWord (operatorOf k) ≡ 115 ∷ 116 ∷ 97 ∷ 99 ∷ 107 ∷ []
-stack-name k h l =
-    same-is _ _ (so-at (leb 2 k) (same (nameWord (operatorOf k)) (115 ∷ 116 ∷ 97 ∷ 99 ∷ 107 ∷ [])) (below-at 9 (λ k. so (leb 2 k) (same (nameWord (operatorOf k)) (115 ∷ 116 ∷ 97 ∷ 99 ∷ 107 ∷ []))) stack-names k (omega arith)) (le-leb 2 k h))
-
-pub push-name : {k : ℕ} → k ≡ 0 → nameWord (operatorOf k) ≡ 112 ∷ 117 ∷ 115 ∷ 104 ∷ []
-unfolding nameWord operatorOf ascii
-push-name e = rw e
-
-pub pop-name : {k : ℕ} → k ≡ 1 → nameWord (operatorOf k) ≡ 112 ∷ 111 ∷ 112 ∷ []
-unfolding nameWord operatorOf ascii
-pop-name e = rw e
-
-pub axisswap-name : {k : ℕ} → k ≡ 9 → nameWord (operatorOf k) ≡ 97 ∷ 120 ∷ 105 ∷ 115 ∷ 115 ∷ 119 ∷ 97 ∷ 112 ∷ []
-unfolding nameWord operatorOf ascii
-axisswap-name e = rw e
-
-pub adapt-name : {k : ℕ} → k ≡ 10 → nameWord (operatorOf k) ≡ 97 ∷ 100 ∷ 97 ∷ 112 ∷ 116 ∷ []
-unfolding nameWord operatorOf ascii
-adapt-name e = rw e
-
--- what is left of the numbers
-pub rest-name : {k : ℕ} → k ≤ 10 → (k ≡ 0 → ⊥) → (k ≡ 1 → ⊥) → (k ≡ 9 → ⊥) → (k ≡ 10 → ⊥) → nameWord (operatorOf k) ≡ 115 ∷ 116 ∷ 97 ∷ 99 ∷ 107 ∷ []
-rest-name {k} h a b c d = stack-name k (omega arith) (omega arith)
-
-past-five : (k : ℕ) → 1 < k → (k ≡ 2 → ⊥) → (k ≡ 3 → ⊥) → (k ≡ 4 → ⊥) → (k ≡ 5 → ⊥) → 5 < k
-past-five k l a b c d = omega arith
-
-past-nine : (k : ℕ) → k ≤ 10 → 5 < k → (k ≡ 6 → ⊥) → (k ≡ 7 → ⊥) → (k ≡ 8 → ⊥) → (k ≡ 9 → ⊥) → k ≡ 10
-past-nine k h l a b c d = omega arith
-
-pub rest-adapt : {k : ℕ} → k ≤ 10 → 1 < k → (k ≡ 2 → ⊥) → (k ≡ 3 → ⊥) → (k ≡ 4 → ⊥) → (k ≡ 5 → ⊥) → (k ≡ 6 → ⊥) → (k ≡ 7 → ⊥) → (k ≡ 8 → ⊥) → (k ≡ 9 → ⊥) → operatorOf k ≡ Adapt
-unfolding operatorOf
-rest-adapt {k} h l a b c d e f g i = let z : k ≡ 10 = past-nine k h (past-five k l a b c d) e f g i in rw z
-
--- ---- letters and endings
-
-pub letters-rest : (begun : Bool) (l : List ℤ) → map letter l ≡ rest lettered begun l
-unfolding rest lettered
-letters-rest begun [] = refl
-letters-rest begun (x ∷ l) = ap (λ (t : Bytes). letter x ∷ t) (letters-rest true l)
-
-pub axis-least : (x : ℤ) {m : ℕ} → m ≡ size x → isAxis x ≡ true → 1 ≤ m
-unfolding isAxis
-axis-least x e h = omega (arith, leb-true 1 (size x) (and-left (leb 1 (size x)) _ h))
-
-pub axis-most : (x : ℤ) {m : ℕ} → m ≡ size x → isAxis x ≡ true → m - 1 < 4
-unfolding isAxis
-axis-most x e h = omega (arith, leb-true 1 (size x) (and-left (leb 1 (size x)) _ h), leb-true (size x) 4 (and-right (leb 1 (size x)) _ h))
-
-pub letter-turned : (x : ℤ) {m r : ℕ} → m ≡ size x → minus x ≡ true → r ≡ getD (119 ∷ 115 ∷ 100 ∷ 112 ∷ []) (m - 1) 0 → r ≡ letter x
-unfolding letter ascii
-letter-turned x e s h = rw (s, ← e) h
-
-pub letter-plain : (x : ℤ) {m r : ℕ} → m ≡ size x → minus x ≡ false → r ≡ getD (101 ∷ 110 ∷ 117 ∷ 102 ∷ []) (m - 1) 0 → r ≡ letter x
-unfolding letter ascii
-letter-plain x e s h = rw (s, ← e) h
-
-pub no-ending : {k : ℕ} → k ≡ 0 → endingOf k ≡ []
-unfolding endingOf
-no-ending e = rw e
-
-pub deg-ending : {k : ℕ} → k ≡ 1 → endingOf k ≡ 95 ∷ 100 ∷ 101 ∷ 103 ∷ []
-unfolding endingOf ascii
-deg-ending e = rw e
-
-pub gon-ending : (k : ℕ) → (k ≡ 0 → ⊥) → (k ≡ 1 → ⊥) → endingOf k ≡ 95 ∷ 103 ∷ 111 ∷ 110 ∷ []
-unfolding endingOf ascii
-gon-ending zero a b = absurd (a refl)
-gon-ending (suc zero) a b = absurd (b refl)
-gon-ending (suc (suc k)) a b = refl
-
 -- ---- the words of `adapt`
-
-pub from-is : (code : ℕ) → fromText code ≡ (32 ∷ 102 ∷ 114 ∷ 111 ∷ 109 ∷ 61 ∷ 101 ∷ 110 ∷ 117 ∷ 102 ∷ []) ++ endingOf (code / 3)
-unfolding fromText ascii
-from-is code = refl
-
-pub to-is : (code : ℕ) (l : List ℤ) → toText code l ≡ (32 ∷ 116 ∷ 111 ∷ 61 ∷ []) ++ (map letter l ++ endingOf (code % 3))
-unfolding toText ascii
-to-is code l = refl
 
 pub adapt-is : (l : List ℤ) {code : ℕ} → code ≡ size (getD l 4 (pos 0)) → argText Adapt l ≡ fromText code ++ toText code (take 4 l)
 unfolding argText argWords afterEach pair fromWord toWord fromText toText arg ascii

@@ -1,88 +1,23 @@
 // The words of a step record: its name, its arguments and its marks, each written into a buffer.
-use acts::minus_at;
-use acts::size_at;
+use adaptwords::from_word;
+use adaptwords::to_word;
+use numerals::listing;
+use numerals::put_byte;
+use sizes::size_at;
 use text::put;
 ghost use mathlib.Core.Path.{_≡_};
 ghost use mathlib.Core.Bool.{true};
-ghost use mathlib.Core.Option.{none};
-ghost use mathlib.Core.List.{[], _∷_, _++_, map};
-ghost use Prim.Native.Nat.{suc, _^_, _≤_, _<_};
-ghost use lib.Dec.{ltb};
+ghost use mathlib.Core.List.{[], _∷_, map};
+ghost use Prim.Native.Nat.{_≤_, _<_};
 ghost use lib.ListN.{length, getD};
 ghost use lib.IntN.{pos};
 ghost use Rattle.rules.specs.Lists.{all};
 ghost use Rattle.rules.specs.Text.{afterEach};
 ghost use Rattle.rules.specs.Record.{Adapt, operatorOf, isPlace, isAdapt, isArgs, nineDigits};
 ghost use Rattle.text.specs.Writing.{WroteAt};
-ghost use Rattle.writelaws.specs.Writing.{digits, spelling, listing, flagOf, letter, endingOf, nameWord};
-ghost use Rattle.words.specs.Parts.{Room, numbered, isAxis, fromText, toText, argText, marked, markText};
-
-// Puts one byte at o.
-fn put_byte(b: u8, out: &mut [u8], o: usize) -> usize
-    requires { ⌜ Room (b ∷ []) o (now out) ⌝ }
-    ensures { λ r. ⌜ WroteAt (b ∷ []) (now (out .entry)) o r (now (out .exit)) ⌝ }
-{
-    out[o] = b;
-    o + 1
-}
-
-// The digits of n, which has at most `more` and one.
-pub fn digits(more: usize, n: usize, out: &mut [u8], o: usize) -> usize
-    requires { ⌜ n < 10 ^ suc more ⌝ }
-    requires { ⌜ Room (digits more n) o (now out) ⌝ }
-    ensures { λ r. ⌜ WroteAt (digits more n) (now (out .entry)) o r (now (out .exit)) ⌝ }
-{
-    if n < 10 {
-        return put_byte(48 + n as u8, out, o);
-    }
-    let last = n % 10;
-    let e = digits(more - 1, n / 10, out, o);
-    put_byte(48 + last as u8, out, e)
-}
-
-// Number i of l, with its sign.
-pub fn spelling(l: &[i32], i: usize, out: &mut [u8], o: usize) -> usize
-    requires { ⌜ i < length (now l) ⌝ }
-    requires { ⌜ all nineDigits (now l) ≡ true ⌝ }
-    requires { ⌜ Room (spelling (getD (now l) i (pos 0))) o (now out) ⌝ }
-    ensures { λ r. ⌜ WroteAt (spelling (getD (now (l .entry)) i (pos 0))) (now (out .entry)) o r (now (out .exit)) ⌝ }
-{
-    let m = size_at(l, i);
-    if minus_at(l, i) {
-        let e = put_byte(b'-', out, o);
-        return digits(8, m, out, e);
-    }
-    digits(8, m, out, o)
-}
-
-// The same, after a comma if it is not the first.
-fn numbered(l: &[i32], i: usize, out: &mut [u8], o: usize) -> usize
-    requires { ⌜ i < length (now l) ⌝ }
-    requires { ⌜ all nineDigits (now l) ≡ true ⌝ }
-    requires { ⌜ Room (numbered (ltb 0 i) (getD (now l) i (pos 0))) o (now out) ⌝ }
-    ensures { λ r. ⌜ WroteAt (numbered (ltb 0 i) (getD (now (l .entry)) i (pos 0))) (now (out .entry)) o r (now (out .exit)) ⌝ }
-{
-    if 0 < i {
-        let e = put_byte(b',', out, o);
-        return spelling(l, i, out, e);
-    }
-    spelling(l, i, out, o)
-}
-
-// The numbers of l with a comma between.
-pub fn listing(l: &[i32], out: &mut [u8], o: usize) -> usize
-    requires { ⌜ all nineDigits (now l) ≡ true ⌝ }
-    requires { ⌜ Room (listing (now l)) o (now out) ⌝ }
-    ensures { λ r. ⌜ WroteAt (listing (now (l .entry))) (now (out .entry)) o r (now (out .exit)) ⌝ }
-{
-    let mut e = o;
-    let mut i = 0;
-    while i < l.len() {
-        e = numbered(l, i, out, e);
-        i += 1;
-    }
-    e
-}
+ghost use Rattle.writelaws.specs.Writing.{listing, flagOf, nameWord};
+ghost use Rattle.numerals.specs.Parts.{Room};
+ghost use Rattle.words.specs.Parts.{isCut, piece, argText, marked, markText};
 
 // The flags of the axes in l, each after a space.
 pub fn flags(l: &[i32], out: &mut [u8], o: usize) -> usize
@@ -110,77 +45,6 @@ fn flag(l: &[i32], i: usize, out: &mut [u8], o: usize) -> usize
     put_byte(48 + size_at(l, i) as u8, out, e)
 }
 
-// Byte i of s.
-fn byte_at(s: &[u8], i: usize) -> u8
-    requires { ⌜ i < length (now s) ⌝ }
-    ensures { λ r. ⌜ r ≡ getD (now (s .entry)) i 0 ⌝ }
-{
-    s[i]
-}
-
-// The letter of number i of l, an axis with its sign.
-fn letter(l: &[i32], i: usize) -> u8
-    requires { ⌜ i < length (now l) ⌝ }
-    requires { ⌜ all isAxis (now l) ≡ true ⌝ }
-    ensures { λ r. ⌜ r ≡ letter (getD (now (l .entry)) i (pos 0)) ⌝ }
-{
-    let m = size_at(l, i);
-    if minus_at(l, i) {
-        return byte_at(b"wsdp", m - 1);
-    }
-    byte_at(b"enuf", m - 1)
-}
-
-// The letters of the axes in l.
-pub fn letters(l: &[i32], out: &mut [u8], o: usize) -> usize
-    requires { ⌜ all isAxis (now l) ≡ true ⌝ }
-    requires { ⌜ Room (map letter (now l)) o (now out) ⌝ }
-    ensures { λ r. ⌜ WroteAt (map letter (now (l .entry))) (now (out .entry)) o r (now (out .exit)) ⌝ }
-{
-    let mut e = o;
-    let mut i = 0;
-    while i < l.len() {
-        let b = letter(l, i);
-        e = put_byte(b, out, e);
-        i += 1;
-    }
-    e
-}
-
-// The ending of an angle: none for radians.
-fn ending(angle: usize, out: &mut [u8], o: usize) -> usize
-    requires { ⌜ Room (endingOf angle) o (now out) ⌝ }
-    ensures { λ r. ⌜ WroteAt (endingOf angle) (now (out .entry)) o r (now (out .exit)) ⌝ }
-{
-    if angle == 0 {
-        return o;
-    }
-    if angle == 1 {
-        return put(b"_deg", out, o);
-    }
-    put(b"_gon", out, o)
-}
-
-// The word of `from`, by the code of a factor.
-fn from_word(code: usize, out: &mut [u8], o: usize) -> usize
-    requires { ⌜ Room (fromText code) o (now out) ⌝ }
-    ensures { λ r. ⌜ WroteAt (fromText code) (now (out .entry)) o r (now (out .exit)) ⌝ }
-{
-    let e = put(b" from=enuf", out, o);
-    ending(code / 3, out, e)
-}
-
-// The word of `to`, by the outputs and the code of a factor.
-fn to_word(code: usize, l: &[i32], out: &mut [u8], o: usize) -> usize
-    requires { ⌜ all isAxis (now l) ≡ true ⌝ }
-    requires { ⌜ Room (toText code (now l)) o (now out) ⌝ }
-    ensures { λ r. ⌜ WroteAt (toText code (now (l .entry))) (now (out .entry)) o r (now (out .exit)) ⌝ }
-{
-    let a = put(b" to=", out, o);
-    let e = letters(l, out, a);
-    ending(code % 3, out, e)
-}
-
 // Both words of `adapt`.
 fn adapted(l: &[i32], out: &mut [u8], o: usize) -> usize
     requires { ⌜ isAdapt (now l) ≡ true ⌝ }
@@ -192,14 +56,15 @@ fn adapted(l: &[i32], out: &mut [u8], o: usize) -> usize
     to_word(code, &l[..4], out, e)
 }
 
-// A key, and the numbers of l.
-fn keyed(key: &[u8], l: &[i32], out: &mut [u8], o: usize) -> usize
-    requires { ⌜ all nineDigits (now l) ≡ true ⌝ }
-    requires { ⌜ Room (now key ++ listing (now l)) o (now out) ⌝ }
-    ensures { λ r. ⌜ WroteAt (now (key .entry) ++ listing (now (l .entry))) (now (out .entry)) o r (now (out .exit)) ⌝ }
+// Piece i of a row of texts that follow each other: it ends where byte i + 1 of `ends` says, and begins where byte i says.
+fn piece(row: &[u8], ends: &[u8], i: usize, out: &mut [u8], o: usize) -> usize
+    requires { ⌜ isCut (now row) (now ends) i ≡ true ⌝ }
+    requires { ⌜ Room (piece (now row) (now ends) i) o (now out) ⌝ }
+    ensures { λ r. ⌜ WroteAt (piece (now (row .entry)) (now (ends .entry)) i) (now (out .entry)) o r (now (out .exit)) ⌝ }
 {
-    let e = put(key, out, o);
-    listing(l, out, e)
+    let from = ends[i] as usize;
+    let end = ends[i + 1] as usize;
+    put(&row[from..end], out, o)
 }
 
 // The operator's name.
@@ -208,16 +73,12 @@ pub fn name(operator: u8, out: &mut [u8], o: usize) -> usize
     requires { ⌜ Room (nameWord (operatorOf operator)) o (now out) ⌝ }
     ensures { λ r. ⌜ WroteAt (nameWord (operatorOf operator)) (now (out .entry)) o r (now (out .exit)) ⌝ }
 {
-    match operator {
-        0 => put(b"push", out, o),
-        1 => put(b"pop", out, o),
-        9 => put(b"axisswap", out, o),
-        10 => put(b"adapt", out, o),
-        _ => put(b"stack", out, o),
-    }
+    let row = b"pushpopstackstackstackstackstackstackstackaxisswapadapt";
+    let ends = b"\x00\x04\x07\x0c\x11\x16\x1b\x20\x25\x2a\x32\x37";
+    piece(row, ends, operator as usize, out, o)
 }
 
-// The arguments' words, each after a space.
+// The arguments' words, each after a space: flags, the words of `adapt`, or a key and the numbers.
 pub fn arguments(operator: u8, l: &[i32], out: &mut [u8], o: usize) -> usize
     requires { ⌜ operator ≤ 10 ⌝ }
     requires { ⌜ all nineDigits (now l) ≡ true ⌝ }
@@ -228,17 +89,13 @@ pub fn arguments(operator: u8, l: &[i32], out: &mut [u8], o: usize) -> usize
     if operator <= 1 {
         return flags(l, out, o);
     }
-    match operator {
-        2 => keyed(b" push=", l, out, o),
-        3 => keyed(b" pop=", l, out, o),
-        4 => keyed(b" flip=", l, out, o),
-        5 => keyed(b" roll=", l, out, o),
-        6 => keyed(b" unroll=", l, out, o),
-        7 => put(b" swap", out, o),
-        8 => put(b" drop", out, o),
-        9 => keyed(b" order=", l, out, o),
-        _ => adapted(l, out, o),
+    if operator == 10 {
+        return adapted(l, out, o);
     }
+    let row = b" push= pop= flip= roll= unroll= swap drop order=";
+    let ends = b"\x00\x00\x00\x06\x0b\x11\x17\x1f\x24\x29\x30";
+    let e = piece(row, ends, operator as usize, out, o);
+    listing(l, out, e)
 }
 
 // A mark's word, if the mark is set.

@@ -23,19 +23,20 @@ use Rattle.laws.specs.Entry.{Lends, lends-refusal, lends-no-room, lends-text}
 use Rattle.text.specs.Writing.{Wrote, WroteAt}
 use Rattle.text.proofs.Writing.{wrote-front, wrote-fits, wrote-counts}
 use Rattle.steplaws.specs.Tests.{never}
-use Rattle.acts.specs.Tests.{badOf}
-use Rattle.acts.specs.declared.Bad.{Bad}
-use Rattle.acts.specs.declared.Bad.the-variants.{At, Nowhere}
-use Rattle.acts.proofs.Sounding.{Sound}
+use Rattle.sound.specs.Records.{badOf}
+use Rattle.sound.specs.declared.Bad.{Bad}
+use Rattle.sound.specs.declared.Bad.the-variants.{At, Nowhere}
+use Rattle.sound.proofs.Sounding.{Sound}
 use Rattle.writelaws.specs.Writing.{nameWord, writing, tableWriting, unless18, write}
 use Rattle.writelaws.specs.Records.{made-keeps}
 use Rattle.writelaws.specs.Written.{writing-short}
 use Rattle.writelaws.specs.Faithful.{table-short}
 use Rattle.writelaws.specs.Returning.{not-18}
-use Rattle.words.specs.Parts.{Room, rest, argText, markText, parted}
-use Rattle.words.proofs.Putting.{room-as, as-written, first-room, then-room, both-written}
-use Rattle.words.proofs.Numbers.{put-written}
-use Rattle.words.proofs.Going.{Going, going-room, going-turn}
+use Rattle.numerals.specs.Parts.{Room, rest}
+use Rattle.words.specs.Parts.{argText, markText, parted}
+use Rattle.numerals.proofs.Putting.{room-as, as-written, first-room, then-room, both-written}
+use Rattle.numerals.proofs.Numbers.{put-written}
+use Rattle.numerals.proofs.Going.{Going, going-room, going-turn}
 use Rattle.words.proofs.Texts.{step-is}
 
 -- ---- a record

@@ -1,10 +1,10 @@
 // Writing the text of a step record, and of a whole table: what preparing it gives is the record again.
-use acts::Bad;
-use acts::made;
-use acts::refusal18;
 use rules::Step;
 use rules::Table;
 use rules::Written;
+use sound::Bad;
+use sound::made;
+use sound::refusal18;
 use text::put;
 use words::arguments;
 use words::marks;
@@ -20,7 +20,8 @@ ghost use Rattle.rules.specs.Record.{made, refusal18, listed};
 ghost use Rattle.laws.specs.Entry.{Lends};
 ghost use Rattle.text.specs.Writing.{WroteAt};
 ghost use Rattle.writelaws.specs.Writing.{writing, tableWriting, write};
-ghost use Rattle.words.specs.Parts.{Room, parted};
+ghost use Rattle.numerals.specs.Parts.{Room};
+ghost use Rattle.words.specs.Parts.{parted};
 
 // The text of a record.
 fn step(s: Step, out: &mut [u8], o: usize) -> usize

@@ -1,7 +1,5 @@
 use Prim.Native.Nat.{_-_}
 use native.Mathlib.Omega.{arith}
-use mathlib.Core.Path.{sym, _∙_}
-use lib.ListN.{length-map}
 use mir.Facts.{toZ-ofZ}
 use Rattle.acts.proofs.Turning.{Turned, turned-none, turned-next, turned-end}
 use borrow.Author.Needs.{needs}

@@ -1,6 +1,5 @@
-use mathlib.Core.Path.{sym, _∙_}
 use native.Mathlib.Omega.{arith}
-use lib.ListN.{length-map, length-take}
+use lib.ListN.{length-take}
 use Rattle.acts.specs.Doings.{rolled}
 use borrow.Author.Needs.{needs}
 use Rattle.acts.proofs.roll_of.Statement.{statement}

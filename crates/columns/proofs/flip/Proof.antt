@@ -12,7 +12,7 @@ use Rattle.columns.proofs.flip.Statement.{statement}
 use Rattle.columns.proofs.flip.Tie as tie
 use Rattle.columns.proofs.flip.Reads as reads
 use Rattle.columns.proofs.flip.Lts as lts
-use Rattle.acts.proofs.size_at.Reads as size-at-reads
+use Rattle.sizes.proofs.size_at.Reads as size-at-reads
 use Rattle.columns.proofs.flip_column.Reads as flip-column-reads
 
 abbrev Inv-loop : tie.InvT-loop

@@ -12,7 +12,7 @@ use Rattle.columns.proofs.pop.Statement.{statement}
 use Rattle.columns.proofs.pop.Tie as tie
 use Rattle.columns.proofs.pop.Reads as reads
 use Rattle.columns.proofs.pop.Lts as lts
-use Rattle.acts.proofs.size_at.Reads as size-at-reads
+use Rattle.sizes.proofs.size_at.Reads as size-at-reads
 use Rattle.columns.proofs.nan_column.Reads as nan-column-reads
 use Rattle.columns.proofs.pop_column.Reads as pop-column-reads
 

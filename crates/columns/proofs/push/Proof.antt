@@ -10,7 +10,7 @@ use Rattle.columns.proofs.push.Statement.{statement}
 use Rattle.columns.proofs.push.Tie as tie
 use Rattle.columns.proofs.push.Reads as reads
 use Rattle.columns.proofs.push.Lts as lts
-use Rattle.acts.proofs.size_at.Reads as size-at-reads
+use Rattle.sizes.proofs.size_at.Reads as size-at-reads
 use Rattle.columns.proofs.push_column.Reads as push-column-reads
 
 abbrev Inv-loop : tie.InvT-loop

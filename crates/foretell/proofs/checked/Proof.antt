@@ -8,8 +8,8 @@ use lib.ListN.{take, length-map}
 use Rattle.rules.specs.Act.{running}
 use Rattle.rules.specs.Check.{verdict, begin, checked}
 use Rattle.rules.specs.declared.Step.{Step}
-use Rattle.acts.proofs.Testing.{not-so, not-left}
-use Rattle.acts.proofs.Sounding.{sound-so, turn-so}
+use Rattle.argtests.proofs.Testing.{not-so, not-left}
+use Rattle.sound.proofs.Sounding.{sound-so, turn-so}
 use Rattle.foretell.specs.Steps.{sofar}
 use Rattle.foretell.proofs.Passing.{Checking, begun, checking-none, checking-few, checking-many, checking-goes, checking-omitted, answers-few, answers-many, told-so, answers-told, ready-so}
 use borrow.Author.Needs.{fits-under}

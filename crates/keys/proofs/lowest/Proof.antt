@@ -1,5 +1,5 @@
 use Rattle.table.specs.Parts.{tableIn}
-use Rattle.parameters.proofs.Lining.{no-part}
+use Rattle.elements.proofs.Tabling.{no-part}
 use Rattle.keys.proofs.Faulting.{Lowering, lowering-none, lowering-at, lowering-turn, lowering-end}
 use borrow.Author.Needs.{needs}
 use Rattle.keys.proofs.lowest.Statement.{statement}

@@ -1,7 +1,7 @@
 use Prim.Native.Nat.{_-_}
 use mathlib.Core.Path.{sym, _∙_}
 use Rattle.table.specs.Parts.{tableIn}
-use Rattle.parameters.proofs.Lining.{no-part}
+use Rattle.elements.proofs.Tabling.{no-part}
 use Rattle.keys.proofs.Looking.{Looking, looking-none, looking-at, looking-found, looking-past, looking-end}
 use borrow.Author.Needs.{needs}
 use Rattle.keys.proofs.value_of.Statement.{statement}

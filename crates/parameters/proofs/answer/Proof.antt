@@ -1,7 +1,8 @@
-use Rattle.token.proofs.Weighing.{text-weight}
+use Rattle.normal.proofs.Weighing.{text-weight}
 use native.Mathlib.Omega.{arith}
 use Rattle.text.proofs.Writing.{wrote-fits, wrote-counts}
-use Rattle.parameters.proofs.Answering.{words-room, front-spelt, front-small, parameters-so}
+use Rattle.elements.proofs.Behind.{front-spelt}
+use Rattle.parameters.proofs.Answering.{words-room, front-small, parameters-so}
 use borrow.Author.Needs.{needs}
 use Rattle.parameters.proofs.answer.Statement.{statement}
 use Rattle.parameters.proofs.answer.Tie as tie

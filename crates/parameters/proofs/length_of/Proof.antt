@@ -1,7 +1,8 @@
 use Prim.Native.Nat.{_-_}
 use native.Mathlib.Omega.{arith}
 use Rattle.table.specs.Parts.{tableIn}
-use Rattle.parameters.proofs.Lining.{Total, no-part, total-none, total-part, total-more, total-small, total-end}
+use Rattle.elements.proofs.Tabling.{no-part}
+use Rattle.parameters.proofs.Lining.{Total, total-none, total-part, total-more, total-small, total-end}
 use borrow.Author.Needs.{fits-under}
 use borrow.Author.Needs.{needs}
 use Rattle.parameters.proofs.length_of.Statement.{statement}

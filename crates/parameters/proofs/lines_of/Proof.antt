@@ -1,6 +1,7 @@
 use Prim.Native.Nat.{_-_}
 use Rattle.table.specs.Parts.{tableIn}
-use Rattle.parameters.proofs.Lining.{Lines, no-part, lines-start, lines-part, lines-room, lines-turn, lines-kept, lines-done}
+use Rattle.elements.proofs.Tabling.{no-part}
+use Rattle.parameters.proofs.Lining.{Lines, lines-start, lines-part, lines-room, lines-turn, lines-kept, lines-done}
 use borrow.Author.Needs.{needs}
 use Rattle.parameters.proofs.lines_of.Statement.{statement}
 use Rattle.parameters.proofs.lines_of.Tie as tie

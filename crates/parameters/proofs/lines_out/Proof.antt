@@ -1,5 +1,5 @@
 use Rattle.table.specs.Parts.{tableIn}
-use Rattle.parameters.proofs.Tabling.{out-no-room, out-wrote}
+use Rattle.parameters.proofs.Replying.{out-no-room, out-wrote}
 use borrow.Author.Needs.{needs}
 use Rattle.parameters.proofs.lines_out.Statement.{statement}
 use Rattle.parameters.proofs.lines_out.Tie as tie

@@ -1,7 +1,8 @@
 use mathlib.Core.Path.{refl}
 use lib.ListN.{replicate}
 use Rattle.table.proofs.Rows.{empty-row}
-use Rattle.parameters.proofs.Tabling.{empty-good, whole-within, name-good, name-so}
+use Rattle.elements.proofs.Tabling.{empty-good}
+use Rattle.parameters.proofs.Replying.{whole-within, name-good, name-so}
 use borrow.Author.Needs.{needs}
 use Rattle.parameters.proofs.name_out.Statement.{statement}
 use Rattle.parameters.proofs.name_out.Tie as tie

@@ -1,6 +1,7 @@
 use lib.ListN.{take}
 use mathlib.Core.Path.{refl, sym, _∙_}
-use Rattle.parameters.proofs.Tabling.{spelt-front, step-blank, step-modifiers, step-full, step-lines}
+use Rattle.elements.proofs.Tabling.{spelt-front}
+use Rattle.parameters.proofs.Replying.{step-blank, step-modifiers, step-full, step-lines}
 use borrow.Author.Needs.{needs}
 use Rattle.parameters.proofs.step_out.Statement.{statement}
 use Rattle.parameters.proofs.step_out.Tie as tie

@@ -1,4 +1,5 @@
-use Rattle.parameters.proofs.Tabling.{spelt-fits, spelt-front, text-name, text-step}
+use Rattle.elements.proofs.Tabling.{spelt-fits, spelt-front}
+use Rattle.parameters.proofs.Replying.{text-name, text-step}
 use borrow.Author.Needs.{needs}
 use Rattle.parameters.proofs.text_out.Statement.{statement}
 use Rattle.parameters.proofs.text_out.Tie as tie

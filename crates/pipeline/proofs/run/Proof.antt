@@ -8,7 +8,7 @@ use lib.ListN.{length, take, length-map}
 use Rattle.rules.specs.Record.{blank, refusal18, listed}
 use Rattle.rules.specs.Act.{running}
 use Rattle.rules.specs.Run.{badList}
-use Rattle.acts.proofs.Testing.{not-so, not-left}
+use Rattle.argtests.proofs.Testing.{not-so, not-left}
 use Rattle.pipeline.specs.Plans.{passesFrom, deepestFrom}
 use Rattle.pipeline.proofs.Finishing.{tuples-few, used-few, refuses-15, refuses-16, refuses-17, refuses-18, past-15, past-16, past-18, finishes}
 use Rattle.pipeline.proofs.Running.{Running, table-none, table-before, table-after, table-step, table-ends}

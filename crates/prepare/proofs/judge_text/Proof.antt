@@ -1,5 +1,5 @@
 use mathlib.Core.Path.{refl, sym, _∙_}
-use Rattle.parameters.proofs.Tabling.{spelt-front}
+use Rattle.elements.proofs.Tabling.{spelt-front}
 use Rattle.prepare.proofs.Stepping.{text-parted, text-blank, text-modifiers, text-full, text-table}
 use borrow.Author.Needs.{needs}
 use Rattle.prepare.proofs.judge_text.Statement.{statement}

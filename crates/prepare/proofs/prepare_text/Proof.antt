@@ -1,6 +1,6 @@
 use native.Mathlib.Omega.{arith}
 use Rattle.text.proofs.Writing.{wrote-fits, wrote-counts}
-use Rattle.parameters.proofs.Answering.{front-spelt}
+use Rattle.elements.proofs.Behind.{front-spelt}
 use Rattle.prepare.proofs.Stepping.{trimmed-room, words-room, text-so}
 use borrow.Author.Needs.{needs}
 use Rattle.prepare.proofs.prepare_text.Statement.{statement}

@@ -4,7 +4,7 @@ use denote.Ref.{now}
 use native.Mathlib.Omega.{arith}
 use lib.ListN.{length-take}
 use Rattle.token.proofs.Answering.{refused-room, wrote-answer}
-use Rattle.token.proofs.Weighing.{text-weight}
+use Rattle.normal.proofs.Weighing.{text-weight}
 use Rattle.text.proofs.Writing.{wrote-fits}
 use Rattle.token.proofs.answer.Statement.{statement}
 use Rattle.token.proofs.answer.Tie as tie

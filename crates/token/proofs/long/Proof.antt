@@ -5,7 +5,7 @@ use native.Mathlib.Nat.{le-of-eq}
 use mathlib.Core.Path.{sym}
 use denote.Ref.{now}
 use lib.ListN.{length-replicate}
-use Rattle.token.proofs.Weighing.{tenfold-room}
+use Rattle.token.proofs.Answering.{tenfold-room}
 use Rattle.token.proofs.long.Statement.{statement}
 use Rattle.token.proofs.long.Tie as tie
 

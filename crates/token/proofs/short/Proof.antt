@@ -2,7 +2,7 @@
 use borrow.Author.Needs.{needs}
 use denote.Ref.{now}
 use native.Mathlib.Omega.{arith}
-use Rattle.token.proofs.Weighing.{tenfold-room}
+use Rattle.token.proofs.Answering.{tenfold-room}
 use Rattle.token.proofs.short.Statement.{statement}
 use Rattle.token.proofs.short.Tie as tie
 

@@ -1,6 +1,6 @@
 use Rattle.words.proofs.Texts.{adapt-is, adapt-long, adapt-axes}
-use Rattle.words.proofs.Putting.{room-as, as-written, first-room, then-room, both-written}
-use Rattle.words.specs.Parts.{fromText}
+use Rattle.numerals.proofs.Putting.{room-as, as-written, first-room, then-room, both-written}
+use Rattle.adaptwords.specs.Parts.{fromText}
 use denote.Ref.{now}
 use lib.Seq.{length-take-le}
 use native.Mathlib.Omega.{arith}

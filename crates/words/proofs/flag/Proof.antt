@@ -1,4 +1,5 @@
-use Rattle.words.proofs.Numbers.{all-at, place-less, prefix-room, axis-room, flag-written}
+use Rattle.numerals.proofs.Numbers.{all-at}
+use Rattle.words.proofs.Flagging.{place-less, prefix-room, axis-room, flag-written}
 use native.Mathlib.Omega.{arith}
 use lib.IntN.{pos}
 use Rattle.rules.specs.Record.{isPlace}

@@ -1,5 +1,5 @@
-use Rattle.words.proofs.Numbers.{flags-rest}
-use Rattle.words.proofs.Going.{Going, going-start, going-room, going-turn, going-length, going-end}
+use Rattle.words.proofs.Flagging.{flags-rest}
+use Rattle.numerals.proofs.Going.{Going, going-start, going-room, going-turn, going-length, going-end}
 use Rattle.words.specs.Parts.{flagged}
 use Rattle.writelaws.specs.Writing.{flagOf}
 use Rattle.rules.specs.Text.{afterEach}

@@ -1,6 +1,6 @@
 use Rattle.words.proofs.Texts.{mark-set, mark-not}
-use Rattle.words.proofs.Numbers.{put-written}
-use Rattle.words.proofs.Putting.{room-as, as-written, none-written}
+use Rattle.numerals.proofs.Numbers.{put-written}
+use Rattle.numerals.proofs.Putting.{room-as, as-written, none-written}
 use mathlib.Core.Path.{sym}
 use borrow.Author.Needs.{needs}
 use Rattle.words.proofs.marked.Statement.{statement}

@@ -1,8 +1,8 @@
 use Rattle.writer.proofs.Stepping.{rows-rest, row-room, row-turn, rows-end}
-use Rattle.words.proofs.Going.{Going, going-start, going-length, going-end}
+use Rattle.numerals.proofs.Going.{Going, going-start, going-length, going-end}
 use Rattle.words.specs.Parts.{parted}
 use Rattle.writelaws.specs.Writing.{tableWriting}
-use Rattle.acts.proofs.Sounding.{Sound, sound-so}
+use Rattle.sound.proofs.Sounding.{Sound, sound-so}
 use Rattle.rules.specs.Record.{listed}
 use lib.ListN.{take, length-map}
 use Prim.Native.Nat.{_-_}

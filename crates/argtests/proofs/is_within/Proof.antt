@@ -1,0 +1,16 @@
+use borrow.Author.Tests.{le-leb, lt-leb}
+use Rattle.argtests.proofs.is_within.Statement.{statement}
+use Rattle.argtests.proofs.is_within.Tie as tie
+use Rattle.argtests.proofs.is_within.Reads as reads
+use Rattle.argtests.proofs.is_within.Lts as lts
+
+-- src/lib.rt:34:9
+returns : tie.Need-returns
+returns c = rw (le-leb _ _ (c .if1 .taken))
+
+-- src/lib.rt:30:1
+returns-2 : tie.Need-returns-2
+returns-2 c = rw (lt-leb _ _ (c .if1 .left))
+
+pub is-within-spec : {M : Type 1} → statement M
+is-within-spec = tie.close (tie.spec returns returns-2)

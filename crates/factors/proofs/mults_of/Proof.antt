@@ -1,0 +1,37 @@
+use lib.ListN.{getD}
+use lib.IntN.{pos}
+use Rattle.rules.specs.Record.{arg}
+use Rattle.rules.specs.Coordinate.{mult}
+use Rattle.coordinate.specs.Coords.{mults}
+use Rattle.factors.proofs.Signs.{as-is, mult-made}
+use borrow.Author.Needs.{needs}
+use Rattle.factors.proofs.mults_of.Statement.{statement}
+use Rattle.factors.proofs.mults_of.Tie as tie
+
+returns : tie.Need-returns
+unfolding mults mult arg
+returns c =
+    let l = c .before .before .before .before .before .before .before .before .before .before .before .before .args .t1 in
+    let e1 = mult-made (getD l 0 (pos 0)) _ (getD l 4 (pos 0)) _ _ (as-is _ (record { sfits = c .before .before .before .before .before .before .before .before .before .before .before .mult-of-arg .given })) (as-is _ (record { sfits = c .before .before .before .before .before .before .before .before .before .before .mult-of-arg2 .given })) (c .before .before .before .before .before .before .before .before .before .mult-of .ensures) in
+    let e2 = mult-made (getD l 1 (pos 0)) _ (getD l 5 (pos 0)) _ _ (as-is _ (record { sfits = c .before .before .before .before .before .before .before .before .mult-of-arg3 .given })) (as-is _ (record { sfits = c .before .before .before .before .before .before .before .mult-of-arg4 .given })) (c .before .before .before .before .before .before .mult-of2 .ensures) in
+    let e3 = mult-made (getD l 2 (pos 0)) _ (getD l 6 (pos 0)) _ _ (as-is _ (record { sfits = c .before .before .before .before .before .mult-of-arg5 .given })) (as-is _ (record { sfits = c .before .before .before .before .mult-of-arg6 .given })) (c .before .before .before .mult-of3 .ensures) in
+    let e4 = mult-made (getD l 3 (pos 0)) _ (getD l 7 (pos 0)) _ _ (as-is _ (record { sfits = c .before .before .mult-of-arg7 .given })) (as-is _ (record { sfits = c .before .mult-of-arg8 .given })) (c .mult-of4 .ensures) in
+    λ i. record { a = e1 i; b = e2 i; c = e3 i; d = e4 i }
+
+pub mults-of-spec : {M : Type 1} → statement M
+mults-of-spec =
+    tie.close
+    (tie.spec
+    (λ c. search needs)
+    (λ c. search needs)
+    (λ c κs. search needs)
+    (λ c. search needs)
+    (λ c. search needs)
+    (λ c κs. search needs)
+    (λ c. search needs)
+    (λ c. search needs)
+    (λ c κs. search needs)
+    (λ c. search needs)
+    (λ c. search needs)
+    (λ c κs. search needs)
+    returns)

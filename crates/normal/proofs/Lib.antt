@@ -1,0 +1,3 @@
+pub mod Weighing
+pub mod Running
+pub mod Calming

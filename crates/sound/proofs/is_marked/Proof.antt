@@ -1,0 +1,20 @@
+use mathlib.Core.Path.{refl}
+use borrow.Author.Tests.{le-leb, lt-leb}
+use Rattle.sound.specs.Records.{isMarked}
+use Rattle.sound.proofs.is_marked.Statement.{statement}
+use Rattle.sound.proofs.is_marked.Tie as tie
+
+returns : tie.Need-returns
+unfolding isMarked
+returns c = rw (lt-leb _ _ (c .if1 .taken)) refl
+
+returns-2 : tie.Need-returns-2
+unfolding isMarked
+returns-2 c = rw (le-leb _ _ (c .before .before .if1 .left), lt-leb _ _ (c .if2 .taken)) refl
+
+returns-3 : tie.Need-returns-3
+unfolding isMarked
+returns-3 c = rw (le-leb _ _ (c .before .before .before .if1 .left), le-leb _ _ (c .before .if2 .left)) refl
+
+pub is-marked-spec : {M : Type 1} → statement M
+is-marked-spec = tie.close (tie.spec returns returns-2 returns-3)

@@ -1,0 +1,25 @@
+-- A record, in the code's own order of tests.
+use Prim.Native.Nat.{ℕ}
+use mathlib.Core.Bool.{Bool, _&&_}
+use mathlib.Core.List.{List}
+use mathlib.Core.Option.{Option, none, some}
+use lib.Dec.{leb}
+use lib.IntN.{ℤ}
+use Rattle.rules.specs.Lists.{all}
+use Rattle.rules.specs.Record.{nineDigits, isArgs, operatorOf}
+use Rattle.rules.specs.declared.Step.{Step}
+use Rattle.sound.specs.declared.Bad.{Bad}
+use Rattle.sound.specs.declared.Bad.the-variants.{At, Nowhere}
+use Rattle.argtests.specs.declared.Kind.the-variants.{Zero}
+use Rattle.argtests.specs.Tests.{isOf}
+
+unfoldable pub isMarked : Step → Bool
+isMarked s = leb (s .inv) 1 && (leb (s .«omit_fwd») 1 && leb (s .«omit_inv») 1)
+
+unfoldable pub isWritten : ℕ → List ℤ → List ℤ → Bool
+isWritten operator l unused = all (isOf Zero) unused && (all nineDigits l && isArgs (operatorOf operator) l)
+
+-- the place of refusal 18, in the words of the code
+unfoldable pub badOf : Option ℕ → Bad
+badOf none = Nowhere
+badOf (some place) = At place
