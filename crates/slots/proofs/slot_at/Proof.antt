@@ -1,9 +1,9 @@
 use mathlib.Core.Path.{sym, ap, _∙_}
 use Rattle.coordinate.specs.Coords.{slot}
 use Rattle.coordinate.proofs.Ordering.{slot-named, slot-stays}
 use borrow.Author.Needs.{needs}
-use Rattle.coordinate.proofs.slot_at.Statement.{statement}
-use Rattle.coordinate.proofs.slot_at.Tie as tie
+use Rattle.slots.proofs.slot_at.Statement.{statement}
+use Rattle.slots.proofs.slot_at.Tie as tie
 
 size-at-requires : tie.Need-size-at-requires
 size-at-requires c κs = search needs

@@ -1,6 +1,6 @@
-use Rattle.operators.proofs.Filling.{mark-given, mark-not}
-use Rattle.operators.proofs.mark.Statement.{statement}
-use Rattle.operators.proofs.mark.Tie as tie
+use Rattle.making.proofs.Filling.{mark-given, mark-not}
+use Rattle.making.proofs.mark.Statement.{statement}
+use Rattle.making.proofs.mark.Tie as tie
 
 returns : tie.Need-returns
 returns c = mark-given _ (c .if1 .taken)

@@ -1,7 +1,7 @@
 use Rattle.coordinate.specs.Coords.{slotsOf}
 use borrow.Author.Needs.{needs}
-use Rattle.coordinate.proofs.slots_of.Statement.{statement}
-use Rattle.coordinate.proofs.slots_of.Tie as tie
+use Rattle.slots.proofs.slots_of.Statement.{statement}
+use Rattle.slots.proofs.slots_of.Tie as tie
 
 slot-at-requires : tie.Need-slot-at-requires
 slot-at-requires c κs = search needs

@@ -16,9 +16,9 @@ use Rattle.decimal.specs.declared.Whole.{Whole}
 use Rattle.decimal.specs.declared.Args.{Args}
 use Rattle.decimal.specs.Reading.{wholeIs, wholesOf, Good}
 use Rattle.rules.specs.declared.Step.{Step}
-use Rattle.operators.specs.Making.{markAs, slotsAs, stepAs}
+use Rattle.making.specs.Making.{markAs, slotsAs, stepAs}
 use Rattle.operators.proofs.Signing.{whole-size}
 use Rattle.operators.proofs.Counting.{args-length, args-at, args-next}
 
 -- ---- nine digits
 

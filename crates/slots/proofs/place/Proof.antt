@@ -1,9 +1,9 @@
 use Rattle.rules.specs.Tuples.{tuples}
 use Rattle.coordinate.proofs.Loading.{below-tuples}
 use Rattle.coordinate.proofs.Placing.{placed-four}
 use borrow.Author.Needs.{needs}
-use Rattle.coordinate.proofs.place.Statement.{statement}
-use Rattle.coordinate.proofs.place.Tie as tie
+use Rattle.slots.proofs.place.Statement.{statement}
+use Rattle.slots.proofs.place.Tie as tie
 
 set-at-requires : tie.Need-set-at-requires
 set-at-requires c κs = search needs

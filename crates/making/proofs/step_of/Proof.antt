@@ -1,7 +1,7 @@
-use Rattle.operators.proofs.Filling.{step-so}
+use Rattle.making.proofs.Filling.{step-so}
 use borrow.Author.Needs.{needs}
-use Rattle.operators.proofs.step_of.Statement.{statement}
-use Rattle.operators.proofs.step_of.Tie as tie
+use Rattle.making.proofs.step_of.Statement.{statement}
+use Rattle.making.proofs.step_of.Tie as tie
 
 slots-requires : tie.Need-slots-requires
 slots-requires c κs = search needs

@@ -1,7 +1,7 @@
 use Rattle.coordinate.proofs.Loading.{set-slot}
 use borrow.Author.Needs.{needs}
-use Rattle.coordinate.proofs.set_at.Statement.{statement}
-use Rattle.coordinate.proofs.set_at.Tie as tie
+use Rattle.slots.proofs.set_at.Statement.{statement}
+use Rattle.slots.proofs.set_at.Tie as tie
 
 mul-xs : tie.Need-mul-xs
 mul-xs c = search needs

@@ -1,7 +1,7 @@
 use Rattle.operators.proofs.Signing.{turned-fits, signed-turned, signed-plain}
 use borrow.Author.Needs.{needs}
-use Rattle.operators.proofs.signed.Statement.{statement}
-use Rattle.operators.proofs.signed.Tie as tie
+use Rattle.making.proofs.signed.Statement.{statement}
+use Rattle.making.proofs.signed.Tie as tie
 
 cast-n : tie.Need-cast-n
 cast-n c = search needs

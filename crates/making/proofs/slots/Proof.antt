@@ -1,9 +1,9 @@
 use Rattle.operators.proofs.Signing.{stored}
-use Rattle.operators.proofs.Filling.{Fills, nine-at, fills-none, fills-more, fills-end}
+use Rattle.making.proofs.Filling.{Fills, nine-at, fills-none, fills-more, fills-end}
 use Prim.Native.Nat.{_-_}
 use borrow.Author.Needs.{needs}
-use Rattle.operators.proofs.slots.Statement.{statement}
-use Rattle.operators.proofs.slots.Tie as tie
+use Rattle.making.proofs.slots.Statement.{statement}
+use Rattle.making.proofs.slots.Tie as tie
 
 abbrev Inv-loop : tie.InvT-loop
 Inv-loop a n args₀ i₀ args i = Fills a args i

@@ -1,8 +1,8 @@
 use native.Mathlib.Omega.{arith}
 use borrow.Author.Tests.{eq-eqb, ne-eqb}
 use Rattle.coordinate.specs.Coords.{slot}
-use Rattle.coordinate.proofs.slot_of.Statement.{statement}
-use Rattle.coordinate.proofs.slot_of.Tie as tie
+use Rattle.slots.proofs.slot_of.Statement.{statement}
+use Rattle.slots.proofs.slot_of.Tie as tie
 
 returns : tie.Need-returns
 unfolding slot

@@ -1,7 +1,7 @@
 use Rattle.coordinate.specs.Coords.{picked}
 use borrow.Author.Needs.{needs}
-use Rattle.coordinate.proofs.pick.Statement.{statement}
-use Rattle.coordinate.proofs.pick.Tie as tie
+use Rattle.slots.proofs.pick.Statement.{statement}
+use Rattle.slots.proofs.pick.Tie as tie
 
 get-at-requires : tie.Need-get-at-requires
 get-at-requires c κs = search needs

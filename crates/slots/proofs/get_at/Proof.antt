@@ -1,7 +1,7 @@
 use Rattle.coordinate.proofs.Loading.{get-slot}
 use borrow.Author.Needs.{needs}
-use Rattle.coordinate.proofs.get_at.Statement.{statement}
-use Rattle.coordinate.proofs.get_at.Tie as tie
+use Rattle.slots.proofs.get_at.Statement.{statement}
+use Rattle.slots.proofs.get_at.Tie as tie
 
 mul-result : tie.Need-mul-result
 mul-result c = search needs
