@@ -1,10 +1,10 @@
 use Prim.Native.Nat.{_-_}
 use lib.ListN.{length}
 use native.Mathlib.Omega.{arith}
-use Rattle.split.proofs.Lining.{Lining, lining-start, lining-length, lining-newline-room, lining-newline, lining-onward, lining-comment, lining-byte-room, lining-byte, lining-end}
+use Rattle.comments.proofs.Lining.{Lining, lining-start, lining-length, lining-newline-room, lining-newline, lining-onward, lining-comment, lining-byte-room, lining-byte, lining-end}
 use borrow.Author.Needs.{needs}
-use Rattle.split.proofs.lines_from.Statement.{statement}
-use Rattle.split.proofs.lines_from.Tie as tie
+use Rattle.comments.proofs.lines_from.Statement.{statement}
+use Rattle.comments.proofs.lines_from.Tie as tie
 
 abbrev Inv-loop : tie.InvT-loop
 Inv-loop src dst₀ at o₀ i₀ t7 dst o i = Lining src dst₀ at o i dst

@@ -1,9 +1,9 @@
 use mathlib.Core.Path.{refl, _∙_}
 use denote.Ref.{now}
 use Rattle.text.proofs.Writing.{wrote-fits, wrote-counts}
-use Rattle.split.proofs.Answering.{text-weight, text-weight-less, clean-room, clean-holds}
-use Rattle.split.proofs.clean_into.Statement.{statement}
-use Rattle.split.proofs.clean_into.Tie as tie
+use Rattle.comments.proofs.Cleaning.{text-weight, text-weight-less, clean-room, clean-holds}
+use Rattle.comments.proofs.clean_into.Statement.{statement}
+use Rattle.comments.proofs.clean_into.Tie as tie
 
 strip-into-requires : tie.Need-strip-into-requires
 strip-into-requires c κs = let t = c .before .before .before .before .before .before in (text-weight (now (t .args .text)) (t .pre .0), text-weight-less (now (t .args .text)) (t .pre .1 .1))

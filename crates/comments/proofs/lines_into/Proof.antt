@@ -1,9 +1,9 @@
 use Prim.Native.Nat.{ℕ}
 use mathlib.Core.Path.{_∙_}
 use lib.ListN.{length-set}
-use Rattle.split.proofs.Lining.{lines-place, lines-room, lines-done}
-use Rattle.split.proofs.lines_into.Statement.{statement}
-use Rattle.split.proofs.lines_into.Tie as tie
+use Rattle.comments.proofs.Lining.{lines-place, lines-room, lines-done}
+use Rattle.comments.proofs.lines_into.Statement.{statement}
+use Rattle.comments.proofs.lines_into.Tie as tie
 
 slice-write-dst : tie.Need-slice-write-dst
 slice-write-dst c = lines-place (c .before .before .args .src .now) (c .before .before .args .dst .now) (c .before .before .pre)

@@ -1,10 +1,10 @@
 use denote.Ref.{now}
 use native.Mathlib.Omega.{arith}
 use Rattle.text.proofs.Writing.{wrote-fits, wrote-counts}
-use Rattle.split.proofs.Stripping.{none-room, none-wrote, once-room, twice-room, twice-wrote}
+use Rattle.comments.proofs.Stripping.{none-room, none-wrote, once-room, twice-room, twice-wrote}
 use borrow.Author.Needs.{needs}
-use Rattle.split.proofs.newlines_into.Statement.{statement}
-use Rattle.split.proofs.newlines_into.Tie as tie
+use Rattle.comments.proofs.newlines_into.Statement.{statement}
+use Rattle.comments.proofs.newlines_into.Tie as tie
 
 slice-aggregate-find : tie.Need-slice-aggregate-find
 slice-aggregate-find c = search needs

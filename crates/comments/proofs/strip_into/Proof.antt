@@ -2,10 +2,10 @@ use mathlib.Core.Path.{_∙_}
 use denote.Ref.{now}
 use native.Mathlib.Omega.{arith}
 use Rattle.text.proofs.Writing.{wrote-fits, wrote-counts}
-use Rattle.split.proofs.Stripping.{trim-room, trim-more-room, folded-room, stripped-room, stripped-holds}
+use Rattle.comments.proofs.Stripping.{trim-room, trim-more-room, folded-room, stripped-room, stripped-holds}
 use borrow.Author.Needs.{needs}
-use Rattle.split.proofs.strip_into.Statement.{statement}
-use Rattle.split.proofs.strip_into.Tie as tie
+use Rattle.comments.proofs.strip_into.Statement.{statement}
+use Rattle.comments.proofs.strip_into.Tie as tie
 
 trim-requires : tie.Need-trim-requires
 trim-requires c κs = search needs

@@ -12,7 +12,7 @@ use lib.Seq.{drop-set-lt, drop-drop}
 use Rattle.rules.specs.Ascii.{is}
 use Rattle.rules.specs.Text.{Bytes, starts, before, onto, cut}
 use Rattle.rules.specs.Comments.{uncommented, lined}
-use Rattle.split.specs.Lines.{left}
+use Rattle.comments.specs.Lines.{left}
 use Rattle.text.specs.Writing.{Wrote}
 use Rattle.text.specs.Places.{ahead}
 use Rattle.text.proofs.Replacing.{ahead-within}
