@@ -26,7 +26,7 @@ use Rattle.table.proofs.Placing.{map-append}
 use Rattle.decimal.specs.declared.Whole.{Whole}
 use Rattle.decimal.specs.declared.Args.{Args}
 use Rattle.decimal.specs.Reading.{wholeIs, wholesIn, wholesOf}
-use Rattle.operators.specs.Making.{markAs, slotsAs, stepAs}
+use Rattle.making.specs.Making.{markAs, slotsAs, stepAs}
 use Rattle.operators.proofs.Counting.{args-length}
 use Rattle.keys.specs.Finding.{valueIs, Looks}
 use Rattle.keys.specs.declared.Value.{Value}

@@ -18,7 +18,7 @@ use Rattle.table.specs.Parts as parts
 use Rattle.table.specs.Parts.{Parts}
 use Rattle.decimal.specs.Reading as reading
 use Rattle.decimal.specs.declared.Args.{Args}
-use Rattle.operators.specs.Making.{stepAs}
+use Rattle.making.specs.Making.{stepAs}
 use Rattle.judge.specs.declared.Judged.{Judged}
 
 -- a table of parts of the text; arguments that a record may have

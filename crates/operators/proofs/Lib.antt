@@ -1,4 +1,3 @@
 pub mod Signing
 pub mod Counting
 pub mod Wording
-pub mod Filling

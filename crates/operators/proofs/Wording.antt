@@ -1,7 +1,7 @@
 -- The words of `adapt`: the invariants of the loops over letters and axes, and what each function gives.
 use mathlib.Core.Path.{_≡_, refl, sym, ap, _∙_}
 use Prim.Native.Nat.{ℕ, suc, _+_, _-_, _*_, _≤_, _<_}
-use mathlib.Core.Bool.{Bool, true, false, cond, not, _&&_, _||_, xor, false≢true}
+use mathlib.Core.Bool.{Bool, true, false, cond, not, _&&_, xor, false≢true}
 use mathlib.Core.Option.{Option, none, some}
 use mathlib.Core.List.{List, [], _∷_, map}
 use native.Mathlib.Numerals.{add-one}

@@ -1,4 +1,5 @@
 // Preparing: from a text to its step records, in a table of 64 by value.
+use comments::clean_into;
 use domain::in_domain;
 use elements::table_of;
 use judge::Judged;
@@ -12,7 +13,6 @@ use rules::Found;
 use rules::Prepared;
 use rules::Table;
 use split::Fault;
-use split::clean_into;
 use split::fault_of;
 use split::step_at;
 use text::put;

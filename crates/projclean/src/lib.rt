@@ -1,8 +1,8 @@
 // Cleaning a PROJ text before it is cut into steps: line ends, the `+` signs, comments, the normal form. The Rust is the
 // first half of `parse_proj` of src/token/mod.rs.
+use comments::lines_into;
+use comments::newlines_into;
 use normal::normal_of;
-use split::lines_into;
-use split::newlines_into;
 use text::Edge;
 use text::start_of;
 use text::starts_at;

@@ -7,7 +7,7 @@ use native.Mathlib.Omega.{arith}
 use lib.ListN.{length, take}
 use lib.Dec.{ltb}
 use Rattle.rules.specs.Lists.{any, placeOf}
-use Rattle.rules.specs.Text.{Bytes, Steps, white, inDomain, trimmed}
+use Rattle.rules.specs.Text.{Bytes, Steps, inDomain}
 use Rattle.rules.specs.Refusal.{Reply, answers, refuses, andThen, Writes}
 use Rattle.rules.specs.Normal.{normal}
 use Rattle.rules.specs.Comments.{stripped}
@@ -15,7 +15,7 @@ use Rattle.rules.specs.Split.{onlyModifiers, stepsOf, steps, stepText, splitSte
 use Rattle.rules.specs.declared.Written.{Written}
 use Rattle.rules.specs.declared.Written.the-variants as variant
 use Rattle.laws.specs.Entry.{Lends, lends-no-room, lends-text, lends-so}
-use Rattle.laws.specs.Sizes.{weight, weight-length, steps-length, stripped-weight}
+use Rattle.laws.specs.Sizes.{steps-length}
 use Rattle.text.specs.Writing.{Wrote, Holds}
 use Rattle.text.proofs.Writing.{wrote-front}
 use Rattle.split.specs.Faults.{faultOf}
@@ -89,19 +89,6 @@ module _ (n : Bytes) {out b₀ b : Bytes} {m : ℕ} (e : Nothing ≡ faultOf (st
   out-wrote l v = let u = rw (wrote-front w) at v in lends-text (fault-none n e) (omega (arith, w .count)) (u .count) (u .whole)
 
 -- ---- the text on its way
-
-pub text-weight : (t : Bytes) {x : ℕ} → 10 * length t ≤ x → weight t ≤ x
-text-weight t h = omega (arith, weight-length t)
-
-pub text-weight-less : (t : Bytes) {x : ℕ} → 10 * length t < x → weight t < x
-text-weight-less t h = omega (arith, weight-length t)
-
-module _ (t : Bytes) {c : Bytes} {k : ℕ} (w : Holds (stripped t) k c) where
-  pub clean-room : {x y : ℕ} → 10 * length t ≤ x → y ≡ x → weight (trimmed white (take k c)) ≤ y
-  clean-room h e = rw (wrote-front w) (omega (arith, stripped-weight t, weight-length t))
-
-  pub clean-holds : {a : Bytes} {r : ℕ} → Holds (normal (take k c)) r a → Holds (normal (stripped t)) r a
-  clean-holds v = rw (wrote-front w) at v
 
 is-split : (t : Bytes) → split t ≡ splitNormal (normal (stripped t))
 unfolding split steps
