@@ -2,19 +2,13 @@
 // for each. It holds no rule of its own: it decodes, lends storage, calls the library and prints. A line of over
 // 131,072 bytes is answered as no request.
 mod ask;
-mod checks;
-mod fields;
-mod out;
-mod records;
-mod runs;
-mod shows;
-mod writes;
 
 ghost use Prim.Native.Nat.{_≤_, _<_};
 ghost use mathlib.Core.Path.{_≡_};
 ghost use lib.ListN.{length};
-ghost use Rattle.answering.specs.Storage.{Rows, Storage};
 use libc::STDIN_FILENO;
+use saying::flush;
+use telling::UNTOUCHED;
 
 // A byte that no request begins with: it stands for the front of a line that is too long.
 const NO_REQUEST: u8 = b'?';
@@ -30,7 +24,7 @@ fn input_room() -> [u8; 131073]
 fn lent_room() -> [u8; 131088]
     ensures { λ r. ⌜ 131088 ≡ length r ⌝ }
 {
-    [ask::UNTOUCHED; 131088]
+    [UNTOUCHED; 131088]
 }
 
 // Reads once, behind the first `have` bytes, and answers how many there are then: no more where the input has ended.
@@ -62,15 +56,13 @@ fn keep(input: &mut [u8], start: usize, end: usize) -> usize
 fn answer_lines(
     input: &[u8],
     seen: usize,
-    text: &mut [u8],
-    lent: &mut [u8],
-    list: &mut [f64],
-    store: &mut [f64],
-    out: &mut [u8],
+    text: &mut [u8; 65536],
+    lent: &mut [u8; 131088],
+    list: &mut [f64; 262164],
+    store: &mut [f64; 262164],
+    out: &mut [u8; 65536],
 ) -> usize
     requires { ⌜ seen ≤ length (now input) ⌝ }
-    requires { ⌜ Storage (now lent) (now out) 0 ⌝ }
-    requires { ⌜ Rows (now list) (now store) ⌝ }
     ensures { λ r. ⌜ r ≤ length (now (input .entry)) ⌝ }
 {
     let mut start = 0;
@@ -81,33 +73,28 @@ fn answer_lines(
         start = newline + 1;
         newline = wire::find(input, start, b'\n');
     }
-    out::flush(out, at);
+    flush(out, at);
     start
 }
 
 // Answers the last line, where it has no newline.
 fn answer_last(
     line: &[u8],
-    text: &mut [u8],
-    lent: &mut [u8],
-    list: &mut [f64],
-    store: &mut [f64],
-    out: &mut [u8],
-)
-    requires { ⌜ Storage (now lent) (now out) 0 ⌝ }
-    requires { ⌜ Rows (now list) (now store) ⌝ }
-{
+    text: &mut [u8; 65536],
+    lent: &mut [u8; 131088],
+    list: &mut [f64; 262164],
+    store: &mut [f64; 262164],
+    out: &mut [u8; 65536],
+) {
     if 0 < line.len() {
         let at = ask::answer(line, text, lent, list, store, out, 0);
-        out::flush(out, at);
+        flush(out, at);
     }
 }
 
 // A proved loop has to end, and nothing says that the input does: the loop counts its turns down, from a number that no
 // run uses up.
-fn serve_with(list: &mut [f64], store: &mut [f64])
-    requires { ⌜ Rows (now list) (now store) ⌝ }
-{
+fn serve_with(list: &mut [f64; 262164], store: &mut [f64; 262164]) {
     let mut input = input_room();
     // Room for the longest text that a line can spell.
     let mut text = io::large_buffer();
@@ -118,11 +105,11 @@ fn serve_with(list: &mut [f64], store: &mut [f64])
     while 0 < turns {
         let end = read_more(&mut input, have);
         if end == have {
-            answer_last(&input[..have], &mut text, &mut lent, list, store, &mut out);
+            answer_last(&input[0..have], &mut text, &mut lent, list, store, &mut out);
             return;
         }
         let start = answer_lines(
-            &input[..end],
+            &input[0..end],
             have,
             &mut text,
             &mut lent,

