@@ -1,12 +1,12 @@
--- `answering::serve_with` meets its contract: the line that has begun does not fill the buffer, whose length stays; the measure is the turns left.
+-- `answers::serve_with` meets its contract: the line that has begun does not fill the buffer, whose length stays; the measure is the turns left.
 -- Assumes nothing.
 use Prim.Native.Nat.{_<_, _≤_}
 use native.Mathlib.Omega.{arith}
 use lib.ListN.{length}
 use mathlib.Core.Path.{_≡_}
 use borrow.Author.Needs.{needs}
-use Rattle.answering.proofs.serve_with.Statement.{statement}
-use Rattle.answering.proofs.serve_with.Tie as tie
+use Rattle.answers.proofs.serve_with.Statement.{statement}
+use Rattle.answers.proofs.serve_with.Tie as tie
 
 abbrev Inv-loop : tie.InvT-loop
 Inv-loop list₀ store₀ input₀ text₀ lent₀ out₀ have₀ turns₀ list store input text lent out have turns =

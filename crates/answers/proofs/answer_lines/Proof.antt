@@ -1,10 +1,10 @@
--- `answering::answer_lines` meets its contract: the line that has begun starts no later than the newline looked for; the measure is what is left behind its start.
+-- `answers::answer_lines` meets its contract: the line that has begun starts no later than the newline looked for; the measure is what is left behind its start.
 -- Assumes nothing.
 use Prim.Native.Nat.{_≤_, _-_}
 use lib.ListN.{length}
 use borrow.Author.Needs.{needs}
-use Rattle.answering.proofs.answer_lines.Statement.{statement}
-use Rattle.answering.proofs.answer_lines.Tie as tie
+use Rattle.answers.proofs.answer_lines.Statement.{statement}
+use Rattle.answers.proofs.answer_lines.Tie as tie
 
 abbrev Inv-loop : tie.InvT-loop
 Inv-loop input seen text₀ lent₀ list₀ store₀ out₀ start₀ at₀ newline₀ text lent list store out start at newline =
