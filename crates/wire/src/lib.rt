@@ -22,6 +22,7 @@ pub use read::Natural;
 pub use read::Text;
 pub use read::read_natural;
 pub use read::read_text;
+pub use read::read_text_of;
 pub use store::fill;
 pub use store::is_all;
 pub use store::to_front;

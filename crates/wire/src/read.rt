@@ -2,6 +2,8 @@
 ghost use Prim.Native.Nat.{_≤_};
 ghost use lib.ListN.{length};
 ghost use Rattle.wire.specs.Bounds.{upTo, within};
+use crate::line::field;
+use crate::line::fields;
 use crate::line::same;
 
 // The most digits of a number: any number of so many fits.
@@ -76,6 +78,16 @@ pub fn read_text(field: &[u8], out: &mut [u8]) -> Text
         i += 1;
     }
     Text::Is(n)
+}
+
+// The text in field k of a line, where the line has `count` fields.
+pub fn read_text_of(line: &[u8], count: usize, k: usize, out: &mut [u8]) -> Text
+    ensures { λ r. ⌜ within (now (out .exit)) r ⌝ }
+{
+    if fields(line) != count {
+        return Text::Not;
+    }
+    read_text(field(line, k), out)
 }
 
 // The digit's value, or 10.

@@ -1,0 +1,74 @@
+// Which request a line is, and its answer. A request on a text that is new is a variant of `TextCall` and its word in
+// `asked_text`, one on a table a variant of `TableCall` and its word in `asked_table`.
+ghost use Prim.Native.Nat.{_≤_};
+use saying::say_what;
+use tables::TableCall;
+use tables::answer_table;
+use texts::TextCall;
+use texts::answer_steps;
+use texts::answer_text;
+
+enum Request {
+    Text(TextCall),
+    Table(TableCall),
+    Steps,
+    Nothing,
+}
+
+// Which request a line's first field names.
+fn asked(word: &[u8]) -> Request {
+    if wire::same(word, b"prepare") {
+        return Request::Table(TableCall::Prepare);
+    }
+    if wire::same(word, b"check") {
+        return Request::Table(TableCall::Check);
+    }
+    if wire::same(word, b"run") {
+        return Request::Table(TableCall::Run);
+    }
+    if wire::same(word, b"write") {
+        return Request::Table(TableCall::Write);
+    }
+    asked_text(word)
+}
+
+// Which of those on a text.
+fn asked_text(word: &[u8]) -> Request {
+    if wire::same(word, b"normalise") {
+        return Request::Text(TextCall::Normalise);
+    }
+    if wire::same(word, b"split") {
+        return Request::Text(TextCall::Split);
+    }
+    if wire::same(word, b"parameters") {
+        return Request::Text(TextCall::Parameters);
+    }
+    if wire::same(word, b"translate") {
+        return Request::Text(TextCall::Translate);
+    }
+    if wire::same(word, b"steps") {
+        return Request::Steps;
+    }
+    Request::Nothing
+}
+
+// Answers a line, which stands here without its newline.
+pub fn answer(
+    line: &[u8],
+    text: &mut [u8; 65536],
+    lent: &mut [u8; 131088],
+    list: &mut [f64; 262164],
+    store: &mut [f64; 262164],
+    out: &mut [u8; 65536],
+    at: usize,
+) -> usize
+    requires { ⌜ at ≤ 65536 ⌝ }
+    ensures { λ r. ⌜ r ≤ 65536 ⌝ }
+{
+    match asked(wire::field(line, 0)) {
+        Request::Text(which) => answer_text(which, line, text, lent, out, at),
+        Request::Table(which) => answer_table(which, line, text, lent, list, store, out, at),
+        Request::Steps => answer_steps(line, text, out, at),
+        Request::Nothing => say_what(out, at),
+    }
+}

@@ -1,0 +1,102 @@
+// What a check foretells.
+ghost use Prim.Native.Nat.{_≤_};
+use crate::records::MOST_STEPS;
+use rules::Foretold;
+use rules::Place;
+use rules::Verdict;
+use saying::end_line;
+use saying::say;
+use saying::say_byte;
+use saying::say_comma;
+use saying::say_number;
+use saying::say_refused;
+use saying::say_signed;
+use saying::say_sizes;
+use saying::say_two;
+
+// The line of a check.
+pub fn say_foretold(f: Foretold, kept: bool, out: &mut [u8; 65536], at: usize) -> usize
+    requires { ⌜ at ≤ 65536 ⌝ }
+    ensures { λ r. ⌜ r ≤ 65536 ⌝ }
+{
+    let told = say_verdict(f, out, at);
+    end_line(kept, out, told)
+}
+
+fn say_verdict(f: Foretold, out: &mut [u8; 65536], at: usize) -> usize
+    requires { ⌜ at ≤ 65536 ⌝ }
+    ensures { λ r. ⌜ r ≤ 65536 ⌝ }
+{
+    let verdict = f.verdict;
+    match verdict {
+        Verdict::Passes => say_pass(f, out, at),
+        Verdict::TooFew(step) => say_fault(step, true, out, at),
+        Verdict::TooMany(step) => say_fault(step, false, out, at),
+        Verdict::Refused { number, place } => say_refused(number, place, out, at),
+    }
+}
+
+// `fails STEP`, and of what: too few columns, or too many.
+fn say_fault(step: usize, few: bool, out: &mut [u8; 65536], at: usize) -> usize
+    requires { ⌜ at ≤ 65536 ⌝ }
+    ensures { λ r. ⌜ r ≤ 65536 ⌝ }
+{
+    let begun = say(b"fails ", out, at);
+    let numbered = say_number(step as u64, out, begun);
+    if few {
+        return say(b" few", out, numbered);
+    }
+    say(b" many", out, numbered)
+}
+
+// `passes DEEPEST LEFT PLACES DEPTHS`.
+fn say_pass(f: Foretold, out: &mut [u8; 65536], at: usize) -> usize
+    requires { ⌜ at ≤ 65536 ⌝ }
+    ensures { λ r. ⌜ r ≤ 65536 ⌝ }
+{
+    let begun = say_two(b"passes ", f.deepest, f.left, out, at);
+    let places = f.places;
+    let placed = say_places(f.told, places, out, begun);
+    let depths = f.depths;
+    say_depths(depths, f.run, out, placed)
+}
+
+// PLACES, behind a space.
+fn say_places(told: bool, places: [Place; 4], out: &mut [u8; 65536], at: usize) -> usize
+    requires { ⌜ at ≤ 65536 ⌝ }
+    ensures { λ r. ⌜ r ≤ 65536 ⌝ }
+{
+    let parted = say_byte(b' ', out, at);
+    if !told {
+        return say_byte(b'-', out, parted);
+    }
+    say_four(places, out, parted)
+}
+
+// The four places joined by commas.
+fn say_four(places: [Place; 4], out: &mut [u8; 65536], at: usize) -> usize
+    requires { ⌜ at ≤ 65536 ⌝ }
+    ensures { λ r. ⌜ r ≤ 65536 ⌝ }
+{
+    let mut o = at;
+    let mut i = 0;
+    while i < 4 {
+        let p = places[i];
+        let parted = say_comma(i, out, o);
+        o = say_signed(p.minus, p.axis as u64, out, parted);
+        i += 1;
+    }
+    o
+}
+
+// DEPTHS, behind a space: of the n steps that run.
+fn say_depths(depths: [usize; 64], n: usize, out: &mut [u8; 65536], at: usize) -> usize
+    requires { ⌜ at ≤ 65536 ⌝ }
+    ensures { λ r. ⌜ r ≤ 65536 ⌝ }
+{
+    let parted = say_byte(b' ', out, at);
+    if MOST_STEPS < n {
+        return say_byte(b'?', out, parted);
+    }
+    say_sizes(&depths[0..n], out, parted)
+}

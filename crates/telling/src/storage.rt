@@ -1,0 +1,82 @@
+// What a call wrote into the storage that was lent to it, and what it left of the rest.
+ghost use Prim.Native.Nat.{_≤_};
+ghost use lib.ListN.{length};
+use rules::Written;
+use saying::end_line;
+use saying::say;
+use saying::say_refusal;
+use saying::say_text;
+
+// What each byte of lent storage holds beforehand. All of it is so between two requests.
+pub const UNTOUCHED: u8 = 0xaa;
+
+// The most bytes that are lent.
+pub const MOST_ROOM: usize = 131072;
+
+// How many bytes behind what is lent are looked at as well.
+const GUARD: usize = 16;
+
+// Looks at what was lent, `room` bytes, and says what was answered.
+pub fn say_lent(
+    written: Written,
+    room: usize,
+    lent: &mut [u8; 131088],
+    out: &mut [u8; 65536],
+    at: usize,
+) -> usize
+    requires { ⌜ at ≤ 65536 ⌝ }
+    requires { ⌜ room ≤ 131072 ⌝ }
+    ensures { λ r. ⌜ r ≤ 65536 ⌝ }
+{
+    match written {
+        Written::Wrote(n) => say_written(n, room, lent, out, at),
+        Written::Refused { number, place } => {
+            say_refusal(number, place, is_kept(lent, 0, room), out, at)
+        }
+    }
+}
+
+// `ok TEXT`.
+fn say_written(
+    n: usize,
+    room: usize,
+    lent: &mut [u8; 131088],
+    out: &mut [u8; 65536],
+    at: usize,
+) -> usize
+    requires { ⌜ at ≤ 65536 ⌝ }
+    requires { ⌜ room ≤ 131072 ⌝ }
+    ensures { λ r. ⌜ r ≤ 65536 ⌝ }
+{
+    if room < n {
+        wire::fill(lent, UNTOUCHED);
+        return say(b"ok - spoilt\n", out, at);
+    }
+    let told = say_ok(lent, n, out, at);
+    end_line(is_kept(lent, n, room), out, told)
+}
+
+// `ok` and the first n bytes.
+pub fn say_ok(text: &[u8], n: usize, out: &mut [u8; 65536], at: usize) -> usize
+    requires { ⌜ at ≤ 65536 ⌝ }
+    requires { ⌜ n ≤ length (now text) ⌝ }
+    ensures { λ r. ⌜ r ≤ 65536 ⌝ }
+{
+    let begun = say(b"ok ", out, at);
+    say_text(&text[0..n], out, begun)
+}
+
+// Is each lent byte behind the first n as it was, and the guard? Leaves all of the storage as it was before it was
+// lent.
+fn is_kept(lent: &mut [u8], n: usize, room: usize) -> bool
+    requires { ⌜ 131088 ≤ length (now lent) ⌝ }
+    requires { ⌜ (n ≤ room) × (room ≤ 131072) ⌝ }
+{
+    let end = room + GUARD;
+    if wire::is_all(&lent[n..end], UNTOUCHED) {
+        wire::fill(&mut lent[0..n], UNTOUCHED);
+        return true;
+    }
+    wire::fill(lent, UNTOUCHED);
+    false
+}
