@@ -1,12 +1,12 @@
 -- The steps of a PROJ text have words without white space, and so have the texts of the answer none at their ends. The
 -- pipeline of a first step that is `proj=pipeline`.
 use mathlib.Core.Path.{_≡_, refl, sym, ap, _∙_}
-use mathlib.Core.Bool.{Bool, true, false, cond, not, _||_, false≢true, true≢false}
+use mathlib.Core.Bool.{Bool, true, false, cond, _||_, false≢true, true≢false}
 use mathlib.Core.List.{[], _∷_, map}
 use lib.ListN.{drop}
 use Rattle.rules.specs.Ascii.{ascii}
 use Rattle.rules.specs.Lists.{any, all, kept, nonEmpty}
-use Rattle.rules.specs.Text.{Bytes, Words, Steps, white, same, onto, words}
+use Rattle.rules.specs.Text.{Bytes, Words, Steps, same, onto}
 use Rattle.rules.specs.Proj.{isStep, cutAtStep, withoutNoise, isProj, firstProj, inItsPlace, exchanged}
 use Rattle.rules.specs.Translate.{isInv, isPipeline, Pipeline, isWritten, stepOf, inOrder, translation}
 use Rattle.laws.specs.Separators.{and-left, and-right, same-is}

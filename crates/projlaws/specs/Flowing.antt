@@ -1,6 +1,6 @@
 -- The elements of a step of the answer, one by one: what is written of each, and what of the `inv` that is owed.
 use mathlib.Core.Path.{_≡_, refl, sym, ap, _∙_}
-use mathlib.Core.Bool.{Bool, true, false, cond, not, _&&_, _||_}
+use mathlib.Core.Bool.{Bool, true, false, cond, _&&_, _||_}
 use mathlib.Core.List.{[], _∷_, _++_, append-assoc}
 use Rattle.rules.specs.Ascii.{ascii}
 use Rattle.rules.specs.Lists.{any, all, kept, nonEmpty}

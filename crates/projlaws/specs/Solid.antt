@@ -4,7 +4,7 @@ use mathlib.Core.Bool.{Bool, true, false, cond, not, _&&_, _||_, false≢true}
 use mathlib.Core.List.{[], _∷_, _++_, map, append-nil}
 use Prim.Native.Nat.{ℕ}
 use Rattle.rules.specs.Ascii.{ascii}
-use Rattle.rules.specs.Lists.{any, all, kept, nonEmpty}
+use Rattle.rules.specs.Lists.{all, kept, nonEmpty}
 use Rattle.rules.specs.Text.{Bytes, Words, white, same, trimStart, trimEnd, trimmed, afterEach, joinedBy, joined}
 use Rattle.rules.specs.Translate.{atPosition1, exchangedMark, withoutInv, notInv, Pipeline, withGlobals}
 use Rattle.laws.specs.Passes.{inWord, keep, trimEnd-cons}

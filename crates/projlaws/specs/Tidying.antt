@@ -8,8 +8,8 @@ use borrow.Author.Tests.{lt-ltb, ltb-true, ltb-false, ne-eqb, eq-eqb}
 use lib.ListN.{drop}
 use lib.Dec.{eqb, ltb}
 use Rattle.rules.specs.Ascii.{ascii}
-use Rattle.rules.specs.Lists.{any, all}
-use Rattle.rules.specs.Text.{Bytes, Words, same, starts}
+use Rattle.rules.specs.Lists.{any}
+use Rattle.rules.specs.Text.{Bytes, Words, starts}
 use Rattle.rules.specs.Proj.{hasKey, lastOf, withoutLast, composed, ellipsoid, scale, exchanged, tidied}
 use Rattle.projlaws.specs.Tests.{starts-other}
 

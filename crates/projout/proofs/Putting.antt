@@ -1,6 +1,6 @@
 -- Putting texts behind each other or in front of each other: the laws of `Spot` and `Puts`, and those for the functions.
 use mathlib.Core.Path.{_≡_, refl, sym, ap, _∙_, subst}
-use mathlib.Core.Bool.{Bool, true, false, cond, not, false≢true}
+use mathlib.Core.Bool.{Bool, true, false, cond, false≢true}
 use mathlib.Core.List.{[], _∷_, _++_, append-assoc}
 use Prim.Native.Nat.{ℕ, _+_, _-_, _≤_, _<_}
 use native.Mathlib.Decide.{decLt}
@@ -10,7 +10,7 @@ use lib.ListN.{length, take, drop, set, length-append, take-append-drop}
 use lib.Seq.{length-take-le, take-at, drop-at, drop-drop, take-take, take-append-le, drop-append-add}
 use lib.Dec.{eqb, ltb}
 use Rattle.rules.specs.Lists.{nonEmpty}
-use Rattle.rules.specs.Text.{Bytes, words}
+use Rattle.rules.specs.Text.{Bytes}
 use Rattle.text.proofs.Placing.{wrote-byte}
 use Rattle.pen.specs.Adding.{limit, Room, Adds}
 use Rattle.pen.proofs.Adding.{adds-length, wrote-adds}

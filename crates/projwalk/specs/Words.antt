@@ -3,7 +3,7 @@ use mathlib.Core.Path.{_≡_}
 use mathlib.Core.List.{[]}
 use Prim.Native.Nat.{ℕ, _<_}
 use lib.ListN.{drop}
-use Rattle.rules.specs.Text.{Bytes, white, words}
+use Rattle.rules.specs.Text.{Bytes, words}
 use Rattle.walk.specs.Runs.{Run, isOf}
 use Rattle.walk.specs.declared.Kind.the-variants as kind
 use Rattle.projwalk.specs.declared.Word.{Word}

@@ -1,6 +1,6 @@
 -- The words of `adapt`, such as `neuf_deg`, and the eight arguments that two of them make.
 use Prim.Native.Nat.{ℕ, suc, _+_, _*_}
-use mathlib.Core.Bool.{Bool, true, false, cond, _&&_, _||_, xor}
+use mathlib.Core.Bool.{true, cond, _&&_, _||_, xor}
 use mathlib.Core.Option.{Option, none, some}
 use mathlib.Core.List.{List, [], _∷_, map}
 use lib.ListN.{length, take, drop}

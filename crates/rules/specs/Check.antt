@@ -6,7 +6,6 @@ use mathlib.Core.Option.{Option, none, some}
 use mathlib.Core.List.{List, [], _∷_, _++_}
 use lib.ListN.{length, getD, replicate}
 use lib.Dec.{ltb, eqb}
-use lib.IntN.{ℤ}
 use Rattle.rules.specs.Lists.{any}
 use Rattle.rules.specs.Record.{refusal18}
 use Rattle.rules.specs.Coordinate.{reordered}

@@ -1,5 +1,4 @@
 -- The five operators' names and keys, and refusals 11 to 13 of one step.
-use Prim.Native.Nat.{ℕ}
 use Prim.Native.String.{String}
 use mathlib.Core.Bool.{Bool, true, false, cond, not}
 use mathlib.Core.Option.{Option, none, some}

@@ -7,7 +7,6 @@ use Rattle.rules.specs.Ascii.{is}
 use Rattle.rules.specs.Lists.{nonEmpty}
 use Rattle.rules.specs.Text.{Bytes, Steps, cut, words}
 use Rattle.rules.specs.Split.{stepsOf}
-use Rattle.rules.specs.declared.Cursor.{Cursor}
 use Rattle.rules.specs.declared.Found.{Found}
 use Rattle.rules.specs.declared.Found.the-variants.{Step, End}
 

@@ -1,6 +1,6 @@
 -- Translating a PROJ text.
 use Prim.Native.Nat.{ℕ, suc}
-use mathlib.Core.Bool.{Bool, true, false, cond, _&&_, _||_, not, xor}
+use mathlib.Core.Bool.{Bool, false, cond, _&&_, _||_, not, xor}
 use mathlib.Core.List.{List, [], _∷_, map, reverse}
 use lib.ListN.{drop}
 use lib.Dec.{ltb}

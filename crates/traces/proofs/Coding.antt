@@ -7,7 +7,7 @@ use native.Mathlib.Omega.{arith}
 use lib.IntN.{ℤ, pos}
 use lib.ListN.{length, getD, set, drop, length-drop, length-set}
 use lib.Seq.{paste, length-paste}
-use Rattle.rules.specs.Act.{places, swaps, rolls, orders}
+use Rattle.rules.specs.Act.{swaps, rolls, orders}
 use Rattle.rules.specs.Decimal.{minus}
 use Rattle.rules.specs.Columns.{moved, rolled, swappedTop}
 use Rattle.rules.specs.Check.{noPlace, turnPlace}

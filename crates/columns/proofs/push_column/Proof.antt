@@ -1,15 +1,12 @@
-use Rattle.rules.specs.declared.Coord.{Coord}
 use Rattle.rules.specs.Coordinate.{number}
 use Rattle.steplaws.specs.Lengths.{tuples-length}
 use Rattle.columns.proofs.Slots.{copy-turn, column-at, column-length}
 use Rattle.rules.specs.Tuples.{tuples, column}
 use lib.Seq.{paste, paste-zero}
-use mathlib.Core.List.{List}
-use lib.Ieee.{Float, nan}
 use native.Mathlib.Omega.{arith}
-use lib.ListN.{length, getD, set, take, drop, length-set}
-use Prim.Native.Nat.{ℕ, _+_, _-_, _*_, _/_, _≤_, _<_}
-use mathlib.Core.Path.{_≡_, refl, sym, ap, _∙_}
+use lib.ListN.{length, length-set}
+use Prim.Native.Nat.{_+_, _-_, _/_, _≤_}
+use mathlib.Core.Path.{_≡_, refl, ap, _∙_}
 use borrow.Author.Needs.{needs}
 use Rattle.columns.proofs.push_column.Statement.{statement}
 use Rattle.columns.proofs.push_column.Tie as tie

@@ -2,12 +2,10 @@ use Rattle.coordinate.specs.Coords.{noTuple}
 use Rattle.steplaws.specs.Lengths.{tuples-length}
 use Rattle.rules.specs.Tuples.{tuples}
 use Rattle.coordinate.proofs.Firsts.{firstsFrom, firsts-none, firsts-turn, firsts-all, each-map}
-use mathlib.Core.List.{List}
-use lib.Ieee.{Float, nan}
 use native.Mathlib.Omega.{arith}
-use lib.ListN.{length, getD, set, take, drop, length-set}
-use Prim.Native.Nat.{ℕ, _+_, _-_, _*_, _/_, _≤_, _<_}
-use mathlib.Core.Path.{_≡_, refl, sym, ap, _∙_}
+use lib.ListN.{length}
+use Prim.Native.Nat.{_-_}
+use mathlib.Core.Path.{_≡_, refl, sym, _∙_}
 use borrow.Author.Needs.{needs}
 use Rattle.columns.proofs.stomp.Statement.{statement}
 use Rattle.columns.proofs.stomp.Tie as tie

@@ -1,4 +1,4 @@
-use Rattle.text.proofs.Writing.{wrote-fits, wrote-counts}
+use Rattle.text.proofs.Writing.{wrote-fits}
 use borrow.Author.Needs.{needs}
 use Rattle.texts.proofs.say_shown.Statement.{statement}
 use Rattle.texts.proofs.say_shown.Tie as tie

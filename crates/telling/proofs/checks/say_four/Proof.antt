@@ -1,7 +1,6 @@
 -- `telling::say_four` meets its contract: the place stays within the four, and the output is filled after each.
 -- Assumes nothing.
 use Prim.Native.Nat.{_≤_, _-_}
-use lib.ListN.{length}
 use borrow.Author.Needs.{needs}
 use Rattle.telling.proofs.checks.say_four.Statement.{statement}
 use Rattle.telling.proofs.checks.say_four.Tie as tie

@@ -1,7 +1,6 @@
 -- `telling::say_records` meets its contract: the place stays within the records, and the output is filled after each.
 -- Assumes nothing.
 use Prim.Native.Nat.{_≤_, _-_}
-use lib.ListN.{length}
 use borrow.Author.Needs.{needs}
 use Rattle.telling.proofs.records.say_records.Statement.{statement}
 use Rattle.telling.proofs.records.say_records.Tie as tie
