@@ -18,7 +18,9 @@ use Rattle.rules.specs.declared.Written.{Written}
 use Rattle.rules.specs.declared.Written.the-variants as variant
 use Rattle.laws.specs.Entry.{answers-so}
 use Rattle.text.specs.Writing.{Wrote, WroteAt}
-use Rattle.shown.specs.Showing.{refused, orRefused, called, bothChecks, headed, shownChecks, shownSteps, translation, shown}
+use Rattle.numbered.specs.Numbers.{refused, headed}
+use Rattle.shown.specs.Showing.{orRefused, called, shownChecks, shownSteps, translation, shown}
+use Rattle.verdicts.specs.Verdicts.{bothChecks}
 
 -- a piece by another name
 module _ (x y d : Bytes) (at : ℕ) (e : x ≡ y) where

@@ -1,6 +1,3 @@
-pub mod Saying
-pub mod Spelling
-pub mod Heading
 pub mod Replies
 pub mod Calling
 pub mod Recording

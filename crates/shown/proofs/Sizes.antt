@@ -22,7 +22,9 @@ use Rattle.rules.specs.declared.Direction.the-variants.{Forward, Inverse}
 use Rattle.rules.specs.declared.Verdict.{Verdict}
 use Rattle.rules.specs.declared.Verdict.the-variants.{Passes, TooFew, TooMany, Refused}
 use Rattle.rules.specs.declared.Foretold.{Foretold}
-use Rattle.shown.specs.Showing.{digits, number, counted, refused, orRefused, called, signed, pair, fourPlaces, passed, judged, verdictLine, bothChecks, heading, headed, shownChecks, shownSteps, translation, shown}
+use Rattle.numbered.specs.Numbers.{digits, number, counted, refused, heading, headed}
+use Rattle.shown.specs.Showing.{orRefused, called, shownChecks, shownSteps, translation, shown}
+use Rattle.verdicts.specs.Verdicts.{signed, pair, fourPlaces, passed, judged, verdictLine, bothChecks}
 use Rattle.shown.proofs.Replies.{Of, of-refusal, of-then, of-tested, Made, split-made, AtMost, prepared-few}
 use Rattle.shown.specs.Lines.{numbered, steps-numbered}
 

@@ -5,7 +5,9 @@ use Prim.Native.String.{String}
 use Rattle.rules.specs.Ascii.{ascii}
 use Rattle.rules.specs.Split.{line}
 use Rattle.rules.specs.Opened.{opened}
-use Rattle.shown.specs.Showing.{digits, number, counted, refused, orRefused, called, signed, pair, fourPlaces, passed, judged, verdictLine, bothChecks, heading, headed, shownChecks, shownSteps, translation, shown}
+use Rattle.numbered.specs.Numbers.{digits, number, counted, refused, heading, headed}
+use Rattle.shown.specs.Showing.{orRefused, called, shownChecks, shownSteps, translation, shown}
+use Rattle.verdicts.specs.Verdicts.{signed, pair, fourPlaces, passed, judged, verdictLine, bothChecks}
 
 pub record Example : Type 0 where
   pub read : String

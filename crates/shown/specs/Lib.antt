@@ -1,5 +1,4 @@
 -- What the program `steps` prints.
 pub mod Showing
-pub mod Spelling
 pub mod Examples
 pub mod Lines

@@ -1,4 +1,4 @@
-use Rattle.shown.proofs.Saying.{put-at, first-room, second-room, both-said}
+use Rattle.numbered.proofs.Saying.{put-at, first-room, second-room, both-said}
 use borrow.Author.Needs.{needs}
 use Rattle.shown.proofs.say_words.Statement.{statement}
 use Rattle.shown.proofs.say_words.Tie as tie

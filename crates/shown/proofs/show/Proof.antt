@@ -1,6 +1,7 @@
 use Rattle.shown.proofs.Calling.{room-so, said-so, front-so, called-fits, called-counts, called-wrote, called-refused, text-refused, text-wrote}
 use Rattle.shown.proofs.Sizes.{shown-room}
-use Rattle.shown.specs.Showing.{refused, shownSteps, translation, shown}
+use Rattle.numbered.specs.Numbers.{refused}
+use Rattle.shown.specs.Showing.{shownSteps, translation, shown}
 use Rattle.rules.specs.Split.{line}
 use mathlib.Core.List.{_++_}
 use lib.ListN.{take}

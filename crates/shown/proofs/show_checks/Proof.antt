@@ -1,6 +1,8 @@
 use Rattle.shown.proofs.Calling.{room-so, said-so, checks-refused, checks-told}
 use Rattle.shown.proofs.Recording.{prepare-refused, prepare-steps}
-use Rattle.shown.specs.Showing.{refused, bothChecks, shownChecks}
+use Rattle.numbered.specs.Numbers.{refused}
+use Rattle.shown.specs.Showing.{shownChecks}
+use Rattle.verdicts.specs.Verdicts.{bothChecks}
 use Rattle.rules.specs.Record.{listed}
 use Rattle.rules.specs.Split.{line}
 use borrow.Author.Needs.{needs}

@@ -1,5 +1,6 @@
-use Rattle.shown.proofs.Saying.{first-room, second-room, both-said}
-use Rattle.shown.specs.Showing.{headed, shownChecks}
+use Rattle.numbered.proofs.Saying.{first-room, second-room, both-said}
+use Rattle.numbered.specs.Numbers.{headed}
+use Rattle.shown.specs.Showing.{shownChecks}
 use mathlib.Core.Bool.{false}
 use borrow.Author.Needs.{needs}
 use Rattle.shown.proofs.show_lines.Statement.{statement}

@@ -1,5 +1,6 @@
 use Rattle.shown.proofs.Calling.{room-so, said-so, called-fits, called-counts, called-wrote, called-refused, steps-refused, steps-wrote}
-use Rattle.shown.specs.Showing.{refused, headed, shownChecks, shownSteps}
+use Rattle.numbered.specs.Numbers.{refused, headed}
+use Rattle.shown.specs.Showing.{shownChecks, shownSteps}
 use Rattle.rules.specs.Split.{line}
 use mathlib.Core.Bool.{false}
 use mathlib.Core.List.{_++_}

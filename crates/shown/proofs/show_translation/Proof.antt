@@ -1,4 +1,4 @@
-use Rattle.shown.proofs.Saying.{first-room, second-room, both-said}
+use Rattle.numbered.proofs.Saying.{first-room, second-room, both-said}
 use Rattle.shown.specs.Showing.{translation, shownSteps}
 use borrow.Author.Needs.{needs}
 use Rattle.shown.proofs.show_translation.Statement.{statement}

@@ -1,0 +1,3 @@
+-- Numbers and steps as the program `steps` prints them.
+pub mod Numbers
+pub mod Spelling

@@ -1,0 +1,37 @@
+use Rattle.numbered.proofs.Saying.{first-room, second-room, both-said}
+use Rattle.verdicts.specs.Verdicts.{signed, pair}
+use Rattle.rules.specs.Ascii.{ascii}
+use borrow.Author.Needs.{needs}
+use Rattle.verdicts.proofs.say_pair.Statement.{statement}
+use Rattle.verdicts.proofs.say_pair.Tie as tie
+
+say-signed-requires : tie.Need-say-signed-requires
+unfolding pair ascii
+say-signed-requires c κs =
+    let t = c .before .before .before in first-room (signed (t .args .word .now) (t .args .p)) (signed (ascii ",") (t .args .q)) (t .args .out .now) (t .args .at) (t .pre)
+
+slice-aggregate-say-signed : tie.Need-slice-aggregate-say-signed
+slice-aggregate-say-signed c = search needs
+
+say-signed-requires-2 : tie.Need-say-signed-requires-2
+unfolding pair ascii
+say-signed-requires-2 c κs =
+    let t = c .before .before .before .before .before .before .before .before in second-room (signed (t .args .word .now) (t .args .p)) (signed (ascii ",") (t .args .q)) (t .args .out .now) (t .args .at) (t .pre) (c .before .before .before .before .say-signed .ensures)
+
+same-length : tie.Need-same-length
+same-length c = search needs
+
+returns : tie.Need-returns
+unfolding pair ascii
+returns c =
+    let t = c .before .before .before .before .before .before .before .before .before .before .before in both-said (signed (t .args .word .now) (t .args .p)) (signed (ascii ",") (t .args .q)) (t .args .out .now) (t .args .at) (t .pre) (c .before .before .before .before .before .before .before .say-signed .ensures) (c .before .before .say-signed2 .ensures)
+
+pub say-pair-spec : {M : Type 1} → statement M
+say-pair-spec =
+    tie.close
+    (tie.spec
+    say-signed-requires
+    slice-aggregate-say-signed
+    say-signed-requires-2
+    same-length
+    returns)

@@ -1,0 +1,30 @@
+use Rattle.numbered.proofs.Saying.{first-room, second-room, both-said}
+use Rattle.numbered.specs.Numbers.{counted}
+use Rattle.verdicts.specs.Verdicts.{fourPlaces, passed}
+use Rattle.rules.specs.Ascii.{ascii}
+use mathlib.Core.List.{[], _++_}
+use mathlib.Core.Bool.{cond}
+use borrow.Author.Needs.{needs}
+use Rattle.verdicts.proofs.say_passed.Statement.{statement}
+use Rattle.verdicts.proofs.say_passed.Tie as tie
+
+say-depths-requires : tie.Need-say-depths-requires
+unfolding passed
+say-depths-requires c κs =
+    let t = c .before .before .before in first-room (counted (ascii "deepest ") (t .args .f .deepest) ++ counted (ascii " left ") (t .args .f .left)) (cond (t .args .f .told) (fourPlaces (t .args .f .places)) []) (t .args .out .now) (t .args .at) (t .pre)
+
+say-told-requires : tie.Need-say-told-requires
+unfolding passed
+say-told-requires c κs =
+    let t = c .before .before .before .before .before .before .before in second-room (counted (ascii "deepest ") (t .args .f .deepest) ++ counted (ascii " left ") (t .args .f .left)) (cond (t .args .f .told) (fourPlaces (t .args .f .places)) []) (t .args .out .now) (t .args .at) (t .pre) (c .before .before .before .say-depths .ensures)
+
+same-length : tie.Need-same-length
+same-length c = search needs
+
+returns : tie.Need-returns
+unfolding passed
+returns c =
+    let t = c .before .before .before .before .before .before .before .before .before .before in both-said (counted (ascii "deepest ") (t .args .f .deepest) ++ counted (ascii " left ") (t .args .f .left)) (cond (t .args .f .told) (fourPlaces (t .args .f .places)) []) (t .args .out .now) (t .args .at) (t .pre) (c .before .before .before .before .before .before .say-depths .ensures) (c .before .before .say-told .ensures)
+
+pub say-passed-spec : {M : Type 1} → statement M
+say-passed-spec = tie.close (tie.spec say-depths-requires say-told-requires same-length returns)

@@ -1,0 +1,2 @@
+-- What the program `steps` prints of the checks.
+pub mod Verdicts
