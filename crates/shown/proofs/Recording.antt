@@ -9,7 +9,7 @@ use lib.Seq.{take-at}
 use Rattle.rules.specs.Text.{Bytes}
 use Rattle.rules.specs.Refusal.{Reply, answers, refuses, tested, lent, prepared}
 use Rattle.rules.specs.Prepare.{prepare}
-use Rattle.rules.specs.Record.{blank, listed}
+use Rattle.rules.specs.Record.{listed}
 use Rattle.rules.specs.declared.Step.{Step}
 use Rattle.rules.specs.declared.Table.{Table}
 use Rattle.rules.specs.declared.Prepared.the-variants as variant

@@ -1,6 +1,5 @@
 -- What the program `steps` prints: "reads a definition .., translates, splits, prepares, then checks forward and inverse,
 -- printing as each answers".
-use Prim.Native.Nat.{ℕ}
 use mathlib.Core.Bool.{false, cond}
 use mathlib.Core.List.{_++_}
 use lib.ListN.{length}

@@ -1,5 +1,4 @@
 -- What the program `steps` prints of the checks.
-use Prim.Native.Nat.{ℕ}
 use mathlib.Core.Bool.{cond}
 use mathlib.Core.List.{List, [], _++_}
 use Rattle.rules.specs.Ascii.{ascii}
