@@ -1,12 +1,12 @@
 // Which request a line is, and its answer. A request on a text that is new is a variant of `TextCall` and its word in
 // `asked_text`, one on a table a variant of `TableCall` and its word in `asked_table`.
 ghost use Prim.Native.Nat.{_≤_};
+use crate::texts::TextCall;
+use crate::texts::answer_steps;
+use crate::texts::answer_text;
 use saying::say_what;
 use tables::TableCall;
 use tables::answer_table;
-use texts::TextCall;
-use texts::answer_steps;
-use texts::answer_text;
 
 enum Request {
     Text(TextCall),

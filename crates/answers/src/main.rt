@@ -2,6 +2,7 @@
 // for each. It holds no rule of its own: it decodes, lends storage, calls the library and prints. A line of over
 // 131,072 bytes is answered as no request.
 mod ask;
+mod texts;
 
 ghost use Prim.Native.Nat.{_≤_, _<_};
 ghost use mathlib.Core.Path.{_≡_};

@@ -55,7 +55,7 @@ pub fn say_counted(word: &[u8], n: usize, out: &mut [u8], at: usize) -> usize
     say_number(n, out, o)
 }
 
-// A refusal's number, and an axis, as sizes.
+// A refusal's number, as a size.
 fn wide(x: u8) -> usize
     ensures { λ r. ⌜ r ≡ x ⌝ }
 {

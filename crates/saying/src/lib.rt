@@ -166,14 +166,23 @@ pub fn say_what(out: &mut [u8; 65536], at: usize) -> usize
     say(b"what\n", out, at)
 }
 
-// A word that ends in a space, and two sizes.
-pub fn say_two(word: &[u8], a: usize, b: usize, out: &mut [u8; 65536], at: usize) -> usize
+// A word that ends in a space, and a size.
+pub fn say_counted(word: &[u8], n: usize, out: &mut [u8; 65536], at: usize) -> usize
     requires { ⌜ at ≤ 65536 ⌝ }
     requires { ⌜ length (now word) ≤ 64 ⌝ }
     ensures { λ r. ⌜ r ≤ 65536 ⌝ }
 {
     let begun = say(word, out, at);
-    let first = say_number(a as u64, out, begun);
+    say_number(n as u64, out, begun)
+}
+
+// The same, and a second size.
+pub fn say_two(word: &[u8], a: usize, b: usize, out: &mut [u8; 65536], at: usize) -> usize
+    requires { ⌜ at ≤ 65536 ⌝ }
+    requires { ⌜ length (now word) ≤ 64 ⌝ }
+    ensures { λ r. ⌜ r ≤ 65536 ⌝ }
+{
+    let first = say_counted(word, a, out, at);
     let parted = say_byte(b' ', out, first);
     say_number(b as u64, out, parted)
 }

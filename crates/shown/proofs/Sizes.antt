@@ -24,7 +24,8 @@ use Rattle.rules.specs.declared.Verdict.the-variants.{Passes, TooFew, TooMany, 
 use Rattle.rules.specs.declared.Foretold.{Foretold}
 use Rattle.numbered.specs.Numbers.{digits, number, counted, refused, heading, headed}
 use Rattle.shown.specs.Showing.{orRefused, called, shownChecks, shownSteps, translation, shown}
-use Rattle.verdicts.specs.Verdicts.{signed, pair, fourPlaces, passed, judged, verdictLine, bothChecks}
+use Rattle.placed.specs.Places.{signed, pair, fourPlaces}
+use Rattle.verdicts.specs.Verdicts.{passed, judged, verdictLine, bothChecks}
 use Rattle.shown.proofs.Replies.{Of, of-refusal, of-then, of-tested, Made, split-made, AtMost, prepared-few}
 use Rattle.shown.specs.Lines.{numbered, steps-numbered}
 

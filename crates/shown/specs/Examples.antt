@@ -7,7 +7,8 @@ use Rattle.rules.specs.Split.{line}
 use Rattle.rules.specs.Opened.{opened}
 use Rattle.numbered.specs.Numbers.{digits, number, counted, refused, heading, headed}
 use Rattle.shown.specs.Showing.{orRefused, called, shownChecks, shownSteps, translation, shown}
-use Rattle.verdicts.specs.Verdicts.{signed, pair, fourPlaces, passed, judged, verdictLine, bothChecks}
+use Rattle.placed.specs.Places.{signed, pair, fourPlaces}
+use Rattle.verdicts.specs.Verdicts.{passed, judged, verdictLine, bothChecks}
 
 pub record Example : Type 0 where
   pub read : String

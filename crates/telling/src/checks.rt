@@ -8,7 +8,7 @@ use saying::end_line;
 use saying::say;
 use saying::say_byte;
 use saying::say_comma;
-use saying::say_number;
+use saying::say_counted;
 use saying::say_refused;
 use saying::say_signed;
 use saying::say_sizes;
@@ -41,8 +41,7 @@ fn say_fault(step: usize, few: bool, out: &mut [u8; 65536], at: usize) -> usize
     requires { ⌜ at ≤ 65536 ⌝ }
     ensures { λ r. ⌜ r ≤ 65536 ⌝ }
 {
-    let begun = say(b"fails ", out, at);
-    let numbered = say_number(step as u64, out, begun);
+    let numbered = say_counted(b"fails ", step, out, at);
     if few {
         return say(b" few", out, numbered);
     }

@@ -7,7 +7,7 @@ use saying::end_line;
 use saying::say;
 use saying::say_byte;
 use saying::say_comma;
-use saying::say_number;
+use saying::say_counted;
 use saying::say_numbers;
 use saying::say_signed;
 use saying::say_sizes;
@@ -261,8 +261,7 @@ pub fn say_table(table: Table, count: usize, room: usize, out: &mut [u8; 65536],
     requires { ⌜ room ≤ 64 ⌝ }
     ensures { λ r. ⌜ r ≤ 65536 ⌝ }
 {
-    let begun = say(b"ok ", out, at);
-    let counted = say_number(count as u64, out, begun);
+    let counted = say_counted(b"ok ", count, out, at);
     if room < count {
         return end_line(false, out, counted);
     }

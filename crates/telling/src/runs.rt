@@ -37,14 +37,31 @@ pub fn say_ran(
     match ran {
         Ran::Done { count, left } => {
             let begun = say_two(b"ok ", count, left, out, at);
-            let told = say_rows(k, room, list, store, out, begun);
-            end_line(kept & are_guarded(k, room, list, store), out, told)
+            say_done(kept, k, room, list, store, out, begun)
         }
         Ran::Refused { number, place } => {
             let same = are_kept(field, k, room, list, store);
             say_refusal(number, place, kept & same, out, at)
         }
     }
+}
+
+// The rest of the line of a run that was done.
+fn say_done(
+    kept: bool,
+    k: usize,
+    room: usize,
+    list: &[f64],
+    store: &[f64],
+    out: &mut [u8; 65536],
+    at: usize,
+) -> usize
+    requires { ⌜ at ≤ 65536 ⌝ }
+    requires { ⌜ (k + 16 ≤ length (now list)) × (room + 16 ≤ length (now store)) ⌝ }
+    ensures { λ r. ⌜ r ≤ 65536 ⌝ }
+{
+    let told = say_rows(k, room, list, store, out, at);
+    end_line(kept & are_guarded(k, room, list, store), out, told)
 }
 
 // NUMBERS and COLUMNS, or two `-`, each behind a space.

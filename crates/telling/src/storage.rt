@@ -73,10 +73,25 @@ fn is_kept(lent: &mut [u8], n: usize, room: usize) -> bool
     requires { ⌜ (n ≤ room) × (room ≤ 131072) ⌝ }
 {
     let end = room + GUARD;
-    if wire::is_all(&lent[n..end], UNTOUCHED) {
-        wire::fill(&mut lent[0..n], UNTOUCHED);
-        return true;
+    let kept = is_part(lent, n, end);
+    clear(lent, kept, n);
+    kept
+}
+
+// Leaves all of the storage as it was; where it was kept, only the first n bytes are written.
+fn clear(lent: &mut [u8], kept: bool, n: usize)
+    requires { ⌜ n ≤ length (now lent) ⌝ }
+{
+    if !kept {
+        wire::fill(lent, UNTOUCHED);
+        return;
     }
-    wire::fill(lent, UNTOUCHED);
-    false
+    wire::fill(&mut lent[0..n], UNTOUCHED);
+}
+
+// Is each byte from n to `end` as it was?
+fn is_part(lent: &[u8], n: usize, end: usize) -> bool
+    requires { ⌜ (n ≤ end) × (end ≤ length (now lent)) ⌝ }
+{
+    wire::is_all(&lent[n..end], UNTOUCHED)
 }

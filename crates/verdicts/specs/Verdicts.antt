@@ -4,25 +4,14 @@ use mathlib.Core.List.{List, [], _++_}
 use Rattle.rules.specs.Ascii.{ascii}
 use Rattle.rules.specs.Text.{Bytes}
 use Rattle.rules.specs.Split.{line}
-use Rattle.rules.specs.Check.{nth, check}
+use Rattle.rules.specs.Check.{check}
 use Rattle.rules.specs.declared.Step.{Step}
-use Rattle.rules.specs.declared.Place.{Place}
 use Rattle.rules.specs.declared.Direction.the-variants.{Forward, Inverse}
 use Rattle.rules.specs.declared.Verdict.{Verdict}
 use Rattle.rules.specs.declared.Verdict.the-variants.{Passes, TooFew, TooMany, Refused}
 use Rattle.rules.specs.declared.Foretold.{Foretold}
 use Rattle.numbered.specs.Numbers.{counted, refused}
-
--- a place with its sign, behind a word
-unfoldable pub signed : Bytes → Place → Bytes
-signed word p = counted (word ++ cond (p .minus) (ascii "-") []) (p .axis)
-
--- two places, and four: " places 2,-1,3,4"
-unfoldable pub pair : Bytes → Place → Place → Bytes
-pair word p q = signed word p ++ signed (ascii ",") q
-
-unfoldable pub fourPlaces : List Place → Bytes
-fourPlaces l = pair (ascii " places ") (nth l 0) (nth l 1) ++ pair (ascii ",") (nth l 2) (nth l 3)
+use Rattle.placed.specs.Places.{fourPlaces}
 
 -- "Where an `adapt` step runs, the line ends after the columns left."
 unfoldable pub passed : Foretold → Bytes

@@ -1,6 +1,7 @@
 use Rattle.numbered.proofs.Saying.{first-room, second-room, both-said}
 use Rattle.numbered.specs.Numbers.{counted}
-use Rattle.verdicts.specs.Verdicts.{fourPlaces, passed}
+use Rattle.placed.specs.Places.{fourPlaces}
+use Rattle.verdicts.specs.Verdicts.{passed}
 use Rattle.rules.specs.Ascii.{ascii}
 use mathlib.Core.List.{[], _++_}
 use mathlib.Core.Bool.{cond}

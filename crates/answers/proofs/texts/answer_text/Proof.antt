@@ -1,9 +1,9 @@
--- `texts::answer_text` meets its contract: the room and the text are within their bounds, by what their readers say.
+-- `answers::texts::answer_text` meets its contract: the room and the text are within their bounds, by what their readers say.
 -- Assumes nothing.
 use native.Mathlib.Omega.{arith}
 use borrow.Author.Needs.{needs}
-use Rattle.texts.proofs.answer_text.Statement.{statement}
-use Rattle.texts.proofs.answer_text.Tie as tie
+use Rattle.answers.proofs.texts.answer_text.Statement.{statement}
+use Rattle.answers.proofs.texts.answer_text.Tie as tie
 
 field-requires : tie.Need-field-requires
 field-requires c κs = search needs

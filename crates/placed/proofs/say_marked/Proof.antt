@@ -1,11 +1,11 @@
 use Rattle.numbered.proofs.Saying.{put-at, first-room}
-use Rattle.verdicts.proofs.Saying.{minus-place, minus-said, plain-said}
+use Rattle.placed.proofs.Saying.{minus-place, minus-said, plain-said}
 use Rattle.rules.specs.Ascii.{ascii}
 use mathlib.Core.List.{[]}
 use mathlib.Core.Bool.{cond}
 use borrow.Author.Needs.{needs}
-use Rattle.verdicts.proofs.say_marked.Statement.{statement}
-use Rattle.verdicts.proofs.say_marked.Tie as tie
+use Rattle.placed.proofs.say_marked.Statement.{statement}
+use Rattle.placed.proofs.say_marked.Tie as tie
 
 put-requires : tie.Need-put-requires
 put-requires c κs =

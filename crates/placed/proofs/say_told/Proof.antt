@@ -1,8 +1,8 @@
-use Rattle.verdicts.proofs.Saying.{told-room, told-said, untold-said}
-use Rattle.verdicts.specs.Verdicts.{fourPlaces}
+use Rattle.placed.proofs.Saying.{told-room, told-said, untold-said}
+use Rattle.placed.specs.Places.{fourPlaces}
 use borrow.Author.Needs.{needs}
-use Rattle.verdicts.proofs.say_told.Statement.{statement}
-use Rattle.verdicts.proofs.say_told.Tie as tie
+use Rattle.placed.proofs.say_told.Statement.{statement}
+use Rattle.placed.proofs.say_told.Tie as tie
 
 say-places-requires : tie.Need-say-places-requires
 say-places-requires c κs =

@@ -1,7 +1,7 @@
 use Rattle.text.proofs.Writing.{wrote-fits}
 use borrow.Author.Needs.{needs}
-use Rattle.texts.proofs.say_shown.Statement.{statement}
-use Rattle.texts.proofs.say_shown.Tie as tie
+use Rattle.answers.proofs.texts.say_shown.Statement.{statement}
+use Rattle.answers.proofs.texts.say_shown.Tie as tie
 
 large-buffer-requires : tie.Need-large-buffer-requires
 large-buffer-requires c κs = search needs

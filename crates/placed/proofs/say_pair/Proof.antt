@@ -1,9 +1,9 @@
 use Rattle.numbered.proofs.Saying.{first-room, second-room, both-said}
-use Rattle.verdicts.specs.Verdicts.{signed, pair}
+use Rattle.placed.specs.Places.{signed, pair}
 use Rattle.rules.specs.Ascii.{ascii}
 use borrow.Author.Needs.{needs}
-use Rattle.verdicts.proofs.say_pair.Statement.{statement}
-use Rattle.verdicts.proofs.say_pair.Tie as tie
+use Rattle.placed.proofs.say_pair.Statement.{statement}
+use Rattle.placed.proofs.say_pair.Tie as tie
 
 say-signed-requires : tie.Need-say-signed-requires
 unfolding pair ascii

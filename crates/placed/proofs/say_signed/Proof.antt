@@ -1,12 +1,12 @@
 use Rattle.numbered.proofs.Saying.{first-room, second-room, both-said}
 use Rattle.numbered.specs.Numbers.{number, counted}
-use Rattle.verdicts.specs.Verdicts.{signed}
+use Rattle.placed.specs.Places.{signed}
 use Rattle.rules.specs.Ascii.{ascii}
 use mathlib.Core.List.{[], _++_}
 use mathlib.Core.Bool.{cond}
 use borrow.Author.Needs.{needs}
-use Rattle.verdicts.proofs.say_signed.Statement.{statement}
-use Rattle.verdicts.proofs.say_signed.Tie as tie
+use Rattle.placed.proofs.say_signed.Statement.{statement}
+use Rattle.placed.proofs.say_signed.Tie as tie
 
 wide-axis-requires : tie.Need-wide-axis-requires
 wide-axis-requires c κs = search needs

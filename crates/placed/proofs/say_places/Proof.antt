@@ -1,10 +1,10 @@
 use Rattle.numbered.proofs.Saying.{first-room, second-room, both-said}
-use Rattle.verdicts.specs.Verdicts.{pair, fourPlaces}
+use Rattle.placed.specs.Places.{pair, fourPlaces}
 use Rattle.rules.specs.Ascii.{ascii}
 use Rattle.rules.specs.Check.{nth}
 use borrow.Author.Needs.{needs}
-use Rattle.verdicts.proofs.say_places.Statement.{statement}
-use Rattle.verdicts.proofs.say_places.Tie as tie
+use Rattle.placed.proofs.say_places.Statement.{statement}
+use Rattle.placed.proofs.say_places.Tie as tie
 
 array-copy-out-a : tie.Need-array-copy-out-a
 array-copy-out-a c = search needs

@@ -1,6 +1,6 @@
 use borrow.Author.Needs.{needs}
-use Rattle.texts.proofs.answer_steps.Statement.{statement}
-use Rattle.texts.proofs.answer_steps.Tie as tie
+use Rattle.answers.proofs.texts.answer_steps.Statement.{statement}
+use Rattle.answers.proofs.texts.answer_steps.Tie as tie
 
 read-text-of-requires : tie.Need-read-text-of-requires
 read-text-of-requires c κs = search needs

@@ -1,0 +1,2 @@
+-- Signed places, as the program `steps` prints them.
+pub mod Places
