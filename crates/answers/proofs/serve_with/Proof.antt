@@ -1,7 +1,6 @@
 -- `answers::serve_with` meets its contract: the line that has begun does not fill the buffer, whose length stays; the measure is the turns left.
 -- Assumes nothing.
-use Prim.Native.Nat.{_<_, _≤_}
-use native.Mathlib.Omega.{arith}
+use Prim.Native.Nat.{_<_}
 use lib.ListN.{length}
 use mathlib.Core.Path.{_≡_}
 use borrow.Author.Needs.{needs}

@@ -1,4 +1,6 @@
-use Rattle.text.proofs.Writing.{wrote-fits, wrote-counts}
+-- `answers::texts::say_shown` meets its contract: what is shown lies within its room.
+-- Assumes nothing.
+use Rattle.text.proofs.Writing.{wrote-fits}
 use borrow.Author.Needs.{needs}
 use Rattle.answers.proofs.texts.say_shown.Statement.{statement}
 use Rattle.answers.proofs.texts.say_shown.Tie as tie
