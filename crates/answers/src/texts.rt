@@ -1,5 +1,5 @@
 // The requests that take a text and answer a text: the calls on a text, and what the program `steps` prints of one. A
-// request that is new is a variant of `TextCall`, its word in `read_call` and its call in `call`.
+// request that is new is a variant of `TextCall`, its word in `asked_text` and its call in `call`.
 ghost use mathlib.Core.Path.{_≡_};
 ghost use Prim.Native.Nat.{_≤_};
 ghost use lib.ListN.{length};
@@ -24,7 +24,7 @@ pub enum TextCall {
     Translate,
 }
 
-// The call itself, lent the first `room` bytes.
+// The call itself.
 fn call(which: TextCall, text: &[u8], lent: &mut [u8]) -> Written {
     match which {
         TextCall::Normalise => normalise(text, lent),

@@ -1,3 +1,5 @@
+-- `answers::texts::answer_steps` meets its contract: the text is within its bound, by what its reader says.
+-- Assumes nothing.
 use borrow.Author.Needs.{needs}
 use Rattle.answers.proofs.texts.answer_steps.Statement.{statement}
 use Rattle.answers.proofs.texts.answer_steps.Tie as tie

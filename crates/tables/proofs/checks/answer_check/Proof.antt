@@ -1,4 +1,4 @@
--- `tables::answer_check` meets its contract: the text is within its bound, by what its reader says.
+-- `tables::checks::answer_check` meets its contract: the text is within its bound, by what its reader says.
 -- Assumes nothing.
 use borrow.Author.Needs.{needs}
 use Rattle.tables.proofs.checks.answer_check.Statement.{statement}

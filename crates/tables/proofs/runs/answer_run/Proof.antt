@@ -1,4 +1,4 @@
--- `tables::answer_run` meets its contract: the store is within its bound, by what its reader says.
+-- `tables::runs::answer_run` meets its contract: the text is within its bound, by what its reader says.
 -- Assumes nothing.
 use borrow.Author.Needs.{needs}
 use Rattle.tables.proofs.runs.answer_run.Statement.{statement}

@@ -1,4 +1,4 @@
--- `tables::run_text` meets its contract: the list and the text are within their bounds, by what their readers say.
+-- `tables::runs::run_text` meets its contract: the list and the store are within their bounds, by what their readers say.
 -- Assumes nothing.
 use borrow.Author.Needs.{needs}
 use Rattle.tables.proofs.runs.run_text.Statement.{statement}

@@ -1,3 +1,5 @@
+-- `tables::writes::answer_write` meets its contract: the text is within its bound, by what its reader says.
+-- Assumes nothing.
 use borrow.Author.Needs.{needs}
 use Rattle.tables.proofs.writes.answer_write.Statement.{statement}
 use Rattle.tables.proofs.writes.answer_write.Tie as tie
