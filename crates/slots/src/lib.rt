@@ -10,7 +10,7 @@ ghost use Rattle.rules.specs.Tuples.{tuples};
 ghost use Rattle.coordinate.specs.Coords.{noTuple, slot, Within, slotAt, slotsOf, picked, placed};
 
 // Where number i of a coordinate stands in it, counted from 0.
-pub fn slot_of(i: usize) -> usize
+fn slot_of(i: usize) -> usize
     ensures { λ r. ⌜ (r < 4) × (r ≡ slot i) ⌝ }
 {
     if i == 1 {
@@ -25,7 +25,7 @@ pub fn slot_of(i: usize) -> usize
 }
 
 // The number at a slot of the coordinate at k of a list.
-pub fn get_at(xs: &[f64], k: usize, slot: usize) -> f64
+fn get_at(xs: &[f64], k: usize, slot: usize) -> f64
     requires { ⌜ k * 4 + 4 ≤ length (now xs) ⌝ }
     requires { ⌜ slot < 4 ⌝ }
     ensures { λ r. ⌜ r ≡ number (slot + 1) (getD (tuples (now (xs .entry))) k noTuple) ⌝ }
@@ -34,7 +34,7 @@ pub fn get_at(xs: &[f64], k: usize, slot: usize) -> f64
 }
 
 // x stored there.
-pub fn set_at(xs: &mut [f64], k: usize, slot: usize, x: f64)
+fn set_at(xs: &mut [f64], k: usize, slot: usize, x: f64)
     requires { ⌜ k * 4 + 4 ≤ length (now xs) ⌝ }
     requires { ⌜ slot < 4 ⌝ }
     ensures { λ _. ⌜ tuples (now (xs .exit)) ≡ set (tuples (now (xs .entry))) k (put (slot + 1) x (getD (tuples (now (xs .entry))) k noTuple)) ⌝ }
