@@ -18,15 +18,12 @@ use Rattle.store.proofs.roll.Reads as roll-reads
 use Rattle.columns.proofs.stomp.Reads as stomp-reads
 use Rattle.store.proofs.swap.Reads as swap-reads
 
--- src/lib.rt:227:28
 enum-told : tie.Need-enum-told
 enum-told c = search needs
 
--- src/lib.rt:227:46
 array-share-prefix-args : tie.Need-array-share-prefix-args
 array-share-prefix-args c = search needs
 
--- src/lib.rt:227:46
 slice-aggregate-push : tie.Need-slice-aggregate-push
 slice-aggregate-push c =
     let start = c .before .before .before .before .before .before .before in
@@ -34,7 +31,6 @@ slice-aggregate-push c =
     let few : a .m ≤ length (a .t5) = omega (arith, start .pre .few, start .good .1 .1 .1 .1 .0 .1 .0 .1) in
     sym (length-take-le (a .m) (a .t5) few)
 
--- src/lib.rt:227:23
 push-requires : tie.Need-push-requires
 push-requires c κs =
     let start = c .before .before .before .before .before .before .before in
@@ -44,15 +40,12 @@ push-requires c κs =
     let ready = subst (λ (z : Move). Ready z (a .m) (a .depth) (length (a .xs .now) / 4) (length (a .store .now))) (c .before .before .before .enum-told .given .1) (start .pre) in
     (start .pre .low, (omega (arith, count, start .pre .few), subst (λ (z : ℕ). (z + a .depth) * (length (a .xs .now) / 4) ≤ length (a .store .now)) (sym count) (push-room _ _ _ _ ready)))
 
--- src/lib.rt:228:26
 enum-told-2 : tie.Need-enum-told-2
 enum-told-2 c = search needs
 
--- src/lib.rt:228:44
 array-share-prefix-args-2 : tie.Need-array-share-prefix-args-2
 array-share-prefix-args-2 c = search needs
 
--- src/lib.rt:228:44
 slice-aggregate-pop : tie.Need-slice-aggregate-pop
 slice-aggregate-pop c =
     let start = c .before .before .before .before .before .before .before in
@@ -60,19 +53,15 @@ slice-aggregate-pop c =
     let few : a .m ≤ length (a .t5) = omega (arith, start .pre .few, start .good .1 .1 .1 .1 .0 .1 .0 .1) in
     sym (length-take-le (a .m) (a .t5) few)
 
--- src/lib.rt:228:22
 pop-requires : tie.Need-pop-requires
 pop-requires c κs = search needs
 
--- src/lib.rt:229:28
 enum-told-3 : tie.Need-enum-told-3
 enum-told-3 c = search needs
 
--- src/lib.rt:229:46
 array-share-prefix-args-3 : tie.Need-array-share-prefix-args-3
 array-share-prefix-args-3 c = search needs
 
--- src/lib.rt:229:46
 slice-aggregate-flip : tie.Need-slice-aggregate-flip
 slice-aggregate-flip c =
     let start = c .before .before .before .before .before .before .before in
@@ -80,7 +69,6 @@ slice-aggregate-flip c =
     let few : a .m ≤ length (a .t5) = omega (arith, start .pre .few, start .good .1 .1 .1 .1 .0 .1 .0 .1) in
     sym (length-take-le (a .m) (a .t5) few)
 
--- src/lib.rt:229:23
 flip-requires : tie.Need-flip-requires
 flip-requires c κs =
     let start = c .before .before .before .before .before .before .before in
@@ -90,11 +78,9 @@ flip-requires c κs =
     let ready = subst (λ (z : Move). Ready z (a .m) (a .depth) (length (a .xs .now) / 4) (length (a .store .now))) (c .before .before .before .enum-told3 .given .1) (start .pre) in
     (omega (arith, count, flip-deep _ _ _ _ ready), start .pre .room)
 
--- src/lib.rt:230:25
 enum-known-mv : tie.Need-enum-known-mv
 enum-known-mv c = search needs
 
--- src/lib.rt:230:38
 roll-requires : tie.Need-roll-requires
 roll-requires c κs =
     let start = c .before .before .before .before .before .before in
@@ -103,31 +89,24 @@ roll-requires c κs =
     let ready = subst (λ (z : Move). Ready z (a .m) (a .depth) (length (a .xs .now) / 4) (length (a .store .now))) (c .before .before .mv .given .1) (start .pre) in
     ((roll-times _ _ _ _ _ _ ready, (roll-deep _ _ _ _ _ _ ready, start .pre .low)), start .pre .room)
 
--- src/lib.rt:231:28
 enum-told-4 : tie.Need-enum-told-4
 enum-told-4 c = search needs
 
--- src/lib.rt:231:23
 swap-requires : tie.Need-swap-requires
 swap-requires c κs = search needs
 
--- src/lib.rt:232:30
 enum-told-5 : tie.Need-enum-told-5
 enum-told-5 c = search needs
 
--- src/lib.rt:232:24
 stomp-requires : tie.Need-stomp-requires
 stomp-requires c κs = search needs
 
--- src/lib.rt:222:1
 same-length : tie.Need-same-length
 same-length c = search needs
 
--- src/lib.rt:222:1
 same-length-2 : tie.Need-same-length-2
 same-length-2 c = search needs
 
--- src/lib.rt:222:1
 returns : tie.Need-returns
 returns c =
     let start = c .before .before .before .before .before .before .before .before .before .before in
@@ -135,15 +114,12 @@ returns c =
     let few : a .m ≤ length (a .t5) = omega (arith, start .pre .few, start .good .1 .1 .1 .1 .0 .1 .0 .1) in
     found (c .before .before .before .before .before .before .enum-told .given .1) (all-push (a .t5) (a .m) (a .depth) (a .xs .now) (a .store .now) few _ (c .before .before .push .ensures))
 
--- src/lib.rt:222:1
 same-length-3 : tie.Need-same-length-3
 same-length-3 c = search needs
 
--- src/lib.rt:222:1
 same-length-4 : tie.Need-same-length-4
 same-length-4 c = search needs
 
--- src/lib.rt:222:1
 returns-2 : tie.Need-returns-2
 returns-2 c =
     let start = c .before .before .before .before .before .before .before .before .before .before in
@@ -151,15 +127,12 @@ returns-2 c =
     let few : a .m ≤ length (a .t5) = omega (arith, start .pre .few, start .good .1 .1 .1 .1 .0 .1 .0 .1) in
     found (c .before .before .before .before .before .before .enum-told2 .given .1) (all-pop (a .t5) (a .m) (a .depth) (a .xs .now) (a .store .now) few _ (c .before .before .pop .kept .0) (c .before .before .pop .ensures))
 
--- src/lib.rt:222:1
 same-length-5 : tie.Need-same-length-5
 same-length-5 c = search needs
 
--- src/lib.rt:222:1
 same-length-6 : tie.Need-same-length-6
 same-length-6 c = search needs
 
--- src/lib.rt:222:1
 returns-3 : tie.Need-returns-3
 returns-3 c =
     let start = c .before .before .before .before .before .before .before .before .before .before .before .before in
@@ -167,11 +140,9 @@ returns-3 c =
     let few : a .m ≤ length (a .t5) = omega (arith, start .pre .few, start .good .1 .1 .1 .1 .0 .1 .0 .1) in
     found (c .before .before .before .before .before .before .before .before .enum-told3 .given .1) (all-flip (a .t5) (a .m) (a .depth) (a .xs .now) (a .store .now) few _ _ (c .before .before .before .before .flip .kept .0) (c .before .before .before .before .flip .ensures .0) (c .before .before .before .before .flip .ensures .1))
 
--- src/lib.rt:222:1
 same-length-7 : tie.Need-same-length-7
 same-length-7 c = search needs
 
--- src/lib.rt:222:1
 returns-4 : tie.Need-returns-4
 returns-4 c =
     let start = c .before .before .before .before .before .before .before .before .before in
@@ -179,11 +150,9 @@ returns-4 c =
     let few : a .m ≤ length (a .t5) = omega (arith, start .pre .few, start .good .1 .1 .1 .1 .0 .1 .0 .1) in
     found (c .before .before .before .before .before .mv .given .1) (all-roll (a .t5) (a .m) (a .depth) (a .xs .now) (a .store .now) few _ _ _ (c .before .before .roll .ensures))
 
--- src/lib.rt:222:1
 same-length-8 : tie.Need-same-length-8
 same-length-8 c = search needs
 
--- src/lib.rt:222:1
 returns-5 : tie.Need-returns-5
 returns-5 c =
     let start = c .before .before .before .before .before .before .before .before in
@@ -191,11 +160,9 @@ returns-5 c =
     let few : a .m ≤ length (a .t5) = omega (arith, start .pre .few, start .good .1 .1 .1 .1 .0 .1 .0 .1) in
     found (c .before .before .before .before .enum-told4 .given .1) (all-swap (a .t5) (a .m) (a .depth) (a .xs .now) (a .store .now) few _ (c .before .before .swap .ensures))
 
--- src/lib.rt:222:1
 same-length-9 : tie.Need-same-length-9
 same-length-9 c = search needs
 
--- src/lib.rt:222:1
 returns-6 : tie.Need-returns-6
 returns-6 c =
     let start = c .before .before .before .before .before .before .before .before in

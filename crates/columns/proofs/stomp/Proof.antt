@@ -20,27 +20,21 @@ Inv-loop xs₀ n k₀ xs k = (tuples xs ≡ firstsFrom 0 k (λ _ _. noTuple) (tu
 abbrev μ-loop : tie.MeasureT-loop
 μ-loop xs₀ n k₀ xs k = n - k
 
--- src/lib.rt:215:5
 loop-holds : tie.Need-loop-holds Inv-loop μ-loop
 loop-holds c = (sym (firsts-none 0 _ _), refl)
 
--- src/lib.rt:216:26
 no-coord-requires : tie.Need-no-coord-requires Inv-loop μ-loop
 no-coord-requires c κs = search needs
 
--- src/lib.rt:216:9
 set-coord-requires : tie.Need-set-coord-requires Inv-loop μ-loop
 set-coord-requires c κs = search needs
 
--- src/lib.rt:217:9
 add-k : tie.Need-add-k Inv-loop μ-loop
 add-k c = search needs
 
--- src/lib.rt:215:5
 loop-less : tie.Need-loop-less Inv-loop μ-loop
 loop-less c = search needs
 
--- src/lib.rt:215:5
 loop-again : tie.Need-loop-again Inv-loop μ-loop
 loop-again c =
     let head = c .before .before .before .before .before .before in
@@ -51,11 +45,9 @@ loop-again c =
       c .before .before .set-coord .kept .0 ∙ inv .1,
     )
 
--- src/lib.rt:210:1
 same-length : tie.Need-same-length Inv-loop μ-loop
 same-length c = search needs
 
--- src/lib.rt:210:1
 returns : tie.Need-returns Inv-loop μ-loop
 returns c =
     let head = c .before in

@@ -17,67 +17,51 @@ Inv-loop store₀ a b n k₀ store k = Exchanged a b k store₀ store × (length
 abbrev μ-loop : tie.MeasureT-loop
 μ-loop store₀ a b n k₀ store k = n - k
 
--- src/lib.rt:112:5
 loop-holds : tie.Need-loop-holds Inv-loop μ-loop
 loop-holds c = (exchange-none _ _ _, refl, omega arith)
 
--- src/lib.rt:113:23
 add-x : tie.Need-add-x Inv-loop μ-loop
 add-x c = search needs
 
--- src/lib.rt:113:17
 mul-x : tie.Need-mul-x Inv-loop μ-loop
 mul-x c = search needs
 
--- src/lib.rt:113:17
 slice-read-x : tie.Need-slice-read-x Inv-loop μ-loop
 slice-read-x c = search needs
 
--- src/lib.rt:114:23
 add-y : tie.Need-add-y Inv-loop μ-loop
 add-y c = search needs
 
--- src/lib.rt:114:17
 mul-y : tie.Need-mul-y Inv-loop μ-loop
 mul-y c = search needs
 
--- src/lib.rt:114:17
 slice-read-y : tie.Need-slice-read-y Inv-loop μ-loop
 slice-read-y c = search needs
 
--- src/lib.rt:115:15
 add-store : tie.Need-add-store Inv-loop μ-loop
 add-store c = search needs
 
--- src/lib.rt:115:9
 mul-store : tie.Need-mul-store Inv-loop μ-loop
 mul-store c = search needs
 
--- src/lib.rt:115:9
 slice-write-store : tie.Need-slice-write-store Inv-loop μ-loop
 slice-write-store c = search needs
 
--- src/lib.rt:116:15
 add-store-2 : tie.Need-add-store-2 Inv-loop μ-loop
 add-store-2 c = search needs
 
--- src/lib.rt:116:9
 mul-store-2 : tie.Need-mul-store-2 Inv-loop μ-loop
 mul-store-2 c = search needs
 
--- src/lib.rt:116:9
 slice-write-store-2 : tie.Need-slice-write-store-2 Inv-loop μ-loop
 slice-write-store-2 c = simp length-set (omega arith)
 
--- src/lib.rt:117:9
 add-k : tie.Need-add-k Inv-loop μ-loop
 add-k c = search needs
 
--- src/lib.rt:112:5
 loop-less : tie.Need-loop-less Inv-loop μ-loop
 loop-less c = search needs
 
--- src/lib.rt:112:5
 loop-again : tie.Need-loop-again Inv-loop μ-loop
 loop-again c =
     let head = c .before .before .before in
@@ -90,11 +74,9 @@ loop-again c =
       omega arith,
     )
 
--- src/lib.rt:106:1
 same-length : tie.Need-same-length Inv-loop μ-loop
 same-length c = search needs
 
--- src/lib.rt:106:1
 returns : tie.Need-returns Inv-loop μ-loop
 returns c =
     let head = c .before in

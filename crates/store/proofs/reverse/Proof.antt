@@ -15,33 +15,27 @@ Inv-loop store₀ n from to i₀ j₀ store i j = Reversing n from to store₀ s
 abbrev μ-loop : tie.MeasureT-loop
 μ-loop store₀ n from to i₀ j₀ store i j = j - i
 
--- src/lib.rt:179:5
 loop-holds : tie.Need-loop-holds Inv-loop μ-loop
 loop-holds c = reverse-none _ _ _ _ (c .before .pre .0)
 
--- src/lib.rt:179:11
 add-loop : tie.Need-add-loop Inv-loop μ-loop
 add-loop c = search needs
 
--- src/lib.rt:180:9
 sub-j : tie.Need-sub-j Inv-loop μ-loop
 sub-j c = search needs
 
--- src/lib.rt:181:25
 mul-exchange : tie.Need-mul-exchange Inv-loop μ-loop
 mul-exchange c =
     let inv = c .before .before .loop .inv in
     let a = c .before .before .before .before .args in
     omega (arith, under (c .before .before .loop .i) (a .to) (a .n) (omega (arith, inv .most)))
 
--- src/lib.rt:181:32
 mul-exchange-2 : tie.Need-mul-exchange-2 Inv-loop μ-loop
 mul-exchange-2 c =
     let inv = c .before .before .loop .inv in
     let a = c .before .before .before .before .args in
     omega (arith, under (c .before .before .loop .j - 1) (a .to) (a .n) (omega (arith, inv .most)))
 
--- src/lib.rt:181:9
 exchange-requires : tie.Need-exchange-requires Inv-loop μ-loop
 exchange-requires c κs =
     let inv = c .before .before .loop .inv in
@@ -50,15 +44,12 @@ exchange-requires c κs =
     let j = c .before .before .loop .j in
     (under i (j - 1) (a .n) (omega arith), omega (arith, under (j - 1) (a .to) (a .n) (omega (arith, inv .most)), inv .same-length))
 
--- src/lib.rt:182:9
 add-i : tie.Need-add-i Inv-loop μ-loop
 add-i c = search needs
 
--- src/lib.rt:179:5
 loop-less : tie.Need-loop-less Inv-loop μ-loop
 loop-less c = search needs
 
--- src/lib.rt:179:5
 loop-again : tie.Need-loop-again Inv-loop μ-loop
 loop-again c =
     let head = c .before .before .before .before .before in
@@ -67,11 +58,9 @@ loop-again c =
     let put = c .before .before .exchange in
     reverse-turn (a .n) (a .from) (a .to) (a .store .now) (head .loop .store) _ (head .loop .i) (head .loop .j) (head .loop .inv) (omega arith) (start .pre .1 .1) (put .kept .0) (put .ensures)
 
--- src/lib.rt:171:1
 same-length : tie.Need-same-length Inv-loop μ-loop
 same-length c = search needs
 
--- src/lib.rt:171:1
 returns : tie.Need-returns Inv-loop μ-loop
 returns c =
     let head = c .before in

@@ -9,41 +9,32 @@ use Rattle.store.proofs.roll.Reads as reads
 use Rattle.store.proofs.roll.Lts as lts
 use Rattle.store.proofs.reverse.Reads as reverse-reads
 
--- src/lib.rt:193:23
 sub-reverse : tie.Need-sub-reverse
 sub-reverse c = search needs
 
--- src/lib.rt:193:5
 reverse-requires : tie.Need-reverse-requires
 reverse-requires c κs = search needs
 
--- src/lib.rt:194:23
 sub-reverse-2 : tie.Need-sub-reverse-2
 sub-reverse-2 c = search needs
 
--- src/lib.rt:194:34
 sub-reverse-3 : tie.Need-sub-reverse-3
 sub-reverse-3 c = search needs
 
--- src/lib.rt:194:5
 reverse-requires-2 : tie.Need-reverse-requires-2
 reverse-requires-2 c κs =
     let a = c .before .before .before .before .before .before .args in
     (omega arith, (omega arith, omega (arith, not-over (a .depth - a .r) (a .depth) (a .n) (omega arith), c .before .before .before .reverse .kept .0)))
 
--- src/lib.rt:195:23
 sub-reverse-4 : tie.Need-sub-reverse-4
 sub-reverse-4 c = search needs
 
--- src/lib.rt:195:5
 reverse-requires-3 : tie.Need-reverse-requires-3
 reverse-requires-3 c κs = search needs
 
--- src/lib.rt:188:1
 same-length : tie.Need-same-length
 same-length c = search needs
 
--- src/lib.rt:188:1
 returns : tie.Need-returns
 returns c =
     let start = c .before .before .before .before .before .before .before .before .before .before .before .before .before in

@@ -9,37 +9,30 @@ use Rattle.store.proofs.swap.Reads as reads
 use Rattle.store.proofs.swap.Lts as lts
 use Rattle.store.proofs.exchange.Reads as exchange-reads
 
--- src/lib.rt:204:9
 returns : tie.Need-returns
 returns c = swap-few (c .before .before .args .n) (c .before .before .args .depth) (c .before .before .args .store .now) (omega arith)
 
--- src/lib.rt:206:21
 mul-exchange : tie.Need-mul-exchange
 mul-exchange c =
     let a = c .before .before .before .args in
     omega (arith, under (a .depth - 2) (a .depth) (a .n) (omega arith))
 
--- src/lib.rt:206:39
 sub-exchange : tie.Need-sub-exchange
 sub-exchange c = search needs
 
--- src/lib.rt:206:38
 mul-exchange-2 : tie.Need-mul-exchange-2
 mul-exchange-2 c =
     let a = c .before .before .before .args in
     omega (arith, under (a .depth - 1) (a .depth) (a .n) (omega arith))
 
--- src/lib.rt:206:5
 exchange-requires : tie.Need-exchange-requires
 exchange-requires c κs =
     let a = c .before .before .before .args in
     (under (a .depth - 2) (a .depth - 1) (a .n) (omega arith), omega (arith, under (a .depth - 1) (a .depth) (a .n) (omega arith)))
 
--- src/lib.rt:199:1
 same-length : tie.Need-same-length
 same-length c = search needs
 
--- src/lib.rt:199:1
 returns-2 : tie.Need-returns-2
 returns-2 c =
     let start = c .before .before .before .before .before .before in
