@@ -11,6 +11,7 @@ use borrow.Author.Needs.{needs}
 use Rattle.axes.proofs.unorder_all.Statement.{statement}
 use Rattle.axes.proofs.unorder_all.Tie as tie
 
+-- The first k coordinates are done, the others as they were.
 abbrev Inv-loop : tie.InvT-loop
 Inv-loop xs₀ o t n k₀ xs k = (tuples xs ≡ firstsFrom 0 k (λ _. unordered o t) (tuples xs₀)) × (length xs ≡ length xs₀)
 

@@ -11,6 +11,7 @@ use borrow.Author.Needs.{needs}
 use Rattle.axes.proofs.unscale_all.Statement.{statement}
 use Rattle.axes.proofs.unscale_all.Tie as tie
 
+-- The first k coordinates are done, the others as they were.
 abbrev Inv-loop : tie.InvT-loop
 Inv-loop xs₀ o m n k₀ xs k = (tuples xs ≡ firstsFrom 0 k (λ _. unscaled o m) (tuples xs₀)) × (length xs ≡ length xs₀)
 

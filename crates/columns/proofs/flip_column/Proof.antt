@@ -20,6 +20,7 @@ use Rattle.coordinate.proofs.number_of.Reads as number-of-reads
 use Rattle.coordinate.proofs.set_coord.Reads as set-coord-reads
 use Rattle.coordinate.proofs.with_number.Reads as with-number-reads
 
+-- The first k tuples are exchanged with the first k numbers of the column.
 abbrev Inv-loop : tie.InvT-loop
 Inv-loop xs₀ store₀ at i n k₀ xs store k = (tuples xs ≡ firstsFrom 0 k (λ t c. put i (getD (take n (drop at store₀)) t nan) c) (tuples xs₀)) × (length xs ≡ length xs₀) × (store ≡ paste store₀ at (column i (tuples xs₀)) k) × (length store ≡ length store₀) × (k ≤ n)
 

@@ -18,6 +18,7 @@ use Rattle.coordinate.proofs.not_a_number.Reads as not-a-number-reads
 use Rattle.coordinate.proofs.set_coord.Reads as set-coord-reads
 use Rattle.coordinate.proofs.with_number.Reads as with-number-reads
 
+-- Number i of the first k tuples is no number, the others are as they were.
 abbrev Inv-loop : tie.InvT-loop
 Inv-loop xs₀ i n k₀ xs k = (tuples xs ≡ firstsFrom 0 k (λ _. put i nan) (tuples xs₀)) × (length xs ≡ length xs₀)
 

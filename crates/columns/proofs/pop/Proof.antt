@@ -16,6 +16,7 @@ use Rattle.sizes.proofs.size_at.Reads as size-at-reads
 use Rattle.columns.proofs.nan_column.Reads as nan-column-reads
 use Rattle.columns.proofs.pop_column.Reads as pop-column-reads
 
+-- Popping what is left of the places from what the columns still hold gives what popping all gives.
 abbrev Inv-loop : tie.InvT-loop
 Inv-loop xs₀ store depth args n j₀ xs j = (popsLeft n depth args (tuples xs) store j ≡ drained (places args) (tuples xs₀) (columnsOf n depth store)) × (length xs ≡ length xs₀)
 

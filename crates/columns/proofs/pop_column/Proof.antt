@@ -18,6 +18,7 @@ use Rattle.coordinate.proofs.get_coord.Reads as get-coord-reads
 use Rattle.coordinate.proofs.set_coord.Reads as set-coord-reads
 use Rattle.coordinate.proofs.with_number.Reads as with-number-reads
 
+-- The first k tuples have their numbers of the column, the others are as they were.
 abbrev Inv-loop : tie.InvT-loop
 Inv-loop xs₀ store at i n k₀ xs k = (tuples xs ≡ firstsFrom 0 k (λ t c. put i (getD (take n (drop at store)) t nan) c) (tuples xs₀)) × (length xs ≡ length xs₀)
 

@@ -15,6 +15,7 @@ use Rattle.columns.proofs.push_column.Lts as lts
 use Rattle.coordinate.proofs.get_coord.Reads as get-coord-reads
 use Rattle.coordinate.proofs.number_of.Reads as number-of-reads
 
+-- The first k numbers of the column stand in the store.
 abbrev Inv-loop : tie.InvT-loop
 Inv-loop xs store₀ at i n k₀ store k = (store ≡ paste store₀ at (column i (tuples xs)) k) × (length store ≡ length store₀) × (k ≤ n)
 

@@ -14,6 +14,7 @@ use Rattle.columns.proofs.stomp.Lts as lts
 use Rattle.coordinate.proofs.no_coord.Reads as no-coord-reads
 use Rattle.coordinate.proofs.set_coord.Reads as set-coord-reads
 
+-- No number of the first k tuples is one, the others are as they were.
 abbrev Inv-loop : tie.InvT-loop
 Inv-loop xs₀ n k₀ xs k = (tuples xs ≡ firstsFrom 0 k (λ _ _. noTuple) (tuples xs₀)) × (length xs ≡ length xs₀)
 

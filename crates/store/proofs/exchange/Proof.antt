@@ -11,6 +11,7 @@ use Rattle.store.proofs.exchange.Tie as tie
 use Rattle.store.proofs.exchange.Reads as reads
 use Rattle.store.proofs.exchange.Lts as lts
 
+-- The first k numbers of both columns are exchanged.
 abbrev Inv-loop : tie.InvT-loop
 Inv-loop store₀ a b n k₀ store k = Exchanged a b k store₀ store × (length store ≡ length store₀) × (k ≤ n)
 

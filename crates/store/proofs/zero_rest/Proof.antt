@@ -10,6 +10,7 @@ use native.Mathlib.Omega.{arith}
 use Rattle.store.proofs.zero_rest.Statement.{statement}
 use Rattle.store.proofs.zero_rest.Tie as tie
 
+-- The numbers passed are zero, the others as they were.
 abbrev Inv-loop : tie.InvT-loop
 Inv-loop store₀ from to i₀ store i = (store ≡ filled store₀ from i (fin false 0 (pos 0))) × (length store ≡ length store₀) × (from ≤ i) × (i ≤ to)
 
