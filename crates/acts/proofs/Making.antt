@@ -9,7 +9,7 @@ use lib.IntN.{ℤ}
 use lib.ListN.{length}
 use borrow.Author.Tests.{ne-eqb}
 use Rattle.laws.specs.Separators.{and-left, and-right}
-use Rattle.rules.specs.Lists.{all}
+use Rattle.rules.specs.Lists.{allOf}
 use Rattle.rules.specs.Decimal.{minus}
 use Rattle.rules.specs.Record.{size, arg, made, args, unused, operator, operatorOf, isArgs, isRoll, nineDigits, isPlace, isPlaces, isRising, Adapt}
 use Rattle.steplaws.specs.Tests.{all-append}
@@ -22,7 +22,7 @@ so e = subst T (sym e) tt
 
 pub record Made (s : Step) : Type 0 where
   pub slots : s .n ≤ 8
-  pub digits : all nineDigits (args s) ≡ true
+  pub digits : allOf nineDigits (args s) ≡ true
   pub rule : isArgs (operator s) (args s) ≡ true
 
 pub made-so : (s : Step) → made s ≡ true → Made s
@@ -31,15 +31,15 @@ made-so s e =
     let tests = and-right (leb (s .operator) 10) _ e in
     let marks = and-right (leb (s .n) 8) _ tests in
     let written = and-right (leb (s .«omit_inv») 1) _ (and-right (leb (s .«omit_fwd») 1) _ (and-right (leb (s .inv) 1) _ marks)) in
-    let rules = and-right (all _ (unused s)) _ written in
+    let rules = and-right (allOf _ (unused s)) _ written in
     record {
       slots = leb→le _ _ (so (and-left (leb (s .n) 8) _ tests));
-      digits = and-left (all nineDigits (args s)) _ rules;
-      rule = and-right (all nineDigits (args s)) _ rules;
+      digits = and-left (allOf nineDigits (args s)) _ rules;
+      rule = and-right (allOf nineDigits (args s)) _ rules;
     }
 
-first-digits : (l : List ℤ) → all nineDigits l ≡ true → size (arg 1 l) ≤ 999999999
-unfolding all nineDigits arg
+first-digits : (l : List ℤ) → allOf nineDigits l ≡ true → size (arg 1 l) ≤ 999999999
+unfolding allOf nineDigits arg
 first-digits [] e = omega arith
 first-digits (x ∷ l) e = leb→le _ _ (so (and-left (leb (size x) 999999999) _ e))
 
@@ -48,7 +48,7 @@ pub kept-rule : (s : Step) {b : Bool} → made s ≡ true → isArgs (operator s
 kept-rule s e r = sym r ∙ made-so s e .rule
 
 -- a roll's arguments
-pub roll-made : (l : List ℤ) → all nineDigits l ≡ true → isRoll l ≡ true → Roll l
+pub roll-made : (l : List ℤ) → allOf nineDigits l ≡ true → isRoll l ≡ true → Roll l
 unfolding isRoll
 roll-made l d e =
     let rest = and-right (eqb (length l) 2) _ e in
@@ -83,18 +83,18 @@ the-last k n0 n1 n2 n3 n4 n5 n6 n7 n8 n9 =
 
 -- ---- places
 
-pub rising-places : (last : ℕ) (l : List ℤ) → isRising last l ≡ true → all isPlace l ≡ true
-unfolding isRising all
+pub rising-places : (last : ℕ) (l : List ℤ) → isRising last l ≡ true → allOf isPlace l ≡ true
+unfolding isRising allOf
 rising-places last [] e = refl
 rising-places last (x ∷ l) e =
     rw (and-left (isPlace x) _ e) (rising-places (size x) l (and-right (ltb last (size x)) _ (and-right (isPlace x) _ e)))
 
-pub some-places : (l : List ℤ) → isPlaces l ≡ true → all isPlace l ≡ true
+pub some-places : (l : List ℤ) → isPlaces l ≡ true → allOf isPlace l ≡ true
 unfolding isPlaces
 some-places l e = and-right (leb 1 (length l)) _ e
 
-pub all-reverse : (p : ℤ → Bool) (l : List ℤ) → all p l ≡ true → all p (reverse l) ≡ true
-unfolding all
+pub all-reverse : (p : ℤ → Bool) (l : List ℤ) → allOf p l ≡ true → allOf p (reverse l) ≡ true
+unfolding allOf
 all-reverse p [] e = refl
 all-reverse p (x ∷ l) e =
     rw (reverse-cons x l)

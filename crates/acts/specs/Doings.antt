@@ -7,7 +7,7 @@ use lib.ListN.{length, take}
 use lib.IntN.{ℤ}
 use lib.Dec.{ltb}
 use Rattle.rules.specs.Record.{size, arg, isPlace, isOrder, isAdapt}
-use Rattle.rules.specs.Lists.{all}
+use Rattle.rules.specs.Lists.{allOf}
 use Rattle.rules.specs.Act as rules
 use Rattle.acts.specs.declared.Act.{Act}
 use Rattle.acts.specs.declared.Act.the-variants.{Pushes, Pops, PopsAll, Flips, Rolls, Swaps, Drops, Orders, Adapts}
@@ -40,10 +40,10 @@ rolled back l = cond back (rules.unrolling (arg 1 l) (arg 2 l)) (rules.rolling (
 
 -- can the arguments be those of the act?
 unfoldable pub able : Act → List ℤ → Bool
-able Pushes l = all isPlace l
-able Pops l = all isPlace l
-able PopsAll l = all isPlace l
-able Flips l = all isPlace l
+able Pushes l = allOf isPlace l
+able Pops l = allOf isPlace l
+able PopsAll l = allOf isPlace l
+able Flips l = allOf isPlace l
 able (Rolls m n) l = ltb n (2 * m)
 able Swaps l = true
 able Drops l = true

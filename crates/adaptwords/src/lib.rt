@@ -9,7 +9,7 @@ ghost use mathlib.Core.List.{map};
 ghost use Prim.Native.Nat.{_<_};
 ghost use lib.ListN.{length, getD};
 ghost use lib.IntN.{pos};
-ghost use Rattle.rules.specs.Lists.{all};
+ghost use Rattle.rules.specs.Lists.{allOf};
 ghost use Rattle.text.specs.Writing.{WroteAt};
 ghost use Rattle.writelaws.specs.Writing.{letter, endingOf};
 ghost use Rattle.numerals.specs.Parts.{Room};
@@ -26,7 +26,7 @@ fn byte_at(s: &[u8], i: usize) -> u8
 // The letter of number i of l, an axis with its sign.
 fn letter(l: &[i32], i: usize) -> u8
     requires { ⌜ i < length (now l) ⌝ }
-    requires { ⌜ all isAxis (now l) ≡ true ⌝ }
+    requires { ⌜ allOf isAxis (now l) ≡ true ⌝ }
     ensures { λ r. ⌜ r ≡ letter (getD (now (l .entry)) i (pos 0)) ⌝ }
 {
     let m = size_at(l, i);
@@ -38,7 +38,7 @@ fn letter(l: &[i32], i: usize) -> u8
 
 // The letters of the axes in l.
 pub fn letters(l: &[i32], out: &mut [u8], o: usize) -> usize
-    requires { ⌜ all isAxis (now l) ≡ true ⌝ }
+    requires { ⌜ allOf isAxis (now l) ≡ true ⌝ }
     requires { ⌜ Room (map letter (now l)) o (now out) ⌝ }
     ensures { λ r. ⌜ WroteAt (map letter (now (l .entry))) (now (out .entry)) o r (now (out .exit)) ⌝ }
 {
@@ -77,7 +77,7 @@ pub fn from_word(code: usize, out: &mut [u8], o: usize) -> usize
 
 // The word of `to`, by the outputs and the code of a factor.
 pub fn to_word(code: usize, l: &[i32], out: &mut [u8], o: usize) -> usize
-    requires { ⌜ all isAxis (now l) ≡ true ⌝ }
+    requires { ⌜ allOf isAxis (now l) ≡ true ⌝ }
     requires { ⌜ Room (toText code (now l)) o (now out) ⌝ }
     ensures { λ r. ⌜ WroteAt (toText code (now (l .entry))) (now (out .entry)) o r (now (out .exit)) ⌝ }
 {

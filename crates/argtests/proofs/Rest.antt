@@ -7,7 +7,7 @@ use native.Mathlib.Omega.{arith}
 use native.Mathlib.Numerals.{add-one}
 use lib.ListN.{length, getD, drop, drop-of-length-le}
 use lib.Seq.{drop-cons}
-use Rattle.rules.specs.Lists.{all, any}
+use Rattle.rules.specs.Lists.{allOf, anyOf}
 
 module _ {A R : Type 0} where
   pub record Rest (f : List A → R) (l : List A) (i : ℕ) (whole : R) : Type 0 where
@@ -37,18 +37,18 @@ module _ {A R : Type 0} where
   rest-end {f} {l} {i} r h = sym (r .same ∙ ap f (drop-of-length-le l {i = i} h))
 
 module _ {A : Type 0} where
-  pub all-so : (p : A → Bool) (x : A) (l : List A) → p x ≡ true → all p (x ∷ l) ≡ all p l
-  unfolding all
+  pub all-so : (p : A → Bool) (x : A) (l : List A) → p x ≡ true → allOf p (x ∷ l) ≡ allOf p l
+  unfolding allOf
   all-so p x l e = rw e
 
-  pub all-not : (p : A → Bool) (x : A) (l : List A) → p x ≡ false → all p (x ∷ l) ≡ false
-  unfolding all
+  pub all-not : (p : A → Bool) (x : A) (l : List A) → p x ≡ false → allOf p (x ∷ l) ≡ false
+  unfolding allOf
   all-not p x l e = rw e
 
-  pub any-so : (p : A → Bool) (x : A) (l : List A) → p x ≡ true → any p (x ∷ l) ≡ true
-  unfolding any
+  pub any-so : (p : A → Bool) (x : A) (l : List A) → p x ≡ true → anyOf p (x ∷ l) ≡ true
+  unfolding anyOf
   any-so p x l e = rw e
 
-  pub any-not : (p : A → Bool) (x : A) (l : List A) → p x ≡ false → any p (x ∷ l) ≡ any p l
-  unfolding any
+  pub any-not : (p : A → Bool) (x : A) (l : List A) → p x ≡ false → anyOf p (x ∷ l) ≡ anyOf p l
+  unfolding anyOf
   any-not p x l e = rw e

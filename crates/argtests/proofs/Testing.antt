@@ -10,7 +10,7 @@ use lib.Dec.{leb, eqb}
 use lib.IntN.{ℤ, pos}
 use lib.ListN.{length, getD, take, drop, length-drop, drop-of-length-le}
 use lib.Seq.{take-all, drop-cons, drop-drop, getD-drop}
-use Rattle.rules.specs.Lists.{any, all}
+use Rattle.rules.specs.Lists.{anyOf, allOf}
 use Rattle.steplaws.specs.Tests.{never}
 use borrow.Author.Tests.{eq-eqb, ne-eqb, lt-ltb, le-ltb, le-leb}
 use Rattle.rules.specs.Decimal.{minus}
@@ -90,27 +90,27 @@ rest-of l i = take-all (length l - i) (drop i l) (subst (λ (k : ℕ). k ≤ len
 pub rest-behind : {A : Type 0} (l : List A) (i : ℕ) → take (length l - (i + 1)) (drop (i + 1) l) ≡ drop (suc i) l
 rest-behind l i = rest-of l (i + 1) ∙ ap (λ (k : ℕ). drop k l) (add-one i)
 
-pub distinct-so : (x : ℤ) (l r : List ℤ) (m : ℕ) → m ≡ size x → r ≡ l → any (ofSize m) r ≡ false → isDistinct (x ∷ l) ≡ isDistinct l
+pub distinct-so : (x : ℤ) (l r : List ℤ) (m : ℕ) → m ≡ size x → r ≡ l → anyOf (ofSize m) r ≡ false → isDistinct (x ∷ l) ≡ isDistinct l
 unfolding isDistinct ofSize
 distinct-so x l r m h p e = rw (sym h, sym p, e) refl
 
-pub distinct-not : (x : ℤ) (l r : List ℤ) (m : ℕ) → m ≡ size x → r ≡ l → any (ofSize m) r ≡ true → isDistinct (x ∷ l) ≡ false
+pub distinct-not : (x : ℤ) (l r : List ℤ) (m : ℕ) → m ≡ size x → r ≡ l → anyOf (ofSize m) r ≡ true → isDistinct (x ∷ l) ≡ false
 unfolding isDistinct ofSize
 distinct-not x l r m h p e = rw (sym h, sym p, e) refl
 
-pub places-so : (l : List ℤ) → (length l ≡ 0 → ⊥) → all isPlace l ≡ isPlaces l
+pub places-so : (l : List ℤ) → (length l ≡ 0 → ⊥) → allOf isPlace l ≡ isPlaces l
 unfolding isPlaces
 places-so [] n = absurd (n refl)
 places-so (x ∷ l) n = rw (le-leb 1 (suc (length l)) (omega arith)) refl
 
-pub factors-differ : (l : List ℤ) (a b : ℕ) → a ≡ size (getD l 1 (pos 0)) → b ≡ size (getD l 0 (pos 0)) → all isCode l ≡ true → (a ≡ b → ⊥) → false ≡ areFactors l
+pub factors-differ : (l : List ℤ) (a b : ℕ) → a ≡ size (getD l 1 (pos 0)) → b ≡ size (getD l 0 (pos 0)) → allOf isCode l ≡ true → (a ≡ b → ⊥) → false ≡ areFactors l
 unfolding areFactors
 factors-differ l a b p q e n = rw (e, sym p, sym q, ne-eqb _ _ n) refl
 
-pub factors-so : (l : List ℤ) (a b : ℕ) (r : Bool) → a ≡ size (getD l 1 (pos 0)) → b ≡ size (getD l 0 (pos 0)) → all isCode l ≡ true → a ≡ b
-    → r ≡ all (isOf Zero) (take (length l - 2) (drop 2 l)) → r ≡ areFactors l
+pub factors-so : (l : List ℤ) (a b : ℕ) (r : Bool) → a ≡ size (getD l 1 (pos 0)) → b ≡ size (getD l 0 (pos 0)) → allOf isCode l ≡ true → a ≡ b
+    → r ≡ allOf (isOf Zero) (take (length l - 2) (drop 2 l)) → r ≡ areFactors l
 unfolding areFactors
-factors-so l a b r p q e n h = rw (e, sym p, sym q, eq-eqb _ _ n) (h ∙ ap (all (isOf Zero)) (rest-of l 2))
+factors-so l a b r p q e n h = rw (e, sym p, sym q, eq-eqb _ _ n) (h ∙ ap (allOf (isOf Zero)) (rest-of l 2))
 
 -- ---- an order, and adapt's arguments, in the code's own order of tests
 
@@ -118,7 +118,7 @@ pub and-both : (a b c : Bool) → (a && (b && c)) ≡ ((a && b) && c)
 and-both true b c = refl
 and-both false b c = refl
 
-pub order-tests : (l : List ℤ) → isOrder l ≡ ((leb 1 (length l) && leb (length l) 4) && (all (isOf (UpTo (length l))) l && isDistinct l))
+pub order-tests : (l : List ℤ) → isOrder l ≡ ((leb 1 (length l) && leb (length l) 4) && (allOf (isOf (UpTo (length l))) l && isDistinct l))
 unfolding isOrder
 order-tests l = and-both (leb 1 (length l)) (leb (length l) 4) _
 
@@ -133,7 +133,7 @@ and-true true = refl
 and-true false = refl
 
 pub adapt-tests : (l : List ℤ) → length l ≡ 8 → isAdapt l ≡ (isOrder (take 4 l) && areFactors (drop 4 l))
-unfolding isAdapt areFactors all arg
+unfolding isAdapt areFactors allOf arg
 adapt-tests l n =
     rw (eq-eqb _ _ n, drop-drop 2 4 l, last-two l n, getD-drop 4 l 1 (pos 0), getD-drop 4 l 0 (pos 0), and-true (eqb (size (getD l 7 (pos 0))) 0)) refl
 

@@ -5,7 +5,7 @@ use mathlib.Core.List.{List}
 use lib.Dec.{leb, eqb}
 use lib.IntN.{ℤ, pos}
 use lib.ListN.{getD, drop}
-use Rattle.rules.specs.Lists.{all}
+use Rattle.rules.specs.Lists.{allOf}
 use Rattle.rules.specs.Record.{size, isPlace, isCode, nineDigits}
 use Rattle.argtests.specs.declared.Kind.{Kind}
 use Rattle.argtests.specs.declared.Kind.the-variants.{Place, Code, NineDigits, Zero, UpTo}
@@ -24,4 +24,4 @@ ofSize m x = eqb m (size x)
 
 -- adapt's codes: the first two alike, the others 0
 unfoldable pub areFactors : List ℤ → Bool
-areFactors l = all isCode l && (eqb (size (getD l 1 (pos 0))) (size (getD l 0 (pos 0))) && all (isOf Zero) (drop 2 l))
+areFactors l = allOf isCode l && (eqb (size (getD l 1 (pos 0))) (size (getD l 0 (pos 0))) && allOf (isOf Zero) (drop 2 l))

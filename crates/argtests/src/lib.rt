@@ -10,7 +10,7 @@ ghost use Prim.Native.Nat.{_<_};
 ghost use lib.Dec.{leb};
 ghost use lib.ListN.{length, getD};
 ghost use lib.IntN.{pos};
-ghost use Rattle.rules.specs.Lists.{all, any};
+ghost use Rattle.rules.specs.Lists.{allOf, anyOf};
 ghost use Rattle.rules.specs.Record.{isDistinct, isRising, isPlaces, isRoll, isOrder, isAdapt, isArgs, operatorOf};
 ghost use Rattle.argtests.specs.Tests.{isOf, ofSize, areFactors};
 
@@ -74,7 +74,7 @@ fn is_at(kind: Kind, l: &[i32], i: usize) -> bool
 
 // Are all of l of that kind?
 pub fn are_of(kind: Kind, l: &[i32]) -> bool
-    ensures { λ r. ⌜ r ≡ all (isOf kind) (now (l .entry)) ⌝ }
+    ensures { λ r. ⌜ r ≡ allOf (isOf kind) (now (l .entry)) ⌝ }
 {
     let mut i = 0;
     while i < l.len() {
@@ -89,7 +89,7 @@ pub fn are_of(kind: Kind, l: &[i32]) -> bool
 
 // Is there one in l of that size?
 fn is_among(m: usize, l: &[i32]) -> bool
-    ensures { λ r. ⌜ r ≡ any (ofSize m) (now (l .entry)) ⌝ }
+    ensures { λ r. ⌜ r ≡ anyOf (ofSize m) (now (l .entry)) ⌝ }
 {
     let mut i = 0;
     while i < l.len() {

@@ -9,7 +9,7 @@ use lib.ListN.{length, getD}
 use lib.Dec.{leb}
 use lib.IntN.{ℤ, pos}
 use lib.Ieee.{Float}
-use Rattle.rules.specs.Lists.{all}
+use Rattle.rules.specs.Lists.{allOf}
 use Rattle.rules.specs.Decimal.{minus}
 use Rattle.rules.specs.Record.{size, isDistinct, isOrder}
 use Rattle.rules.specs.Coordinate.{number, put, turn, swapFrom, unswapFrom, reordered, swapped}
@@ -46,14 +46,14 @@ module _ (l : List ℤ) (i : ℕ) where
 record Rule (l : List ℤ) : Type 0 where
   least : 1 ≤ length l
   most : length l ≤ 4
-  sizes : all (λ (x : ℤ). leb 1 (size x) && leb (size x) (length l)) l ≡ true
+  sizes : allOf (λ (x : ℤ). leb 1 (size x) && leb (size x) (length l)) l ≡ true
 
 ruled : (l : List ℤ) → isOrder l ≡ true → Rule l
 unfolding isOrder
 ruled l h =
     let A = leb 1 (length l) in
     let B = leb (length l) 4 in
-    let C = all (λ (x : ℤ). leb 1 (size x) && leb (size x) (length l)) l in
+    let C = allOf (λ (x : ℤ). leb 1 (size x) && leb (size x) (length l)) l in
     let r = and-right A (B && (C && isDistinct l)) h in
     record {
       least = leb-true 1 (length l) (and-left A _ h);
@@ -87,17 +87,17 @@ module _ (c : Coord) where
 
 module _ (c : Coord) where
   -- a number above every size stays as it was
-  above : (n j : ℕ) (l : List ℤ) (i : ℕ) (out : Coord) → all (λ (x : ℤ). leb 1 (size x) && leb (size x) n) l ≡ true → n < j → j ≤ 4
+  above : (n j : ℕ) (l : List ℤ) (i : ℕ) (out : Coord) → allOf (λ (x : ℤ). leb 1 (size x) && leb (size x) n) l ≡ true → n < j → j ≤ 4
       → number j (unswapFrom number put turn i l c out) ≡ number j out
-  unfolding unswapFrom all
+  unfolding unswapFrom allOf
   above n j [] i out s h k = refl
   above n j (x ∷ l) i out s h k =
       let A = leb 1 (size x) in
       let B = leb (size x) n in
-      let one = and-left (A && B) (all (λ (x : ℤ). leb 1 (size x) && leb (size x) n) l) s in
+      let one = and-left (A && B) (allOf (λ (x : ℤ). leb 1 (size x) && leb (size x) n) l) s in
       let low : 1 ≤ size x = leb-true 1 (size x) (and-left A B one) in
       let high : size x ≤ n = leb-true (size x) n (and-right A B one) in
-      above n j l (suc i) _ (and-right (A && B) (all (λ (x : ℤ). leb 1 (size x) && leb (size x) n) l) s) h k
+      above n j l (suc i) _ (and-right (A && B) (allOf (λ (x : ℤ). leb 1 (size x) && leb (size x) n) l) s) h k
       ∙ put-above (size x) j (turn (minus x) (number i c)) out low (omega arith) k
 
   -- a number that the order places

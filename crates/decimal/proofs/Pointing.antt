@@ -9,7 +9,7 @@ use borrow.Author.Tests.{leb-true, ne-eqb}
 use lib.ListN.{length, take, drop, getD, length-drop}
 use lib.Dec.{leb}
 use Rattle.rules.specs.Ascii.{is}
-use Rattle.rules.specs.Lists.{any, all}
+use Rattle.rules.specs.Lists.{anyOf, allOf}
 use Rattle.rules.specs.Text.{Bytes, before, behind}
 use Rattle.rules.specs.Decimal.{digit, digitsTo, spelled, plainForm, plain, decimal}
 use Rattle.rules.specs.declared.Number.the-variants as number
@@ -46,13 +46,13 @@ are-digits most t v e = go (digitsTo most t) refl e
     go false d f = absurd (never (cc f))
 
 -- as many digits as there are spell a number below that power of ten
-spelled-small : (i n : ℕ) (t : Bytes) → n < 10 ^ i → all digit t ≡ true → spelled n t < 10 ^ (i + length t)
-unfolding spelled all
+spelled-small : (i n : ℕ) (t : Bytes) → n < 10 ^ i → allOf digit t ≡ true → spelled n t < 10 ^ (i + length t)
+unfolding spelled allOf
 spelled-small i n [] h e = let z : i + 0 ≡ i = omega arith in rw z h
 spelled-small i n (b ∷ t) h e =
-    let d = digit-high b (and-left (digit b) (all digit t) e) in
+    let d = digit-high b (and-left (digit b) (allOf digit t) e) in
     let z : i + suc (length t) ≡ suc i + length t = omega arith in
-    rw z (spelled-small (suc i) (n * 10 + (b - 48)) t (omega (arith, pow-suc 10 i)) (and-right (digit b) (all digit t) e))
+    rw z (spelled-small (suc i) (n * 10 + (b - 48)) t (omega (arith, pow-suc 10 i)) (and-right (digit b) (allOf digit t) e))
 
 pub record Few (most v k : ℕ) : Type 0 where
   pub some : 1 ≤ k
@@ -62,22 +62,22 @@ pub record Few (most v k : ℕ) : Type 0 where
 pub told-few : {most : ℕ} {t : Bytes} {v : ℕ} → Told most t v → Few most v (length t)
 unfolding digitsTo
 told-few {most} {t} {v} m =
-    let r = and-right (leb 1 (length t)) (leb (length t) most && all digit t) (m .digits) in
+    let r = and-right (leb 1 (length t)) (leb (length t) most && allOf digit t) (m .digits) in
     let z : 0 + length t ≡ length t = omega arith in
     record {
-      some = leb-true 1 (length t) (and-left (leb 1 (length t)) (leb (length t) most && all digit t) (m .digits));
-      few = leb-true (length t) most (and-left (leb (length t) most) (all digit t) r);
-      small = rw (m .value) (rw z at (spelled-small 0 0 t (omega arith) (and-right (leb (length t) most) (all digit t) r)));
+      some = leb-true 1 (length t) (and-left (leb 1 (length t)) (leb (length t) most && allOf digit t) (m .digits));
+      few = leb-true (length t) most (and-left (leb (length t) most) (allOf digit t) r);
+      small = rw (m .value) (rw z at (spelled-small 0 0 t (omega arith) (and-right (leb (length t) most) (allOf digit t) r)));
     }
 
 -- ---- a text by its point
 
-behind-none : (test : ℕ → Bool) (t : Bytes) → any test t ≡ false → behind test t ≡ []
-unfolding any behind
+behind-none : (test : ℕ → Bool) (t : Bytes) → anyOf test t ≡ false → behind test t ≡ []
+unfolding anyOf behind
 behind-none test [] e = refl
 behind-none test (x ∷ t) e = go (test x) e (behind-none test t)
   where
-    go : (b : Bool) → (b || any test t) ≡ false → (any test t ≡ false → behind test t ≡ []) → cond b t (behind test t) ≡ []
+    go : (b : Bool) → (b || anyOf test t) ≡ false → (anyOf test t ≡ false → behind test t ≡ []) → cond b t (behind test t) ≡ []
     go true f h = absurd (true≢false f)
     go false f h = h f
 
@@ -93,7 +93,7 @@ module _ (minus : Bool) (t : Bytes) {p : ℕ} (m : Run (other (is ".")) t 0 p) w
   unfolding plain plainForm spelled
   plain-whole v e h =
       let w = are-digits 9 (take p t) v e in
-      let n : any (is ".") t ≡ false = run-none (is ".") m h in
+      let n : anyOf (is ".") t ≡ false = run-none (is ".") m h in
       sym (rw (front, w .digits, n, behind-none (is ".") t n, w .value))
 
   module _ (v : ℕ) (e : Are v ≡ spelledTo 9 (take p t)) (h : p < length t) where

@@ -12,7 +12,7 @@ use lib.ListN.{length, take, drop, set, length-append, length-set}
 use lib.Seq.{take-suc-set, take-all, take-append-le, set-out, append-snoc}
 use lib.Dec.{leb}
 use Rattle.rules.specs.Ascii.{is}
-use Rattle.rules.specs.Lists.{any, all, isNone}
+use Rattle.rules.specs.Lists.{anyOf, allOf, isNone}
 use Rattle.rules.specs.Text.{Bytes, before, behind, onto, cut}
 use Rattle.rules.specs.Decimal.{decimal, pieces, numberThen, allNumbers, series, isWhole, wholeOf}
 use Rattle.rules.specs.OwnRules.{wholes}
@@ -34,13 +34,13 @@ use Rattle.decimal.specs.Reading.{wholeIs, wholesIn, lowest, Reads}
 unfoldable pub left : Bytes → ℕ → List Bytes
 left v at = cond (leb at (length v)) (cut (is ",") (drop at v)) []
 
-cut-is : (test : ℕ → Bool) (t : Bytes) → cut test t ≡ before test t ∷ cond (any test t) (cut test (behind test t)) []
-unfolding cut before behind any onto
+cut-is : (test : ℕ → Bool) (t : Bytes) → cut test t ≡ before test t ∷ cond (anyOf test t) (cut test (behind test t)) []
+unfolding cut before behind anyOf onto
 cut-is test [] = refl
 cut-is test (x ∷ t) = go (test x) (cut-is test t)
   where
-    go : (b : Bool) → cut test t ≡ before test t ∷ cond (any test t) (cut test (behind test t)) []
-        → cond b ([] ∷ cut test t) (onto x (cut test t)) ≡ cond b [] (x ∷ before test t) ∷ cond (b || any test t) (cut test (cond b t (behind test t))) []
+    go : (b : Bool) → cut test t ≡ before test t ∷ cond (anyOf test t) (cut test (behind test t)) []
+        → cond b ([] ∷ cut test t) (onto x (cut test t)) ≡ cond b [] (x ∷ before test t) ∷ cond (b || anyOf test t) (cut test (cond b t (behind test t))) []
     go true h = refl
     go false h = ap (onto x) h
 
@@ -58,10 +58,10 @@ left-more {v} {at} {e} h m =
     rw (le-leb at (length v) h)
     (cut-is (is ",") (drop at v) ∙ rw (run-before (is ",") m) (ap (λ (r : List Bytes). part at e v ∷ r) (elim (decLt e (length v)) [ yes l ↦ inside l | no l ↦ outside (omega arith) ])))
   where
-    inside : e < length v → cond (any (is ",") (drop at v)) (cut (is ",") (behind (is ",") (drop at v))) [] ≡ cond (leb (e + 1) (length v)) (cut (is ",") (drop (e + 1) v)) []
+    inside : e < length v → cond (anyOf (is ",") (drop at v)) (cut (is ",") (behind (is ",") (drop at v))) [] ≡ cond (leb (e + 1) (length v)) (cut (is ",") (drop (e + 1) v)) []
     inside l = let k : e + 1 ≤ length v = omega arith in rw (run-any (is ",") m l, run-behind (is ",") m l, le-leb (e + 1) (length v) k)
 
-    outside : length v ≤ e → cond (any (is ",") (drop at v)) (cut (is ",") (behind (is ",") (drop at v))) [] ≡ cond (leb (e + 1) (length v)) (cut (is ",") (drop (e + 1) v)) []
+    outside : length v ≤ e → cond (anyOf (is ",") (drop at v)) (cut (is ",") (behind (is ",") (drop at v))) [] ≡ cond (leb (e + 1) (length v)) (cut (is ",") (drop (e + 1) v)) []
     outside l = let k : length v < e + 1 = omega arith in rw (run-none (is ",") m l, lt-leb (e + 1) (length v) k)
 
 -- ---- numbers in front of others
@@ -80,8 +80,8 @@ unfolding prefixed numberThen
 prefixed-more ds d none = refl
 prefixed-more ds d (some es) = ap some (sym (append-snoc ds d es))
 
-all-snoc : {A : Type 0} (p : A → Bool) (l : List A) (x : A) → all p (l ++ (x ∷ [])) ≡ (all p l && p x)
-unfolding all
+all-snoc : {A : Type 0} (p : A → Bool) (l : List A) (x : A) → allOf p (l ++ (x ∷ [])) ≡ (allOf p l && p x)
+unfolding allOf
 all-snoc p [] x = and-true (p x)
   where
     and-true : (b : Bool) → (b && true) ≡ b
@@ -89,7 +89,7 @@ all-snoc p [] x = and-true (p x)
     and-true false = refl
 all-snoc p (y ∷ l) x = go (p y) (all-snoc p l x)
   where
-    go : (b : Bool) → all p (l ++ (x ∷ [])) ≡ (all p l && p x) → (b && all p (l ++ (x ∷ []))) ≡ ((b && all p l) && p x)
+    go : (b : Bool) → allOf p (l ++ (x ∷ [])) ≡ (allOf p l && p x) → (b && allOf p (l ++ (x ∷ []))) ≡ ((b && allOf p l) && p x)
     go true h = h
     go false h = refl
 
@@ -103,12 +103,12 @@ pub record Reading (v : Bytes) (list : List Whole) (whole : Bool) (n at : ℕ) :
   pub done : List Decimal
   pub count : length done ≡ n
   pub kept : wholesIn n list ≡ map wholeOf (take 8 done)
-  pub all-whole : whole ≡ all isWhole done
+  pub all-whole : whole ≡ allOf isWhole done
   pub numbers : series v ≡ prefixed done (allNumbers (left v at))
   pub many : length (pieces v) ≡ n + length (left v at)
 
 pub reading-none : (v : Bytes) (list : List Whole) → length list ≡ 8 → Reading v list true 0 0
-unfolding series wholesIn all
+unfolding series wholesIn allOf
 reading-none v list h = record {
   within = omega arith;
   few = omega arith;

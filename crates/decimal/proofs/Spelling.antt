@@ -8,7 +8,7 @@ use native.Mathlib.Omega.{arith}
 use borrow.Author.Tests.{le-leb, lt-leb, leb-true}
 use lib.ListN.{length, drop, getD, drop-of-length-le}
 use lib.Dec.{leb}
-use Rattle.rules.specs.Lists.{all}
+use Rattle.rules.specs.Lists.{allOf}
 use Rattle.rules.specs.Text.{Bytes}
 use Rattle.rules.specs.Decimal.{digit, digitsTo, spelled}
 use Rattle.laws.specs.Separators.{and-left, and-right}
@@ -36,7 +36,7 @@ pub record Spells (most : ℕ) (t : Bytes) (n i : ℕ) : Type 0 where
   pub most-nine : most ≤ 9
   pub small : n < 10 ^ i
   pub number : spelled 0 t ≡ spelled n (drop i t)
-  pub digits : all digit t ≡ all digit (drop i t)
+  pub digits : allOf digit t ≡ allOf digit (drop i t)
 
 pub spells-none : (most : ℕ) (t : Bytes) → 1 ≤ length t → length t ≤ most → most ≤ 9 → Spells most t 0 0
 spells-none most t h l k = record { within = omega arith; some = h; few = l; most-nine = k; small = omega arith; number = refl; digits = refl }
@@ -58,13 +58,13 @@ module _ {most : ℕ} {t : Bytes} {n i : ℕ} (m : Spells most t n i) where
       omega (arith, p, m .small)
 
   pub spells-not : i < length t → digit (getD t i 0) ≡ false → Not ≡ spelledTo most t
-  unfolding spelledTo digitsTo all
+  unfolding spelledTo digitsTo allOf
   spells-not h e =
-      let d : all digit t ≡ false = m .digits ∙ ap (all digit) (drop-next t i h) ∙ rw e in
+      let d : allOf digit t ≡ false = m .digits ∙ ap (allOf digit) (drop-next t i h) ∙ rw e in
       sym (rw (le-leb 1 (length t) (m .some), le-leb (length t) most (m .few), d))
 
   pub spells-more : i < length t → digit (getD t i 0) ≡ true → Spells most t (n * 10 + (getD t i 0 - 48)) (i + 1)
-  unfolding all spelled
+  unfolding allOf spelled
   spells-more h e =
       let d = digit-high (getD t i 0) e in
       let p : 10 ^ (i + 1) ≡ 10 ^ i * 10 = rw (add-one i) (pow-suc 10 i) in
@@ -75,13 +75,13 @@ module _ {most : ℕ} {t : Bytes} {n i : ℕ} (m : Spells most t n i) where
         most-nine = m .most-nine;
         small = omega (arith, p, m .small, d);
         number = m .number ∙ ap (spelled n) (drop-next t i h);
-        digits = m .digits ∙ ap (all digit) (drop-next t i h) ∙ rw e;
+        digits = m .digits ∙ ap (allOf digit) (drop-next t i h) ∙ rw e;
       }
 
   pub spells-all : length t ≤ i → Are n ≡ spelledTo most t
-  unfolding spelledTo digitsTo all spelled
+  unfolding spelledTo digitsTo allOf spelled
   spells-all h =
-      let d : all digit t ≡ true = m .digits ∙ ap (all digit) (drop-of-length-le t h) in
+      let d : allOf digit t ≡ true = m .digits ∙ ap (allOf digit) (drop-of-length-le t h) in
       let v : spelled 0 t ≡ n = m .number ∙ ap (spelled n) (drop-of-length-le t h) in
       sym (rw (le-leb 1 (length t) (m .some), le-leb (length t) most (m .few), d, v))
 

@@ -7,7 +7,7 @@ use mathlib.Core.List.{List, map}
 use lib.ListN.{length, take}
 use lib.Dec.{ltb}
 use lib.IntN.{ℤ}
-use Rattle.rules.specs.Lists.{all, isNone}
+use Rattle.rules.specs.Lists.{allOf, isNone}
 use Rattle.rules.specs.Text.{Bytes}
 use Rattle.rules.specs.Decimal.{digitsTo, spelled, pieces, series, signed}
 use Rattle.rules.specs.Record.{nineDigits}
@@ -39,7 +39,7 @@ wholesOf a = wholesIn (a .n) (a .list)
 pub record Good (a : Args) : Type 0 where
   pub fits : a .n ≤ 8
   pub size : length (a .list) ≡ 8
-  pub nines : all nineDigits (wholesOf a) ≡ true
+  pub nines : allOf nineDigits (wholesOf a) ≡ true
 
 -- ---- a series
 

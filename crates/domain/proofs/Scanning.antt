@@ -55,21 +55,21 @@ module _ {s : Bytes} {from i : ℕ} (m : Clear s from i) where
   clear-on n = record { onward = omega (arith, m .onward, n .onward); within = n .within; same = m .same ∙ n .same }
 
 -- up to j all is ASCII, or it is said that not all is
-pub record Clearing (s : Bytes) (from to j : ℕ) (all : Bool) : Type 0 where
+pub record Clearing (s : Bytes) (from to j : ℕ) (allOf : Bool) : Type 0 where
   pub upto : j ≤ to
-  pub clear : all ≡ true → Clear s from j
+  pub clear : allOf ≡ true → Clear s from j
 
 pub clearing-none : {s : Bytes} {from to : ℕ} → from ≤ to → to ≤ length s → Clearing s from to from true
 clearing-none h l = record { upto = h; clear = λ e. clear-none (omega arith) }
 
-module _ {s : Bytes} {from to j : ℕ} {all : Bool} (m : Clearing s from to j all) where
-  pub clearing-next : j < to → to ≤ length s → getD s j 0 < 128 → Clearing s from to (j + 1) all
+module _ {s : Bytes} {from to j : ℕ} {allOf : Bool} (m : Clearing s from to j allOf) where
+  pub clearing-next : j < to → to ≤ length s → getD s j 0 < 128 → Clearing s from to (j + 1) allOf
   clearing-next h l b = record { upto = omega arith; clear = λ e. clear-next (m .clear e) (omega arith) b }
 
   pub clearing-not : j < to → Clearing s from to (j + 1) false
   clearing-not h = record { upto = omega arith; clear = λ e. absurd (false≢true e) }
 
-  pub clearing-end : to ≤ j → all ≡ true → Clear s from to
+  pub clearing-end : to ≤ j → allOf ≡ true → Clear s from to
   clearing-end h e = let k : j ≡ to = omega (arith, m .upto) in rw k at (m .clear e)
 
 -- ---- `in_domain`: every byte before i is in the domain, so what follows decides

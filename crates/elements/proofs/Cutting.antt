@@ -9,7 +9,7 @@ use native.Mathlib.Omega.{arith}
 use lib.ListN.{length, take, drop, getD, length-drop, drop-of-length-le}
 use lib.Seq.{drop-drop, take-add, take-take, drop-at, length-take-le}
 use Rattle.rules.specs.Ascii.{is}
-use Rattle.rules.specs.Lists.{any, all}
+use Rattle.rules.specs.Lists.{anyOf, allOf}
 use Rattle.rules.specs.Text.{Bytes, before, behind}
 use Rattle.rules.specs.Parameters.{parameter, name}
 use Rattle.rules.specs.Reader.{part}
@@ -33,49 +33,49 @@ part-part s from to a b h l f g =
 -- ---- before and behind
 
 module _ (test : ℕ → Bool) where
-  before-all : (t : Bytes) → all (other test) t ≡ true → before test t ≡ t
-  unfolding all before
+  before-all : (t : Bytes) → allOf (other test) t ≡ true → before test t ≡ t
+  unfolding allOf before
   before-all [] e = refl
   before-all (x ∷ t) e = go (test x) e (before-all t)
     where
-      go : (b : Bool) → (not b && all (other test) t) ≡ true → (all (other test) t ≡ true → before test t ≡ t) → cond b [] (x ∷ before test t) ≡ x ∷ t
+      go : (b : Bool) → (not b && allOf (other test) t) ≡ true → (allOf (other test) t ≡ true → before test t ≡ t) → cond b [] (x ∷ before test t) ≡ x ∷ t
       go true g h = absurd (false≢true g)
       go false g h = ap (λ (u : Bytes). x ∷ u) (h g)
 
-  any-none : (t : Bytes) → all (other test) t ≡ true → any test t ≡ false
-  unfolding all any
+  any-none : (t : Bytes) → allOf (other test) t ≡ true → anyOf test t ≡ false
+  unfolding allOf anyOf
   any-none [] e = refl
   any-none (x ∷ t) e = go (test x) e (any-none t)
     where
-      go : (b : Bool) → (not b && all (other test) t) ≡ true → (all (other test) t ≡ true → any test t ≡ false) → (b || any test t) ≡ false
+      go : (b : Bool) → (not b && allOf (other test) t) ≡ true → (allOf (other test) t ≡ true → anyOf test t ≡ false) → (b || anyOf test t) ≡ false
       go true g h = absurd (false≢true g)
       go false g h = h g
 
   module _ (y : ℕ) (u : Bytes) (f : test y ≡ true) where
-    before-here : (t : Bytes) → all (other test) t ≡ true → before test (t ++ y ∷ u) ≡ t
-    unfolding all before
+    before-here : (t : Bytes) → allOf (other test) t ≡ true → before test (t ++ y ∷ u) ≡ t
+    unfolding allOf before
     before-here [] e = rw f
     before-here (x ∷ t) e = go (test x) e (before-here t)
       where
-        go : (b : Bool) → (not b && all (other test) t) ≡ true → (all (other test) t ≡ true → before test (t ++ y ∷ u) ≡ t) → cond b [] (x ∷ before test (t ++ y ∷ u)) ≡ x ∷ t
+        go : (b : Bool) → (not b && allOf (other test) t) ≡ true → (allOf (other test) t ≡ true → before test (t ++ y ∷ u) ≡ t) → cond b [] (x ∷ before test (t ++ y ∷ u)) ≡ x ∷ t
         go true g h = absurd (false≢true g)
         go false g h = ap (λ (v : Bytes). x ∷ v) (h g)
 
-    behind-here : (t : Bytes) → all (other test) t ≡ true → behind test (t ++ y ∷ u) ≡ u
-    unfolding all behind
+    behind-here : (t : Bytes) → allOf (other test) t ≡ true → behind test (t ++ y ∷ u) ≡ u
+    unfolding allOf behind
     behind-here [] e = rw f
     behind-here (x ∷ t) e = go (test x) e (behind-here t)
       where
-        go : (b : Bool) → (not b && all (other test) t) ≡ true → (all (other test) t ≡ true → behind test (t ++ y ∷ u) ≡ u) → cond b (t ++ y ∷ u) (behind test (t ++ y ∷ u)) ≡ u
+        go : (b : Bool) → (not b && allOf (other test) t) ≡ true → (allOf (other test) t ≡ true → behind test (t ++ y ∷ u) ≡ u) → cond b (t ++ y ∷ u) (behind test (t ++ y ∷ u)) ≡ u
         go true g h = absurd (false≢true g)
         go false g h = h g
 
-    any-here : (t : Bytes) → any test (t ++ y ∷ u) ≡ true
-    unfolding any
+    any-here : (t : Bytes) → anyOf test (t ++ y ∷ u) ≡ true
+    unfolding anyOf
     any-here [] = rw f
     any-here (x ∷ t) = go (test x) (any-here t)
       where
-        go : (b : Bool) → any test (t ++ y ∷ u) ≡ true → (b || any test (t ++ y ∷ u)) ≡ true
+        go : (b : Bool) → anyOf test (t ++ y ∷ u) ≡ true → (b || anyOf test (t ++ y ∷ u)) ≡ true
         go true h = refl
         go false h = h
 
@@ -107,11 +107,11 @@ module _ (test : ℕ → Bool) {s : Bytes} {i e : ℕ} (m : Run (other test) s i
   pub run-behind : e < length s → behind test (drop i s) ≡ drop (e + 1) s
   run-behind h = ap (behind test) (halves h) ∙ behind-here test (getD s e 0) (drop (e + 1) s) (passes h) (part i e s) (m .whole)
 
-  pub run-any : e < length s → any test (drop i s) ≡ true
-  run-any h = ap (any test) (halves h) ∙ any-here test (getD s e 0) (drop (e + 1) s) (passes h) (part i e s)
+  pub run-any : e < length s → anyOf test (drop i s) ≡ true
+  run-any h = ap (anyOf test) (halves h) ∙ any-here test (getD s e 0) (drop (e + 1) s) (passes h) (part i e s)
 
-  pub run-none : length s ≤ e → any test (drop i s) ≡ false
-  run-none h = ap (any test) (whole h) ∙ any-none test (part i e s) (m .whole)
+  pub run-none : length s ≤ e → anyOf test (drop i s) ≡ false
+  run-none h = ap (anyOf test) (whole h) ∙ any-none test (part i e s) (m .whole)
 
 -- ---- the parameter that a word is
 
@@ -125,7 +125,7 @@ module _ (s : Bytes) {from to q : ℕ} (f : from ≤ to) (l : to ≤ length s) (
   unfolding element parameter
   part-cut {r} first h n =
       let g : q < length (part from to s) = omega (arith, size) in
-      let a : any (is "=") (part from to s) ≡ true = run-any (is "=") m g in
+      let a : anyOf (is "=") (part from to s) ≡ true = run-any (is "=") m g in
       let r≤ : r ≤ to - from = omega (arith, n .within, size) in
       let p : from + (q + 1) ≡ from + q + 1 = omega arith in
       let k : before (is "=") (part from to s) ≡ part from (from + q) s =
@@ -145,7 +145,7 @@ module _ (s : Bytes) {from to q : ℕ} (f : from ≤ to) (l : to ≤ length s) (
   pub part-name : {n : ℕ} → Spelt s n → to - from ≤ q → IsPart s from to true (record { key = n; «key_end» = n + 5; value = from; «value_end» = to })
   unfolding element name
   part-name {n} z h =
-      let a : any (is "=") (part from to s) ≡ false = run-none (is "=") m (omega (arith, size)) in
+      let a : anyOf (is "=") (part from to s) ≡ false = run-none (is "=") m (omega (arith, size)) in
       record {
         within = record { key-ahead = omega arith; key-within = omega (arith, z .ends); value-ahead = f; value-within = l };
         spells = rw (a, z .name-there);
@@ -155,7 +155,7 @@ module _ (s : Bytes) {from to q : ℕ} (f : from ≤ to) (l : to ≤ length s) (
   pub part-key : {n : ℕ} → Spelt s n → to - from ≤ q → IsPart s from to false (record { key = from; «key_end» = to; value = n + 5; «value_end» = n + 9 })
   unfolding element parameter
   part-key {n} z h =
-      let a : any (is "=") (part from to s) ≡ false = run-none (is "=") m (omega (arith, size)) in
+      let a : anyOf (is "=") (part from to s) ≡ false = run-none (is "=") m (omega (arith, size)) in
       record {
         within = record { key-ahead = f; key-within = l; value-ahead = omega arith; value-within = omega (arith, z .ends) };
         spells = rw (a, z .true-there);

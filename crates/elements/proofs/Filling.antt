@@ -73,15 +73,15 @@ module _ {s : Bytes} {t table : Parts} {from to k : ℕ} {first name : Bool} (m 
       spells : partOf s w ≡ element name (part a e (take to s))
       spells = is .spells ∙ ap (element name) (sym (part-front s to a e (word-ends .0) (word-ends .1) (m .whole)))
 
-      all : enteredAll (elementsFrom false (words (drop e (take to s)))) (entered (partOf s w) (listed s table)) ≡ enteredAll (elementsFrom first (words (drop from (take to s)))) (listed s t)
+      allOf : enteredAll (elementsFrom false (words (drop e (take to s)))) (entered (partOf s w) (listed s table)) ≡ enteredAll (elementsFrom first (words (drop from (take to s)))) (listed s t)
       unfolding enteredAll
-      all = sym (rw (word-there p q h, elements-more name (part a e (take to s)) (words (drop e (take to s))), ← spells)) ∙ m .same
+      allOf = sym (rw (word-there p q h, elements-more name (part a e (take to s)) (words (drop e (take to s))), ← spells)) ∙ m .same
 
       pub words-full : r .full ≡ true → EntersAll s t (elementsFrom first (words (drop from (take to s)))) r
       words-full f = record {
         table = λ g. absurd (true≢false (sym f ∙ g));
         good = λ g. absurd (true≢false (sym f ∙ g));
-        no-room = λ g. rw (← all) (omega (arith, enters-no-room n f, entered-all-longer (elementsFrom false (words (drop e (take to s)))) (entered (partOf s w) (listed s table))));
+        no-room = λ g. rw (← allOf) (omega (arith, enters-no-room n f, entered-all-longer (elementsFrom false (words (drop e (take to s)))) (entered (partOf s w) (listed s table))));
       }
 
       pub words-more : r .full ≡ false → Words-left s t from to first (r .table) false e
@@ -89,5 +89,5 @@ module _ {s : Bytes} {t table : Parts} {from to k : ℕ} {first name : Bool} (m 
         within = word-ends .1;
         whole = m .whole;
         good = enters-good n f;
-        same = rw (enters-table n f) all;
+        same = rw (enters-table n f) allOf;
       }

@@ -7,7 +7,7 @@ use native.Mathlib.Omega.{arith}
 use lib.ListN.{length, take, drop}
 use lib.Seq.{take-take, length-take-le}
 use Rattle.rules.specs.Ascii.{is}
-use Rattle.rules.specs.Lists.{all, any, nonEmpty}
+use Rattle.rules.specs.Lists.{allOf, anyOf, nonEmpty}
 use Rattle.rules.specs.Text.{Bytes, Words, words}
 use Rattle.rules.specs.Split.{modifier, leading, following, turned}
 use Rattle.rules.specs.Parameters.{Parameter, elements, parameter, name, entered, enteredAll, tableOf}
@@ -40,7 +40,7 @@ no-part = record { key = 0; «key_end» = 0; value = 0; «value_end» = 0 }
 elements-append : (ws us : Words) → nonEmpty ws ≡ true → elements (ws ++ us) ≡ elements ws ++ map parameter us
 unfolding elements nonEmpty
 elements-append [] us e = absurd (false≢true e)
-elements-append (w ∷ ws) us e = ap (λ (r : List Parameter). cond (any (is "=") w) (parameter w) (name w) ∷ r) (map-append ws)
+elements-append (w ∷ ws) us e = ap (λ (r : List Parameter). cond (anyOf (is "=") w) (parameter w) (name w) ∷ r) (map-append ws)
   where
     map-append : (vs : Words) → map parameter (vs ++ us) ≡ map parameter vs ++ map parameter us
     map-append [] = refl
@@ -52,7 +52,7 @@ entered-append [] qs l = refl
 entered-append (p ∷ ps) qs l = entered-append ps qs (entered p l)
 
 -- the words after the modifiers in front are entered first, then these
-table-is : (ws : Words) → all modifier ws ≡ false → tableOf ws ≡ enteredAll (map parameter (leading ws)) (enteredAll (elements (following ws)) [])
+table-is : (ws : Words) → allOf modifier ws ≡ false → tableOf ws ≡ enteredAll (map parameter (leading ws)) (enteredAll (elements (following ws)) [])
 unfolding tableOf turned
 table-is ws e =
     ap (λ (ps : List Parameter). enteredAll ps []) (elements-append (following ws) (leading ws) (following-some ws e))
@@ -65,7 +65,7 @@ module _ (s : Bytes) (n : ℕ) {k : ℕ} (l : n ≤ length s) (m : Lead (take n 
   front : words (take k s) ≡ leading (words (take n s))
   front = ap words (sym (take-take k n s (lead-within .0))) ∙ m .front
 
-  module _ (e : all modifier (words (take n s)) ≡ false) (t₀ : Parts) (z : Empty t₀) {r₁ : Entered} (p : EntersAll s t₀ (elementsFrom true (words (drop k (take n s)))) r₁) where
+  module _ (e : allOf modifier (words (take n s)) ≡ false) (t₀ : Parts) (z : Empty t₀) {r₁ : Entered} (p : EntersAll s t₀ (elementsFrom true (words (drop k (take n s)))) r₁) where
     start : listed s t₀ ≡ []
     unfolding Empty
     start = z s .0

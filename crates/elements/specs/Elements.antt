@@ -5,7 +5,7 @@ use mathlib.Core.List.{List, map}
 use Prim.Native.Nat.{ℕ, _+_, _<_}
 use lib.ListN.{length}
 use Rattle.rules.specs.Ascii.{ascii, is}
-use Rattle.rules.specs.Lists.{any}
+use Rattle.rules.specs.Lists.{anyOf}
 use Rattle.rules.specs.Text.{Bytes, Words}
 use Rattle.rules.specs.Parameters.{Parameter, parameter, name, elements, enteredAll, tableOf}
 use Rattle.rules.specs.Reader.{part}
@@ -20,7 +20,7 @@ pub record Spelt (s : Bytes) (n : ℕ) : Type 0 where
 
 -- the parameter that an element is: the first, if it has no `=`, is the name
 unfoldable pub element : Bool → Bytes → Parameter
-element first w = cond first (cond (any (is "=") w) (parameter w) (name w)) (parameter w)
+element first w = cond first (cond (anyOf (is "=") w) (parameter w) (name w)) (parameter w)
 
 -- the parameters of words, of which the first may be the name
 unfoldable pub elementsFrom : Bool → Words → List Parameter
@@ -32,10 +32,10 @@ pub record IsPart (s : Bytes) (from to : ℕ) (first : Bool) (p : Part) : Type 0
   pub spells : partOf s p ≡ element first (part from to s)
 
 -- a table with all these parameters, or that they have no room
-pub record Gives (s : Bytes) (all : List Parameter) (r : Entered) : Type 0 where
-  pub table : r .full ≡ false → listed s (r .table) ≡ all
+pub record Gives (s : Bytes) (allOf : List Parameter) (r : Entered) : Type 0 where
+  pub table : r .full ≡ false → listed s (r .table) ≡ allOf
   pub good : r .full ≡ false → Good s (r .table)
-  pub no-room : r .full ≡ true → 32 < length all
+  pub no-room : r .full ≡ true → 32 < length allOf
 
 -- what entering parameters one after the other gives
 abbrev pub EntersAll : Bytes → Parts → List Parameter → Entered → Type 0

@@ -9,7 +9,7 @@ ghost use mathlib.Core.Path.{_≡_};
 ghost use mathlib.Core.Bool.{false};
 ghost use Prim.Native.Nat.{_≤_};
 ghost use lib.ListN.{length, take, drop};
-ghost use Rattle.rules.specs.Lists.{all};
+ghost use Rattle.rules.specs.Lists.{allOf};
 ghost use Rattle.rules.specs.Text.{words};
 ghost use Rattle.rules.specs.Split.{modifier};
 ghost use Rattle.table.specs.Parts.{Good, tableIn, enteredIn};
@@ -94,7 +94,7 @@ fn enter_words(
 // made in a lent row.
 pub fn table_of(s: &[u8], n: usize, row: &mut [usize; 128]) -> Entered
     requires { ⌜ Spelt (now s) n ⌝ }
-    requires { ⌜ all modifier (words (take n (now s))) ≡ false ⌝ }
+    requires { ⌜ allOf modifier (words (take n (now s))) ≡ false ⌝ }
     requires { ⌜ length (now row) ≡ 128 ⌝ }
     ensures { λ r. ⌜ Tabled (now (s .entry)) (words (take n (now (s .entry)))) (enteredIn (now (row .exit)) r) ⌝ }
 {

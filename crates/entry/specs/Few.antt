@@ -8,7 +8,7 @@ use native.Mathlib.Omega.{arith}
 use borrow.Author.Tests.{ltb-false}
 use lib.ListN.{length, length-map}
 use lib.Dec.{ltb}
-use Rattle.rules.specs.Lists.{any, placeOf}
+use Rattle.rules.specs.Lists.{anyOf, placeOf}
 use Rattle.rules.specs.Text.{Bytes, Steps, inDomain}
 use Rattle.rules.specs.Refusal.{Reply, answers, refuses, andThen, tested}
 use Rattle.rules.specs.Split.{onlyModifiers, stepText, steps, splitSteps}
@@ -22,7 +22,7 @@ AtMost n (refuses number place) = 0 ≤ n
 
 split-few : (ss : Steps) → AtMost 64 (splitSteps ss)
 unfolding AtMost splitSteps
-split-few ss = go (any onlyModifiers ss) (ltb 64 (length ss)) refl
+split-few ss = go (anyOf onlyModifiers ss) (ltb 64 (length ss)) refl
   where
     go : (a b : Bool) → ltb 64 (length ss) ≡ b → AtMost 64 (cond a (refuses 6 (placeOf onlyModifiers ss)) (cond b (refuses 8 0) (answers (map stepText ss))))
     go true b e = zero-le

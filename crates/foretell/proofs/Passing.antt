@@ -7,7 +7,7 @@ use mathlib.Core.List.{List, [], _∷_, _++_, append-assoc, append-nil}
 use native.Mathlib.Omega.{arith}
 use lib.ListN.{length, getD, set, take, replicate, length-append, length-drop}
 use lib.Seq.{set-at}
-use Rattle.rules.specs.Lists.{any}
+use Rattle.rules.specs.Lists.{anyOf}
 use Rattle.rules.specs.Record.{refusal18}
 use Rattle.rules.specs.Act.{Act, act, Numbered, omitted, running}
 use Rattle.rules.specs.Columns.{moved, after, depths, deepest}
@@ -57,7 +57,7 @@ or-assoc true b c = refl
 or-assoc false b c = refl
 
 any-more : (l : List Numbered) (s : Numbered) → anyAdapt (l ++ (s ∷ [])) ≡ (anyAdapt l || adapting (s .does))
-unfolding anyAdapt any
+unfolding anyAdapt anyOf
 any-more [] s = or-false (adapting (s .does))
 any-more (x ∷ l) s = ap (λ (b : Bool). adapting (x .does) || b) (any-more l s) ∙ or-assoc (adapting (x .does)) (anyAdapt l) (adapting (s .does))
 
@@ -66,7 +66,7 @@ unfolding placesOf placeOf
 begun = record { exactly = refl }
 
 pub gathered-none : {c : Sofar} → Begun c → Gathered [] c
-unfolding machine after depths deepest anyAdapt any
+unfolding machine after depths deepest anyAdapt anyOf
 gathered-none {c} b = subst (Gathered []) (sym (b .exactly)) (record { whole = record { four = refl; most = refl; within = omega arith }; traced = refl; run = refl; depths-are = refl; deepest-is = refl; adapts = refl })
 
 pub gathered-more : {l : List Numbered} (s : Numbered) {c r : Sofar} {n : ℕ} → Gathered l c → length l < 64 → n ≡ grown (s .does) (length (machine (c .traced) .columns))
@@ -234,9 +234,9 @@ pub answers-told : {d : Direction} {l : List Step} {k : ℕ} {c : Sofar} → Che
 unfolding checked answered verdict
 answers-told {d} {l} {k} {c} ch h =
     let nothing = left-none d l k h in
-    let all : running d l ≡ ch .done = ch .whole ∙ ap (λ (x : List Numbered). ch .done ++ x) nothing ∙ append-nil (ch .done) in
+    let allOf : running d l ≡ ch .done = ch .whole ∙ ap (λ (x : List Numbered). ch .done ++ x) nothing ∙ append-nil (ch .done) in
     let passes : verdict (running d l) begin ≡ Passes = ch .hangs ∙ ap (λ (x : List Numbered). verdict x (machine (c .traced))) nothing in
-    rw passes (told-is (ch .gathered) ∙ ap foretold (sym all))
+    rw passes (told-is (ch .gathered) ∙ ap foretold (sym allOf))
 
 -- ---- what the next step needs
 

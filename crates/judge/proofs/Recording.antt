@@ -12,7 +12,7 @@ use lib.Seq.{take-suc-set}
 use lib.Dec.{lit≤}
 use lib.IntN.{ℤ, pos}
 use Rattle.rules.specs.Ascii.{ascii}
-use Rattle.rules.specs.Lists.{all, isNone}
+use Rattle.rules.specs.Lists.{allOf, isNone}
 use Rattle.rules.specs.Text.{Bytes}
 use Rattle.rules.specs.Refusal.{answers, refuses}
 use Rattle.rules.specs.Parameters.{Parameter}
@@ -86,18 +86,18 @@ abbrev nought : Whole
 nought = record { minus = false; size = 0 }
 
 pub nothing-is : Axes [] (record { list = nought ∷ nought ∷ nought ∷ nought ∷ nought ∷ nought ∷ nought ∷ nought ∷ []; n = 0 })
-unfolding wholesIn all
+unfolding wholesIn allOf
 nothing-is = record { good = record { fits = lit≤ tt; size = refl; nines = refl }; are = refl }
 
 abbrev plain : ℕ → Whole
 plain n = record { minus = false; size = n }
 
 pub four-is : Axes fourAxes (record { list = plain 1 ∷ plain 2 ∷ plain 3 ∷ plain 4 ∷ nought ∷ nought ∷ nought ∷ nought ∷ []; n = 4 })
-unfolding wholesIn wholeIs signed all nineDigits
+unfolding wholesIn wholeIs signed allOf nineDigits
 four-is = record { good = record { fits = lit≤ tt; size = refl; nines = refl }; are = refl }
 
-small-nine : (n : ℕ) → n ≤ 4 → all nineDigits (pos n ∷ []) ≡ true
-unfolding all nineDigits
+small-nine : (n : ℕ) → n ≤ 4 → allOf nineDigits (pos n ∷ []) ≡ true
+unfolding allOf nineDigits
 small-nine n h = rw (le-leb n 999999999 (omega arith))
 
 module _ {a : Args} (g : GoodArgs a) (axis : ℕ) (h : a .n < 8) where

@@ -9,7 +9,7 @@ use borrow.Author.Tests.{le-leb, lt-leb, lt-ltb, le-ltb, ne-eqb}
 use lib.Dec.{leb, ltb}
 use lib.IntN.{ℤ}
 use Rattle.rules.specs.Ascii.{ascii}
-use Rattle.rules.specs.Lists.{any}
+use Rattle.rules.specs.Lists.{anyOf}
 use Rattle.rules.specs.Text.{Bytes, same}
 use Rattle.rules.specs.Refusal.{Reply, answers, refuses}
 use Rattle.rules.specs.Parameters.{Parameter}
@@ -249,7 +249,7 @@ by-lowest : (n : Name) (ps : List Parameter) (number : ℕ) → number ≡ lowes
 unfolding judged11 lowestOf
 by-lowest n ps number e =
     rw e
-    (go (any (unknown n) ps) (any (λ (p : Parameter). misspelt (kindOf n p) (p .value)) ps) (any (λ (p : Parameter). tooLong (kindOf n p) (p .value)) ps))
+    (go (anyOf (unknown n) ps) (anyOf (λ (p : Parameter). misspelt (kindOf n p) (p .value)) ps) (anyOf (λ (p : Parameter). tooLong (kindOf n p) (p .value)) ps))
   where
     go : (a b c : Bool) → cond a (refuses 11 0) (cond b (refuses 12 0) (cond c (refuses 13 0) (judged14 (ownRule n ps))))
         ≡ (let k = cond a 11 (cond b 12 (cond c 13 14)) in cond (ltb k 14) (refuses k 0) (judged14 (ownRule n ps)))
@@ -260,7 +260,7 @@ by-lowest n ps number e =
 
 pub lowest-least : (n : Name) (ps : List Parameter) → 11 ≤ lowestOf n ps
 unfolding lowestOf
-lowest-least n ps = go (any (unknown n) ps) (any (λ (p : Parameter). misspelt (kindOf n p) (p .value)) ps) (any (λ (p : Parameter). tooLong (kindOf n p) (p .value)) ps)
+lowest-least n ps = go (anyOf (unknown n) ps) (anyOf (λ (p : Parameter). misspelt (kindOf n p) (p .value)) ps) (anyOf (λ (p : Parameter). tooLong (kindOf n p) (p .value)) ps)
   where
     go : (a b c : Bool) → 11 ≤ cond a 11 (cond b 12 (cond c 13 14))
     go true b c = omega arith
@@ -270,7 +270,7 @@ lowest-least n ps = go (any (unknown n) ps) (any (λ (p : Parameter). misspelt (
 
 pub lowest-most : (n : Name) (ps : List Parameter) → lowestOf n ps ≤ 14
 unfolding lowestOf
-lowest-most n ps = go (any (unknown n) ps) (any (λ (p : Parameter). misspelt (kindOf n p) (p .value)) ps) (any (λ (p : Parameter). tooLong (kindOf n p) (p .value)) ps)
+lowest-most n ps = go (anyOf (unknown n) ps) (anyOf (λ (p : Parameter). misspelt (kindOf n p) (p .value)) ps) (anyOf (λ (p : Parameter). tooLong (kindOf n p) (p .value)) ps)
   where
     go : (a b c : Bool) → cond a 11 (cond b 12 (cond c 13 14)) ≤ 14
     go true b c = omega arith

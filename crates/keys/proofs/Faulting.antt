@@ -7,7 +7,7 @@ use mathlib.Core.List.{List, [], _∷_}
 use native.Mathlib.Omega.{arith}
 use lib.ListN.{drop, getD}
 use Rattle.rules.specs.Ascii.{ascii}
-use Rattle.rules.specs.Lists.{any, isNone}
+use Rattle.rules.specs.Lists.{anyOf, isNone}
 use Rattle.rules.specs.Text.{Bytes, same}
 use Rattle.rules.specs.Parameters.{Parameter}
 use Rattle.rules.specs.Keys.{Name, aSeries, kindOf, unknown, misspelt, tooLong}
@@ -75,10 +75,10 @@ lower-by false false false false false true = refl
 lower-by false false false false false false = refl
 
 lowest-cons : (n : Name) (p : Parameter) (ps : List Parameter) → lowestOf n (p ∷ ps) ≡ lower (faultOf n (p .key) (p .value)) (lowestOf n ps)
-unfolding lowestOf faultOf any
+unfolding lowestOf faultOf anyOf
 lowest-cons n p ps =
-    lower-by (unknown n p) (misspelt (kindOf n p) (p .value)) (tooLong (kindOf n p) (p .value)) (any (unknown n) ps)
-    (any (λ (p : Parameter). misspelt (kindOf n p) (p .value)) ps) (any (λ (p : Parameter). tooLong (kindOf n p) (p .value)) ps)
+    lower-by (unknown n p) (misspelt (kindOf n p) (p .value)) (tooLong (kindOf n p) (p .value)) (anyOf (unknown n) ps)
+    (anyOf (λ (p : Parameter). misspelt (kindOf n p) (p .value)) ps) (anyOf (λ (p : Parameter). tooLong (kindOf n p) (p .value)) ps)
 
 -- `number` is the lowest of those from i on
 pub record Lowering (s : Bytes) (t : Parts) (name i number : ℕ) : Type 0 where
@@ -87,7 +87,7 @@ pub record Lowering (s : Bytes) (t : Parts) (name i number : ℕ) : Type 0 where
   pub so-far : number ≡ lowestOf (nameAt name) (drop i (listed s t))
 
 pub lowering-none : {s : Bytes} {t : Parts} (name : ℕ) → Good s t → Lowering s t name (t .n) 14
-unfolding lowestOf any
+unfolding lowestOf anyOf
 lowering-none {s} {t} name g = record { good = g; within = omega arith; so-far = sym (rw (listed-end g (t .n) (omega arith))) }
 
 module _ {s : Bytes} {t : Parts} {name i number : ℕ} (m : Lowering s t name i number) (d : Part) (h : 0 < i) where
@@ -119,32 +119,32 @@ lowering-end {s} {t} {name} {i} m h = let z : i ≡ 0 = omega arith in m .so-far
 
 -- where none of them applies
 pub record Passed (n : Name) (ps : List Parameter) : Type 0 where
-  pub known : any (unknown n) ps ≡ false
-  pub spelt : any (λ (p : Parameter). misspelt (kindOf n p) (p .value)) ps ≡ false
-  pub short : any (λ (p : Parameter). tooLong (kindOf n p) (p .value)) ps ≡ false
+  pub known : anyOf (unknown n) ps ≡ false
+  pub spelt : anyOf (λ (p : Parameter). misspelt (kindOf n p) (p .value)) ps ≡ false
+  pub short : anyOf (λ (p : Parameter). tooLong (kindOf n p) (p .value)) ps ≡ false
 
 pub passed : (n : Name) (ps : List Parameter) → lowestOf n ps ≡ 14 → Passed n ps
 unfolding lowestOf
 passed n ps e =
-    go (any (unknown n) ps) (any (λ (p : Parameter). misspelt (kindOf n p) (p .value)) ps) (any (λ (p : Parameter). tooLong (kindOf n p) (p .value)) ps) refl refl refl e
+    go (anyOf (unknown n) ps) (anyOf (λ (p : Parameter). misspelt (kindOf n p) (p .value)) ps) (anyOf (λ (p : Parameter). tooLong (kindOf n p) (p .value)) ps) refl refl refl e
   where
-    go : (a b c : Bool) → any (unknown n) ps ≡ a → any (λ (p : Parameter). misspelt (kindOf n p) (p .value)) ps ≡ b
-        → any (λ (p : Parameter). tooLong (kindOf n p) (p .value)) ps ≡ c → by a b c ≡ 14 → Passed n ps
+    go : (a b c : Bool) → anyOf (unknown n) ps ≡ a → anyOf (λ (p : Parameter). misspelt (kindOf n p) (p .value)) ps ≡ b
+        → anyOf (λ (p : Parameter). tooLong (kindOf n p) (p .value)) ps ≡ c → by a b c ≡ 14 → Passed n ps
     go true b c f g h e = absurd (never (omega arith))
     go false true c f g h e = absurd (never (omega arith))
     go false false true f g h e = absurd (never (omega arith))
     go false false false f g h e = record { known = f; spelt = g; short = h }
 
 -- the value of a key has passed what every parameter has passed
-value-passed : (test : Parameter → Bool) (k v : Bytes) (ps : List Parameter) → valueOf k ps ≡ some v → any test ps ≡ false → test (record { key = k; value = v }) ≡ false
-unfolding valueOf any
+value-passed : (test : Parameter → Bool) (k v : Bytes) (ps : List Parameter) → valueOf k ps ≡ some v → anyOf test ps ≡ false → test (record { key = k; value = v }) ≡ false
+unfolding valueOf anyOf
 value-passed test k v [] h e = absurd (never (cc h))
 value-passed test k v (p ∷ ps) h e = go (same k (p .key)) refl (value-passed test k v ps) h
   where
-    go : (b : Bool) → same k (p .key) ≡ b → (valueOf k ps ≡ some v → any test ps ≡ false → test (record { key = k; value = v }) ≡ false)
+    go : (b : Bool) → same k (p .key) ≡ b → (valueOf k ps ≡ some v → anyOf test ps ≡ false → test (record { key = k; value = v }) ≡ false)
         → cond b (some (p .value)) (valueOf k ps) ≡ some v → test (record { key = k; value = v }) ≡ false
-    go true f ih h = let w : p .value ≡ v = cc h in rw (same-is k (p .key) f, ← w) (or-left (test p) (any test ps) e)
-    go false f ih h = ih h (or-right (test p) (any test ps) e)
+    go true f ih h = let w : p .value ≡ v = cc h in rw (same-is k (p .key) f, ← w) (or-left (test p) (anyOf test ps) e)
+    go false f ih h = ih h (or-right (test p) (anyOf test ps) e)
 
 -- so a series that is given is one that 12 and 13 do not refuse
 pub series-passed : {n : Name} {ps : List Parameter} → Passed n ps → (key v : Bytes) → kindOf n (record { key = key; value = v }) ≡ some aSeries → valueOf key ps ≡ some v → reading.lowest v ≡ 14

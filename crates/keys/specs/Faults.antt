@@ -4,7 +4,7 @@ use mathlib.Core.Bool.{Bool, true, false, cond}
 use mathlib.Core.List.{List, [], _∷_}
 use lib.Dec.{leb, ltb, eqb}
 use Rattle.rules.specs.Ascii.{ascii}
-use Rattle.rules.specs.Lists.{any}
+use Rattle.rules.specs.Lists.{anyOf}
 use Rattle.rules.specs.Text.{Bytes, Words}
 use Rattle.rules.specs.Parameters.{Parameter}
 use Rattle.rules.specs.Keys.{Name, push, pop, stack, axisswap, adapt, Kind, aFlag, aSeries, aWord, kindOf, unknown, misspelt, tooLong}
@@ -81,4 +81,4 @@ lower a b = cond (ltb a b) a b
 -- of all of a step
 unfoldable pub lowestOf : Name → List Parameter → ℕ
 lowestOf n ps =
-    by (any (unknown n) ps) (any (λ (p : Parameter). misspelt (kindOf n p) (p .value)) ps) (any (λ (p : Parameter). tooLong (kindOf n p) (p .value)) ps)
+    by (anyOf (unknown n) ps) (anyOf (λ (p : Parameter). misspelt (kindOf n p) (p .value)) ps) (anyOf (λ (p : Parameter). tooLong (kindOf n p) (p .value)) ps)

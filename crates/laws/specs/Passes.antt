@@ -5,7 +5,7 @@ use mathlib.Core.Bool.{Bool, true, false, cond, _&&_, not, false≢true}
 use mathlib.Core.List.{List, [], _∷_}
 use lib.ListN.{getD}
 use lib.Dec.{ltb}
-use Rattle.rules.specs.Lists.{all, kept, nonEmpty}
+use Rattle.rules.specs.Lists.{allOf, kept, nonEmpty}
 use Rattle.rules.specs.Text.{Bytes, Words, white, subscript, inDomain, trimEnd, onto, cut, words}
 
 -- ---- words
@@ -50,21 +50,21 @@ unfoldable pub keep : (ℕ → Bool) → ℕ → Bytes → Bytes
 keep test x [] = cond (test x) [] (x ∷ [])
 keep test x (y ∷ t) = x ∷ y ∷ t
 
-trimEnd-all : (test : ℕ → Bool) (t : Bytes) → all test t ≡ true → trimEnd test t ≡ []
+trimEnd-all : (test : ℕ → Bool) (t : Bytes) → allOf test t ≡ true → trimEnd test t ≡ []
 unfolding trimEnd
 trimEnd-all test [] e = refl
 trimEnd-all test (x ∷ t) e = rw e
 
-trimEnd-nonEmpty : (test : ℕ → Bool) (x : ℕ) (t : Bytes) → all test t ≡ false → x ∷ trimEnd test t ≡ keep test x (trimEnd test t)
-unfolding trimEnd keep all
+trimEnd-nonEmpty : (test : ℕ → Bool) (x : ℕ) (t : Bytes) → allOf test t ≡ false → x ∷ trimEnd test t ≡ keep test x (trimEnd test t)
+unfolding trimEnd keep allOf
 trimEnd-nonEmpty test x [] e = absurd (false≢true (sym e))
 trimEnd-nonEmpty test x (y ∷ t) e = rw e
 
 pub trimEnd-cons : (test : ℕ → Bool) (x : ℕ) (t : Bytes) → trimEnd test (x ∷ t) ≡ keep test x (trimEnd test t)
-unfolding trimEnd all keep
-trimEnd-cons test x t = go (test x) (all test t) refl refl
+unfolding trimEnd allOf keep
+trimEnd-cons test x t = go (test x) (allOf test t) refl refl
   where
-    go : (a b : Bool) → test x ≡ a → all test t ≡ b → cond (a && b) [] (x ∷ trimEnd test t) ≡ keep test x (trimEnd test t)
+    go : (a b : Bool) → test x ≡ a → allOf test t ≡ b → cond (a && b) [] (x ∷ trimEnd test t) ≡ keep test x (trimEnd test t)
     go true true f e = rw (trimEnd-all test t e, f)
     go false true f e = rw (trimEnd-all test t e, f)
     go true false f e = trimEnd-nonEmpty test x t e

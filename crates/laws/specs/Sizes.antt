@@ -8,7 +8,7 @@ use borrow.Author.Tests.{eqb-true, ltb-true, leb-true}
 use lib.ListN.{length, drop}
 use lib.Dec.{eqb, leb, ltb}
 use Rattle.rules.specs.Ascii.{ascii, is}
-use Rattle.rules.specs.Lists.{all, kept, nonEmpty}
+use Rattle.rules.specs.Lists.{allOf, kept, nonEmpty}
 use Rattle.rules.specs.Text.{Bytes, Words, white, starts, replaceFrom, replace, trimStart, trimEnd, trimmed, before, onto, cut, words, afterEach, joinedBy, joined}
 use Rattle.rules.specs.Normal.{Replacement, run, becomes, subscriptBecomes, replacements, squeezed, continued, normal}
 use Rattle.rules.specs.Comments.{newlines, uncommented, lined, stripped}
@@ -92,18 +92,18 @@ replace-weight old new t h w = replaceFrom-weight zero old new t h w
 unfoldable pub light : Replacement → Bool
 light r = ltb 0 (length (r .old)) && leb (weight (r .new)) (weight (r .old))
 
-pub replacements-light : all light replacements ≡ true
-unfolding ascii all light weight weightOf becomes subscriptBecomes replacements
+pub replacements-light : allOf light replacements ≡ true
+unfolding ascii allOf light weight weightOf becomes subscriptBecomes replacements
 replacements-light = refl
 
-pub run-weight : (rs : List Replacement) (t : Bytes) → all light rs ≡ true → weight (run rs t) ≤ weight t
-unfolding run all light
+pub run-weight : (rs : List Replacement) (t : Bytes) → allOf light rs ≡ true → weight (run rs t) ≤ weight t
+unfolding run allOf light
 run-weight [] t e = omega arith
 run-weight (r ∷ rs) t e =
-    let l = and-left (light r) (all light rs) e in
+    let l = and-left (light r) (allOf light rs) e in
     let h = ltb-true 0 (length (r .old)) (and-left (ltb 0 (length (r .old))) (leb (weight (r .new)) (weight (r .old))) l) in
     let w = leb-true (weight (r .new)) (weight (r .old)) (and-right (ltb 0 (length (r .old))) (leb (weight (r .new)) (weight (r .old))) l) in
-    omega (arith, replace-weight (r .old) (r .new) t h w, run-weight rs (replace (r .old) (r .new) t) (and-right (light r) (all light rs) e))
+    omega (arith, replace-weight (r .old) (r .new) t h w, run-weight rs (replace (r .old) (r .new) t) (and-right (light r) (allOf light rs) e))
 
 -- ---- trimming
 
@@ -119,7 +119,7 @@ trimStart-weight test (x ∷ t) = go (test x) (trimStart-weight test t)
 trimEnd-weight : (test : ℕ → Bool) (t : Bytes) → weight (trimEnd test t) ≤ weight t
 unfolding weight trimEnd
 trimEnd-weight test [] = omega arith
-trimEnd-weight test (x ∷ t) = go (all test (x ∷ t)) (trimEnd-weight test t)
+trimEnd-weight test (x ∷ t) = go (allOf test (x ∷ t)) (trimEnd-weight test t)
   where
     go : (b : Bool) → weight (trimEnd test t) ≤ weight t → weight (cond b [] (x ∷ trimEnd test t)) ≤ weightOf x + weight t
     go true h = omega arith

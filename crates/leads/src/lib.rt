@@ -6,7 +6,7 @@ use walk::is_blank;
 use walk::is_modifier;
 use walk::run_end;
 ghost use mathlib.Core.Path.{_≡_};
-ghost use Rattle.rules.specs.Lists.{all};
+ghost use Rattle.rules.specs.Lists.{allOf};
 ghost use Rattle.rules.specs.Text.{words};
 ghost use Rattle.rules.specs.Split.{modifier};
 ghost use Rattle.rules.specs.Reader.{next};
@@ -55,7 +55,7 @@ pub fn lead_end(s: &[u8]) -> usize
 
 // Are all words of s modifiers?
 pub fn is_lead(s: &[u8]) -> bool
-    ensures { λ r. ⌜ r ≡ all modifier (words (now (s .entry))) ⌝ }
+    ensures { λ r. ⌜ r ≡ allOf modifier (words (now (s .entry))) ⌝ }
 {
     let k = lead_end(s);
     is_blank(&s[k..])

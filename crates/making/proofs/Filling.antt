@@ -9,7 +9,7 @@ use borrow.Author.Tests.{leb-true}
 use lib.ListN.{length, take, drop, getD, set, replicate}
 use lib.Seq.{take-suc, take-length, set-at, length-take-le, append-snoc}
 use lib.IntN.{ℤ, pos}
-use Rattle.rules.specs.Lists.{all}
+use Rattle.rules.specs.Lists.{allOf}
 use Rattle.rules.specs.Record.{size, nineDigits}
 use Rattle.laws.specs.Separators.{and-left, and-right}
 use Rattle.decimal.specs.declared.Whole.{Whole}
@@ -22,18 +22,18 @@ use Rattle.operators.proofs.Counting.{args-length, args-at, args-next}
 
 -- ---- nine digits
 
-all-dropped : (test : ℤ → Bool) (l : List ℤ) (i : ℕ) → all test l ≡ true → all test (drop i l) ≡ true
-unfolding all
+all-dropped : (test : ℤ → Bool) (l : List ℤ) (i : ℕ) → allOf test l ≡ true → allOf test (drop i l) ≡ true
+unfolding allOf
 all-dropped test l zero e = e
 all-dropped test [] (suc i) e = refl
-all-dropped test (x ∷ l) (suc i) e = all-dropped test l i (and-right (test x) (all test l) e)
+all-dropped test (x ∷ l) (suc i) e = all-dropped test l i (and-right (test x) (allOf test l) e)
 
 pub nine-at : {a : Args} → Good a → (i : ℕ) (d : Whole) → i < a .n → getD (a .list) i d .size ≤ 999999999
-unfolding all nineDigits
+unfolding allOf nineDigits
 nine-at {a} g i d h =
     let w = getD (a .list) i d in
-    let e : all nineDigits (wholeIs w ∷ drop (i + 1) (wholesOf a)) ≡ true = ap (all nineDigits) (sym (args-next g i d h)) ∙ all-dropped nineDigits (wholesOf a) i (g .nines) in
-    let l = leb-true (size (wholeIs w)) 999999999 (and-left (nineDigits (wholeIs w)) (all nineDigits (drop (i + 1) (wholesOf a))) e) in
+    let e : allOf nineDigits (wholeIs w ∷ drop (i + 1) (wholesOf a)) ≡ true = ap (allOf nineDigits) (sym (args-next g i d h)) ∙ all-dropped nineDigits (wholesOf a) i (g .nines) in
+    let l = leb-true (size (wholeIs w)) 999999999 (and-left (nineDigits (wholeIs w)) (allOf nineDigits (drop (i + 1) (wholesOf a))) e) in
     omega (arith, whole-size w)
 
 -- ---- the loop

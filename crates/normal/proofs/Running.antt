@@ -9,7 +9,7 @@ use borrow.Author.Tests.{ltb-true, leb-true}
 use lib.Dec.{leb, ltb}
 use lib.ListN.{length, take, drop, getD, length-append, length-drop}
 use lib.Seq.{drop-drop, getD-drop, take-at, drop-at, length-take-le}
-use Rattle.rules.specs.Lists.{all}
+use Rattle.rules.specs.Lists.{allOf}
 use Rattle.rules.specs.Text.{Bytes, replace}
 use Rattle.rules.specs.Normal.{Replacement, run}
 use Rattle.laws.specs.Separators.{and-left, and-right}
@@ -68,18 +68,18 @@ table-nil = refl
 record Light (r : Replacement) (rs : List Replacement) : Type 0 where
   pos : 0 < length (r .old)
   less : weight (r .new) ≤ weight (r .old)
-  others : all light rs ≡ true
+  others : allOf light rs ≡ true
 
-is-light : (r : Replacement) (rs : List Replacement) → all light (r ∷ rs) ≡ true → Light r rs
-unfolding all light
+is-light : (r : Replacement) (rs : List Replacement) → allOf light (r ∷ rs) ≡ true → Light r rs
+unfolding allOf light
 is-light r rs e =
     let a = ltb 0 (length (r .old)) in
     let b = leb (weight (r .new)) (weight (r .old)) in
-    let l = and-left (a && b) (all light rs) e in
+    let l = and-left (a && b) (allOf light rs) e in
     record {
       pos = ltb-true 0 (length (r .old)) (and-left a b l);
       less = leb-true (weight (r .new)) (weight (r .old)) (and-right a b l);
-      others = and-right (a && b) (all light rs) e;
+      others = and-right (a && b) (allOf light rs) e;
     }
 
 -- ---- `run_all`: `rest` is what is left of the table, and what it makes of the text that a holds is `text`
@@ -88,7 +88,7 @@ pub record Running (rules text a₀ b₀ : Bytes) (at m : ℕ) (a b : Bytes) : T
   pub rest : List Replacement
   pub here : drop at rules ≡ table rest
   pub within : at ≤ length rules
-  pub good : all light rest ≡ true
+  pub good : allOf light rest ≡ true
   pub right : run rest (take m a) ≡ text
   pub fits : m ≤ length a
   pub room-a : weight (take m a) ≤ length a
@@ -96,7 +96,7 @@ pub record Running (rules text a₀ b₀ : Bytes) (at m : ℕ) (a b : Bytes) : T
   pub same-a : length a ≡ length a₀
   pub same-b : length b ≡ length b₀
 
-pub running-start : (rs : List Replacement) {rules a b : Bytes} {m : ℕ} → rules ≡ table rs → all light rs ≡ true → m ≤ length a
+pub running-start : (rs : List Replacement) {rules a b : Bytes} {m : ℕ} → rules ≡ table rs → allOf light rs ≡ true → m ≤ length a
     → weight (take m a) ≤ length a → weight (take m a) ≤ length b → Running rules (run rs (take m a)) a b 0 m a b
 running-start rs e s f x y = record {
   rest = rs;
@@ -123,7 +123,7 @@ turn : {rules text a₀ b₀ : Bytes} {at m : ℕ} {a b : Bytes} → Running rul
 unfolding run
 turn {rules} {text} {a₀} {b₀} {at} {m} {a} {b} s l = go (s .rest) (s .here) (s .good) (s .right)
   where
-    go : (rs : List Replacement) → drop at rules ≡ table rs → all light rs ≡ true → run rs (take m a) ≡ text → Turn rules text at m a
+    go : (rs : List Replacement) → drop at rules ≡ table rs → allOf light rs ≡ true → run rs (take m a) ≡ text → Turn rules text at m a
     go [] h g e = absurd (no h)
       where
         no : drop at rules ≡ table [] → ⊥

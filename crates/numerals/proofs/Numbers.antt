@@ -9,7 +9,7 @@ use lib.ListN.{length, take, getD}
 use lib.Dec.{ltb}
 use lib.IntN.{ℤ}
 use Rattle.rules.specs.Ascii.{ascii}
-use Rattle.rules.specs.Lists.{all}
+use Rattle.rules.specs.Lists.{allOf}
 use Rattle.rules.specs.Text.{Bytes, afterEach, joinedBy}
 use Rattle.rules.specs.Decimal.{minus}
 use Rattle.rules.specs.Record.{size, nineDigits}
@@ -23,14 +23,14 @@ use Rattle.numerals.proofs.Putting.{room-as, as-written, first-room, th
 pub put-written : {t dst last : Bytes} {at r : ℕ} → Wrote (take at dst ++ t) dst r last → WroteAt t dst at r last
 put-written w = record { wrote = w }
 
-pub all-at : {A : Type 0} (test : A → Bool) (l : List A) (i : ℕ) (d : A) → i < length l → all test l ≡ true → test (getD l i d) ≡ true
-unfolding all
+pub all-at : {A : Type 0} (test : A → Bool) (l : List A) (i : ℕ) (d : A) → i < length l → allOf test l ≡ true → test (getD l i d) ≡ true
+unfolding allOf
 all-at test [] i d h a = absurd (none h)
   where
     none : {n : ℕ} → n < 0 → ⊥
     none h = omega arith
-all-at test (x ∷ l) zero d h a = and-left (test x) (all test l) a
-all-at test (x ∷ l) (suc i) d h a = all-at test l i d (omega arith) (and-right (test x) (all test l) a)
+all-at test (x ∷ l) zero d h a = and-left (test x) (allOf test l) a
+all-at test (x ∷ l) (suc i) d h a = all-at test l i d (omega arith) (and-right (test x) (allOf test l) a)
 
 -- ---- a number
 

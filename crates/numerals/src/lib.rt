@@ -8,7 +8,7 @@ ghost use Prim.Native.Nat.{suc, _^_, _<_};
 ghost use lib.Dec.{ltb};
 ghost use lib.ListN.{length, getD};
 ghost use lib.IntN.{pos};
-ghost use Rattle.rules.specs.Lists.{all};
+ghost use Rattle.rules.specs.Lists.{allOf};
 ghost use Rattle.rules.specs.Record.{nineDigits};
 ghost use Rattle.text.specs.Writing.{WroteAt};
 ghost use Rattle.writelaws.specs.Writing.{digits, spelling, listing};
@@ -40,7 +40,7 @@ pub fn digits(more: usize, n: usize, out: &mut [u8], o: usize) -> usize
 // Number i of l, with its sign.
 pub fn spelling(l: &[i32], i: usize, out: &mut [u8], o: usize) -> usize
     requires { ⌜ i < length (now l) ⌝ }
-    requires { ⌜ all nineDigits (now l) ≡ true ⌝ }
+    requires { ⌜ allOf nineDigits (now l) ≡ true ⌝ }
     requires { ⌜ Room (spelling (getD (now l) i (pos 0))) o (now out) ⌝ }
     ensures { λ r. ⌜ WroteAt (spelling (getD (now (l .entry)) i (pos 0))) (now (out .entry)) o r (now (out .exit)) ⌝ }
 {
@@ -55,7 +55,7 @@ pub fn spelling(l: &[i32], i: usize, out: &mut [u8], o: usize) -> usize
 // The same, after a comma if it is not the first.
 fn numbered(l: &[i32], i: usize, out: &mut [u8], o: usize) -> usize
     requires { ⌜ i < length (now l) ⌝ }
-    requires { ⌜ all nineDigits (now l) ≡ true ⌝ }
+    requires { ⌜ allOf nineDigits (now l) ≡ true ⌝ }
     requires { ⌜ Room (numbered (ltb 0 i) (getD (now l) i (pos 0))) o (now out) ⌝ }
     ensures { λ r. ⌜ WroteAt (numbered (ltb 0 i) (getD (now (l .entry)) i (pos 0))) (now (out .entry)) o r (now (out .exit)) ⌝ }
 {
@@ -68,7 +68,7 @@ fn numbered(l: &[i32], i: usize, out: &mut [u8], o: usize) -> usize
 
 // The numbers of l with a comma between.
 pub fn listing(l: &[i32], out: &mut [u8], o: usize) -> usize
-    requires { ⌜ all nineDigits (now l) ≡ true ⌝ }
+    requires { ⌜ allOf nineDigits (now l) ≡ true ⌝ }
     requires { ⌜ Room (listing (now l)) o (now out) ⌝ }
     ensures { λ r. ⌜ WroteAt (listing (now (l .entry))) (now (out .entry)) o r (now (out .exit)) ⌝ }
 {

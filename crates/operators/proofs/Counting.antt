@@ -11,7 +11,7 @@ use lib.ListN.{length, take, drop, getD, length-map, List·getD-map, drop-of-len
 use lib.Seq.{length-take-le, getD-take, drop-cons}
 use lib.Dec.{ltb}
 use lib.IntN.{ℤ, pos}
-use Rattle.rules.specs.Lists.{all, any}
+use Rattle.rules.specs.Lists.{allOf, anyOf}
 use Rattle.rules.specs.Decimal.{minus}
 use Rattle.rules.specs.Record.{size, arg, isPlace, isPlaces, isRoll, isDistinct, isOrder}
 use Rattle.decimal.specs.declared.Whole.{Whole}
@@ -52,22 +52,22 @@ module _ {a : Args} (g : Good a) where
 pub record Each (test : ℤ → Bool) (a : Args) (i : ℕ) : Type 0 where
   pub good : Good a
   pub within : i ≤ a .n
-  pub so-far : all test (wholesOf a) ≡ all test (drop i (wholesOf a))
+  pub so-far : allOf test (wholesOf a) ≡ allOf test (drop i (wholesOf a))
 
 pub each-none : (test : ℤ → Bool) {a : Args} → Good a → Each test a 0
 each-none test g = record { good = g; within = omega arith; so-far = refl }
 
 module _ {test : ℤ → Bool} {a : Args} {i : ℕ} (m : Each test a i) where
   pub each-more : (d : Whole) → i < a .n → test (wholeIs (getD (a .list) i d)) ≡ true → Each test a (i + 1)
-  unfolding all
+  unfolding allOf
   each-more d h e = record { good = m .good; within = omega arith; so-far = m .so-far ∙ rw (args-next (m .good) i d h, e) }
 
-  pub each-not : (d : Whole) → i < a .n → test (wholeIs (getD (a .list) i d)) ≡ false → all test (wholesOf a) ≡ false
-  unfolding all
+  pub each-not : (d : Whole) → i < a .n → test (wholeIs (getD (a .list) i d)) ≡ false → allOf test (wholesOf a) ≡ false
+  unfolding allOf
   each-not d h e = m .so-far ∙ rw (args-next (m .good) i d h, e)
 
-  pub each-end : a .n ≤ i → all test (wholesOf a) ≡ true
-  unfolding all
+  pub each-end : a .n ≤ i → allOf test (wholesOf a) ≡ true
+  unfolding allOf
   each-end h = m .so-far ∙ rw (args-end (m .good) i h)
 
 -- ---- places
@@ -77,7 +77,7 @@ module _ {a : Args} (g : Good a) where
   unfolding isPlaces
   places-none h = sym (rw (args-length g, lt-leb 1 (a .n) h))
 
-  pub places-so : {b : Bool} → 1 ≤ a .n → all isPlace (wholesOf a) ≡ b → b ≡ isPlaces (wholesOf a)
+  pub places-so : {b : Bool} → 1 ≤ a .n → allOf isPlace (wholesOf a) ≡ b → b ≡ isPlaces (wholesOf a)
   unfolding isPlaces
   places-so h e = sym (rw (args-length g, le-leb 1 (a .n) h, e))
 
@@ -114,11 +114,11 @@ module _ {a : Args} (g : Good a) where
   unfolding isOrder
   order-many h l = sym (rw (args-length g, le-leb 1 (a .n) h, lt-leb (a .n) 4 l))
 
-  pub order-unsized : 1 ≤ a .n → a .n ≤ 4 → all (sizedBy (a .n)) (wholesOf a) ≡ false → false ≡ isOrder (wholesOf a)
+  pub order-unsized : 1 ≤ a .n → a .n ≤ 4 → allOf (sizedBy (a .n)) (wholesOf a) ≡ false → false ≡ isOrder (wholesOf a)
   unfolding isOrder
   order-unsized h l e = sym (rw (args-length g, le-leb 1 (a .n) h, le-leb (a .n) 4 l, e))
 
-  pub order-so : {b : Bool} → 1 ≤ a .n → a .n ≤ 4 → all (sizedBy (a .n)) (wholesOf a) ≡ true → b ≡ isDistinct (wholesOf a) → b ≡ isOrder (wholesOf a)
+  pub order-so : {b : Bool} → 1 ≤ a .n → a .n ≤ 4 → allOf (sizedBy (a .n)) (wholesOf a) ≡ true → b ≡ isDistinct (wholesOf a) → b ≡ isOrder (wholesOf a)
   unfolding isOrder
   order-so h l e f = f ∙ sym (rw (args-length g, le-leb 1 (a .n) h, le-leb (a .n) 4 l, e))
 
@@ -139,22 +139,22 @@ module _ (n : ℕ) (w : Whole) where
 -- none of those from `from` up to i has it
 pub record Seeks (a : Args) (from n i : ℕ) : Type 0 where
   pub good : Good a
-  pub so-far : any (alike n) (drop from (wholesOf a)) ≡ any (alike n) (drop i (wholesOf a))
+  pub so-far : anyOf (alike n) (drop from (wholesOf a)) ≡ anyOf (alike n) (drop i (wholesOf a))
 
 pub seeks-none : {a : Args} (from n : ℕ) → Good a → Seeks a from n from
 seeks-none from n g = record { good = g; so-far = refl }
 
 module _ {a : Args} {from n i : ℕ} (m : Seeks a from n i) where
-  pub seeks-here : (d : Whole) → i < a .n → getD (a .list) i d .size ≡ n → true ≡ any (alike n) (drop from (wholesOf a))
-  unfolding any
+  pub seeks-here : (d : Whole) → i < a .n → getD (a .list) i d .size ≡ n → true ≡ anyOf (alike n) (drop from (wholesOf a))
+  unfolding anyOf
   seeks-here d h e = sym (m .so-far ∙ rw (args-next (m .good) i d h, whole-size (getD (a .list) i d), eq-eqb n (getD (a .list) i d .size) (sym e)))
 
   pub seeks-more : (d : Whole) → i < a .n → (getD (a .list) i d .size ≡ n → ⊥) → Seeks a from n (i + 1)
-  unfolding any
+  unfolding anyOf
   seeks-more d h e = record { good = m .good; so-far = m .so-far ∙ rw (args-next (m .good) i d h, whole-size (getD (a .list) i d), ne-eqb n (getD (a .list) i d .size) (λ f. e (sym f))) }
 
-  pub seeks-end : a .n ≤ i → false ≡ any (alike n) (drop from (wholesOf a))
-  unfolding any
+  pub seeks-end : a .n ≤ i → false ≡ anyOf (alike n) (drop from (wholesOf a))
+  unfolding anyOf
   seeks-end h = sym (m .so-far ∙ rw (args-end (m .good) i h))
 
 -- ---- is no size repeated?
@@ -169,14 +169,14 @@ distinct-none g = record { good = g; within = omega arith; so-far = refl }
 
 module _ {a : Args} {i : ℕ} (m : Distinct a i) where
   module _ (d : Whole) (h : i < a .n) where
-    here : isDistinct (wholesOf a) ≡ (not (any (alike (getD (a .list) i d .size)) (drop (i + 1) (wholesOf a))) && isDistinct (drop (i + 1) (wholesOf a)))
+    here : isDistinct (wholesOf a) ≡ (not (anyOf (alike (getD (a .list) i d .size)) (drop (i + 1) (wholesOf a))) && isDistinct (drop (i + 1) (wholesOf a)))
     unfolding isDistinct
     here = m .so-far ∙ rw (args-next (m .good) i d h, whole-size (getD (a .list) i d))
 
-    pub distinct-not : any (alike (getD (a .list) i d .size)) (drop (i + 1) (wholesOf a)) ≡ true → false ≡ isDistinct (wholesOf a)
+    pub distinct-not : anyOf (alike (getD (a .list) i d .size)) (drop (i + 1) (wholesOf a)) ≡ true → false ≡ isDistinct (wholesOf a)
     distinct-not e = sym (here ∙ rw e)
 
-    pub distinct-more : any (alike (getD (a .list) i d .size)) (drop (i + 1) (wholesOf a)) ≡ false → Distinct a (i + 1)
+    pub distinct-more : anyOf (alike (getD (a .list) i d .size)) (drop (i + 1) (wholesOf a)) ≡ false → Distinct a (i + 1)
     distinct-more e = record { good = m .good; within = omega arith; so-far = here ∙ rw e }
 
   pub distinct-end : a .n ≤ i → true ≡ isDistinct (wholesOf a)

@@ -11,7 +11,7 @@ use lib.ListN.{length, take, drop, getD, drop-of-length-le}
 use lib.Dec.{leb, ltb, eqb, lit≤}
 use lib.IntN.{ℤ, pos}
 use Rattle.rules.specs.Ascii.{ascii}
-use Rattle.rules.specs.Lists.{all}
+use Rattle.rules.specs.Lists.{allOf}
 use Rattle.rules.specs.Text.{Bytes, same}
 use Rattle.rules.specs.Decimal.{signed, minus}
 use Rattle.rules.specs.Record.{size, arg, nineDigits, isOrder}
@@ -81,8 +81,8 @@ axis-nine b = go (ltb 0 (placeIn 1 b (ascii "enuf")))
     go true = le-leb (placeIn 1 b (ascii "enuf")) 999999999 (omega (arith, place-small 1 b (ascii "enuf")))
     go false = rw (size-signed true (placeIn 1 b (ascii "wsdp"))) (le-leb (placeIn 1 b (ascii "wsdp")) 999999999 (omega (arith, place-small 1 b (ascii "wsdp"))))
 
-axes-nine : (t : Bytes) → all nineDigits (map axis t) ≡ true
-unfolding all
+axes-nine : (t : Bytes) → allOf nineDigits (map axis t) ≡ true
+unfolding allOf
 axes-nine [] = refl
 axes-nine (b ∷ t) = rw (axis-nine b) (axes-nine t)
 

@@ -5,7 +5,7 @@ use walk::is_same;
 ghost use mathlib.Core.Path.{_≡_};
 ghost use Prim.Native.Nat.{_+_, _≤_, _<_};
 ghost use lib.ListN.{length, drop};
-ghost use Rattle.rules.specs.Lists.{all, any};
+ghost use Rattle.rules.specs.Lists.{allOf, anyOf};
 ghost use Rattle.rules.specs.Decimal.{minus};
 ghost use Rattle.rules.specs.Record.{size, isPlace, isPlaces, isRoll, isDistinct, isOrder};
 ghost use Rattle.rules.specs.Adapt.{placeIn, axis, ending, word, position};
@@ -75,7 +75,7 @@ pub fn is_roll(a: Args) -> bool
 // "nonzero, no size above the length"
 fn are_sized(a: Args) -> bool
     requires { ⌜ Good a ⌝ }
-    ensures { λ r. ⌜ r ≡ all (sizedBy (a .n)) (wholesOf a) ⌝ }
+    ensures { λ r. ⌜ r ≡ allOf (sizedBy (a .n)) (wholesOf a) ⌝ }
 {
     let n = a.n;
     let mut i = 0;
@@ -95,7 +95,7 @@ fn are_sized(a: Args) -> bool
 // Is there a number of that size among those from `from` on?
 fn occurs(a: Args, from: usize, size: u32) -> bool
     requires { ⌜ Good a ⌝ }
-    ensures { λ r. ⌜ r ≡ any (alike size) (drop from (wholesOf a)) ⌝ }
+    ensures { λ r. ⌜ r ≡ anyOf (alike size) (drop from (wholesOf a)) ⌝ }
 {
     let n = a.n;
     let mut i = from;

@@ -8,7 +8,7 @@ use borrow.Author.Tests.{lt-ltb, le-ltb}
 use lib.ListN.{length, take, length-map}
 use lib.Seq.{length-take-le}
 use Rattle.rules.specs.Ascii.{is}
-use Rattle.rules.specs.Lists.{all, any, nonEmpty}
+use Rattle.rules.specs.Lists.{allOf, anyOf, nonEmpty}
 use Rattle.rules.specs.Text.{Bytes, white, words}
 use Rattle.rules.specs.Refusal.{Reply, answers, andThen}
 use Rattle.rules.specs.Split.{modifier, onlyModifiers, leading, following, turned}
@@ -43,14 +43,14 @@ unfolding stepTable tableOf turned following leading elements enteredAll onlyMod
 none-reply = refl
 
 module _ (u : Bytes) (out : Bytes) where
-  pub step-blank : all white u ≡ true → Lends (stepReply (words u)) out (variant.Wrote 0) out
+  pub step-blank : allOf white u ≡ true → Lends (stepReply (words u)) out (variant.Wrote 0) out
   step-blank e = lends-text {text = []} (ap stepReply (words-none u e) ∙ none-reply) (omega arith) refl refl
 
-  pub step-modifiers : all white u ≡ false → all modifier (words u) ≡ true → Lends (stepReply (words u)) out (variant.Refused 6 0) out
+  pub step-modifiers : allOf white u ≡ false → allOf modifier (words u) ≡ true → Lends (stepReply (words u)) out (variant.Refused 6 0) out
   unfolding stepTable onlyModifiers andThen
   step-modifiers e f = lends-refusal (rw (words-blank u, e, f))
 
-  module _ (f : all modifier (words u) ≡ false) where
+  module _ (f : allOf modifier (words u) ≡ false) where
     other-step : onlyModifiers (words u) ≡ false
     unfolding onlyModifiers
     other-step = rw f (and-false (nonEmpty (words u)))
@@ -103,8 +103,8 @@ module _ {s : Bytes} {n : ℕ} (z : Spelt s n) where
 module _ (s : Bytes) (n : ℕ) {e : ℕ} (l : n ≤ length s) (m : Run (other (is "|")) (take n s) 0 e) {out : Bytes} {w : Written} {out′ : Bytes} where
   pub text-name : e < n → Lends (nameReply (take n s)) out w out′ → Lends (textReply (take n s)) out w out′
   unfolding textTable andThen
-  text-name h x = let a : any (is "|") (take n s) ≡ true = run-any (is "|") m (omega (arith, length-take-le n s l)) in rw a x
+  text-name h x = let a : anyOf (is "|") (take n s) ≡ true = run-any (is "|") m (omega (arith, length-take-le n s l)) in rw a x
 
   pub text-step : n ≤ e → Lends (stepReply (words (take n s))) out w out′ → Lends (textReply (take n s)) out w out′
   unfolding textTable
-  text-step h x = let a : any (is "|") (take n s) ≡ false = run-none (is "|") m (omega (arith, length-take-le n s l)) in rw a x
+  text-step h x = let a : anyOf (is "|") (take n s) ≡ false = run-none (is "|") m (omega (arith, length-take-le n s l)) in rw a x

@@ -10,7 +10,7 @@ use borrow.Author.Tests.{lt-ltb, le-ltb, eq-eqb, ne-eqb, ltb-false}
 use lib.ListN.{length, take, drop, getD, set, length-append, length-take, take-append-drop}
 use lib.Seq.{length-take-le, drop-append-le, drop-cons, set-at, append-snoc}
 use lib.Dec.{ltb}
-use Rattle.rules.specs.Lists.{any, all, placeOf}
+use Rattle.rules.specs.Lists.{anyOf, allOf, placeOf}
 use Rattle.rules.specs.Text.{Bytes, Steps, inDomain, words}
 use Rattle.rules.specs.Refusal.{Reply, answers, refuses, andThen, tested, lent, prepared}
 use Rattle.rules.specs.Normal.{normal}
@@ -81,7 +81,7 @@ splitReply ss Nothing = answers (map stepText ss)
 
 split-is : (ss : Steps) → splitSteps ss ≡ splitReply ss (faultOf ss)
 unfolding splitSteps splitReply faultOf
-split-is ss = go (any onlyModifiers ss) (ltb 64 (length ss))
+split-is ss = go (anyOf onlyModifiers ss) (ltb 64 (length ss))
   where
     go : (a b : Bool) → cond a (refuses 6 (placeOf onlyModifiers ss)) (cond b (refuses 8 0) (answers (map stepText ss)))
         ≡ splitReply ss (cond a (Modifiers (placeOf onlyModifiers ss)) (cond b TooMany Nothing))
@@ -91,7 +91,7 @@ split-is ss = go (any onlyModifiers ss) (ltb 64 (length ss))
 
 well-few : (ss : Steps) → Nothing ≡ faultOf ss → length ss ≤ 64
 unfolding faultOf
-well-few ss e = go (any onlyModifiers ss) (ltb 64 (length ss)) refl e
+well-few ss e = go (anyOf onlyModifiers ss) (ltb 64 (length ss)) refl e
   where
     go : (a b : Bool) → ltb 64 (length ss) ≡ b → Nothing ≡ cond a (Modifiers (placeOf onlyModifiers ss)) (cond b TooMany Nothing) → length ss ≤ 64
     go true b f e = absurd (never (cc e))
@@ -155,7 +155,7 @@ pub record Reaches (normalised : Bytes) (t : Table) (a₀ b₀ c₀ a b c : Byte
   pub room-b : length b ≡ length b₀
   pub room-c : length c ≡ length c₀
   pub within : at ≤ length normalised
-  pub well : any onlyModifiers (stepsOf (drop at normalised)) ≡ false
+  pub well : anyOf onlyModifiers (stepsOf (drop at normalised)) ≡ false
   pub few : n + length (stepsOf (drop at normalised)) ≤ 64
   pub done : List Step
   pub count : length done ≡ n
@@ -201,15 +201,15 @@ module _ {normalised : Bytes} {t : Table} {a₀ b₀ c₀ a b c : Bytes} {steps 
     steps-there : stepsOf (drop at normalised) ≡ words (part from to normalised) ∷ stepsOf (drop (then .at) normalised)
     steps-there = walk-step normalised at from to then f
 
-    well-there : (onlyModifiers (words (part from to normalised)) || any onlyModifiers (stepsOf (drop (then .at) normalised))) ≡ false
-    unfolding any
-    well-there = sym (ap (any onlyModifiers) steps-there) ∙ m .well
+    well-there : (onlyModifiers (words (part from to normalised)) || anyOf onlyModifiers (stepsOf (drop (then .at) normalised))) ≡ false
+    unfolding anyOf
+    well-there = sym (ap (anyOf onlyModifiers) steps-there) ∙ m .well
 
     -- it is not modifiers alone
-    pub reaches-other : all modifier (words (part from to normalised)) ≡ false
+    pub reaches-other : allOf modifier (words (part from to normalised)) ≡ false
     unfolding onlyModifiers
     reaches-other =
-        let e = or-left (onlyModifiers (words (part from to normalised))) (any onlyModifiers (stepsOf (drop (then .at) normalised))) well-there in
+        let e = or-left (onlyModifiers (words (part from to normalised))) (anyOf onlyModifiers (stepsOf (drop (then .at) normalised))) well-there in
         sym (rw (walk-ahead normalised at from to then f .worded)) ∙ e
 
     pub reaches-few : n < 64
@@ -242,7 +242,7 @@ module _ {normalised : Bytes} {t : Table} {a₀ b₀ c₀ a b c : Bytes} {steps 
             room-b = kb ∙ m .room-b;
             room-c = kc ∙ m .room-c;
             within = omega (arith, w .within, w .goes-on);
-            well = or-right (onlyModifiers (words (part from to normalised))) (any onlyModifiers (stepsOf (drop (then .at) normalised))) well-there;
+            well = or-right (onlyModifiers (words (part from to normalised))) (anyOf onlyModifiers (stepsOf (drop (then .at) normalised))) well-there;
             few = omega (arith, m .few, ap length steps-there);
             done = m .done ++ (r .step ∷ []);
             count = omega (arith, length-append (m .done) (r .step ∷ []));

@@ -10,7 +10,7 @@ use borrow.Author.Tests.{lt-ltb, le-ltb}
 use lib.ListN.{length, take, length-map}
 use lib.Seq.{length-take-le, take-at}
 use Rattle.rules.specs.Ascii.{ascii, is}
-use Rattle.rules.specs.Lists.{any, all, nonEmpty}
+use Rattle.rules.specs.Lists.{anyOf, allOf, nonEmpty}
 use Rattle.rules.specs.Text.{Bytes, white, same, trimmed, words}
 use Rattle.rules.specs.Normal.{normal}
 use Rattle.rules.specs.Refusal.{Reply, refuses, andThen}
@@ -36,16 +36,16 @@ use Rattle.prepare.proofs.Weighing.{normal-fits}
 
 -- ---- no name has a separator
 
-no-name : (u : Bytes) → any (is "|") u ≡ true → nameOf u ≡ none
+no-name : (u : Bytes) → anyOf (is "|") u ≡ true → nameOf u ≡ none
 unfolding nameOf
 no-name u e =
-    rw (differs (ascii "push") (unfold any ascii in refl), differs (ascii "pop") (unfold any ascii in refl), differs (ascii "stack") (unfold any ascii in refl), differs (ascii "axisswap") (unfold any ascii in refl), differs (ascii "adapt") (unfold any ascii in refl))
+    rw (differs (ascii "push") (unfold anyOf ascii in refl), differs (ascii "pop") (unfold anyOf ascii in refl), differs (ascii "stack") (unfold anyOf ascii in refl), differs (ascii "axisswap") (unfold anyOf ascii in refl), differs (ascii "adapt") (unfold anyOf ascii in refl))
   where
-    differs : (w : Bytes) → any (is "|") w ≡ false → same u w ≡ false
+    differs : (w : Bytes) → anyOf (is "|") w ≡ false → same u w ≡ false
     differs w f = go (same u w) refl
       where
         go : (b : Bool) → same u w ≡ b → b ≡ false
-        go true g = absurd (true≢false (sym e ∙ ap (any (is "|")) (same-is u w g) ∙ f))
+        go true g = absurd (true≢false (sym e ∙ ap (anyOf (is "|")) (same-is u w g) ∙ f))
         go false g = refl
 
 unnamed : (u : Bytes) → nameOf u ≡ none → judged (name u ∷ []) ≡ refuses 10 0
@@ -65,24 +65,24 @@ module _ {s : Bytes} {n : ℕ} (z : Spelt s n) {e : ℕ} (r : Run (other (is "|"
   pub text-parted : {x : Reply Step} → e < n → x ≡ refuses 10 0 → x ≡ andThen (textTable (take n s)) judged
   unfolding textTable andThen
   text-parted h f =
-      let a : any (is "|") (take n s) ≡ true = run-any (is "|") r (omega (arith, size)) in
+      let a : anyOf (is "|") (take n s) ≡ true = run-any (is "|") r (omega (arith, size)) in
       f ∙ sym (rw a (unnamed (take n s) (no-name (take n s) a)))
 
   module _ (h : n ≤ e) where
     one-step : textTable (take n s) ≡ stepTable (words (take n s))
     unfolding textTable
-    one-step = let a : any (is "|") (take n s) ≡ false = run-none (is "|") r (omega (arith, size)) in rw a
+    one-step = let a : anyOf (is "|") (take n s) ≡ false = run-none (is "|") r (omega (arith, size)) in rw a
 
-    pub text-blank : {x : Reply Step} → all white (take n s) ≡ true → x ≡ refuses 10 0 → x ≡ andThen (textTable (take n s)) judged
+    pub text-blank : {x : Reply Step} → allOf white (take n s) ≡ true → x ≡ refuses 10 0 → x ≡ andThen (textTable (take n s)) judged
     unfolding andThen stepTable tableOf turned following leading elements enteredAll onlyModifiers nonEmpty
     text-blank w f = f ∙ sym (rw (one-step, words-none (take n s) w) nothing-named)
 
-    module _ (w : all white (take n s) ≡ false) where
-      pub text-modifiers : {x : Reply Step} → all modifier (words (take n s)) ≡ true → x ≡ refuses 6 0 → x ≡ andThen (textTable (take n s)) judged
+    module _ (w : allOf white (take n s) ≡ false) where
+      pub text-modifiers : {x : Reply Step} → allOf modifier (words (take n s)) ≡ true → x ≡ refuses 6 0 → x ≡ andThen (textTable (take n s)) judged
       unfolding andThen stepTable onlyModifiers
       text-modifiers m f = f ∙ sym (rw (one-step, words-blank (take n s), w, m))
 
-      module _ (m : all modifier (words (take n s)) ≡ false) where
+      module _ (m : allOf modifier (words (take n s)) ≡ false) where
         other-step : onlyModifiers (words (take n s)) ≡ false
         unfolding onlyModifiers
         other-step = rw m (and-false (nonEmpty (words (take n s))))

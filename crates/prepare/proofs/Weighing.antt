@@ -8,7 +8,7 @@ use native.Mathlib.Nat.{le-trans, le-min, min-le-left, min-le-right}
 use native.Mathlib.Omega.{arith}
 use lib.ListN.{length, take, drop, length-append, length-drop}
 use Rattle.rules.specs.Ascii.{ascii, is}
-use Rattle.rules.specs.Lists.{any, kept, nonEmpty}
+use Rattle.rules.specs.Lists.{anyOf, kept, nonEmpty}
 use Rattle.rules.specs.Text.{Bytes, Words, white, trimStart, cut, words, afterEach, joinedBy, joined}
 use Rattle.rules.specs.Normal.{normal}
 use Rattle.rules.specs.Split.{modifier, leading, following, turned, stepsOf, stepText, line}
@@ -30,41 +30,41 @@ normal-bare t = record { no-more = no-more t; no-less = no-less t }
 -- ---- a byte that is not in a text is in none of its parts
 
 module _ (test : ℕ → Bool) where
-  any-drop : (n : ℕ) (t : Bytes) → any test t ≡ false → any test (drop n t) ≡ false
-  unfolding any
+  any-drop : (n : ℕ) (t : Bytes) → anyOf test t ≡ false → anyOf test (drop n t) ≡ false
+  unfolding anyOf
   any-drop zero t e = e
   any-drop (suc n) [] e = e
-  any-drop (suc n) (x ∷ t) e = any-drop n t (or-right (test x) (any test t) e)
+  any-drop (suc n) (x ∷ t) e = any-drop n t (or-right (test x) (anyOf test t) e)
 
-  any-take : (n : ℕ) (t : Bytes) → any test t ≡ false → any test (take n t) ≡ false
-  unfolding any
+  any-take : (n : ℕ) (t : Bytes) → anyOf test t ≡ false → anyOf test (take n t) ≡ false
+  unfolding anyOf
   any-take zero t e = refl
   any-take (suc n) [] e = e
-  any-take (suc n) (x ∷ t) e = rw (or-left (test x) (any test t) e) (any-take n t (or-right (test x) (any test t) e))
+  any-take (suc n) (x ∷ t) e = rw (or-left (test x) (anyOf test t) e) (any-take n t (or-right (test x) (anyOf test t) e))
 
-  any-append : (a b : Bytes) → any test a ≡ false → any test b ≡ false → any test (a ++ b) ≡ false
-  unfolding any
+  any-append : (a b : Bytes) → anyOf test a ≡ false → anyOf test b ≡ false → anyOf test (a ++ b) ≡ false
+  unfolding anyOf
   any-append [] b e f = f
-  any-append (x ∷ a) b e f = rw (or-left (test x) (any test a) e) (any-append a b (or-right (test x) (any test a) e) f)
+  any-append (x ∷ a) b e f = rw (or-left (test x) (anyOf test a) e) (any-append a b (or-right (test x) (anyOf test a) e) f)
 
   -- nor in its words, whatever their order
   abbrev Free : Words → Type 0
-  Free ws = Every (λ (w : Bytes). any test w ≡ false) ws
+  Free ws = Every (λ (w : Bytes). anyOf test w ≡ false) ws
 
   grow-free : (x : ℕ) (b : Bool) (ws : Words) → test x ≡ false → Free ws → Free (grow x b ws)
-  unfolding Every any grow
+  unfolding Every anyOf grow
   grow-free x true [] e f = (rw e, tt)
   grow-free x true (w ∷ ws) e f = (rw e (f .0), f .1)
   grow-free x false ws e f = (rw e, f)
 
-  words-free : (t : Bytes) → any test t ≡ false → Free (words t)
-  unfolding any
+  words-free : (t : Bytes) → anyOf test t ≡ false → Free (words t)
+  unfolding anyOf
   words-free [] e = unfold words kept cut nonEmpty Every in tt
-  words-free (x ∷ t) e = rw (words-cons x t) (go (white x) (words-free t (or-right (test x) (any test t) e)))
+  words-free (x ∷ t) e = rw (words-cons x t) (go (white x) (words-free t (or-right (test x) (anyOf test t) e)))
     where
       go : (b : Bool) → Free (words t) → Free (cond b (words t) (grow x (inWord t) (words t)))
       go true f = f
-      go false f = grow-free x (inWord t) (words t) (or-left (test x) (any test t) e) f
+      go false f = grow-free x (inWord t) (words t) (or-left (test x) (anyOf test t) e) f
 
   append-free : (ws us : Words) → Free ws → Free us → Free (ws ++ us)
   unfolding Every
@@ -90,17 +90,17 @@ module _ (test : ℕ → Bool) where
       go false g = tt
 
   module _ (s : test 32 ≡ false) where
-    after-free : (ws : Words) → Free ws → any test (afterEach (32 ∷ []) ws) ≡ false
-    unfolding Every any afterEach
+    after-free : (ws : Words) → Free ws → anyOf test (afterEach (32 ∷ []) ws) ≡ false
+    unfolding Every anyOf afterEach
     after-free [] f = refl
     after-free (w ∷ ws) f = rw s (any-append w (afterEach (32 ∷ []) ws) (f .0) (after-free ws (f .1)))
 
-    joined-free : (ws : Words) → Free ws → any test (joined ws) ≡ false
-    unfolding Every any joined joinedBy
+    joined-free : (ws : Words) → Free ws → anyOf test (joined ws) ≡ false
+    unfolding Every anyOf joined joinedBy
     joined-free [] f = refl
     joined-free (w ∷ ws) f = any-append w (afterEach (32 ∷ []) ws) (f .0) (after-free ws (f .1))
 
-    step-free : (from to : ℕ) (t : Bytes) → any test t ≡ false → any test (stepText (words (part from to t))) ≡ false
+    step-free : (from to : ℕ) (t : Bytes) → anyOf test t ≡ false → anyOf test (stepText (words (part from to t))) ≡ false
     unfolding stepText turned
     step-free from to t e =
         let f = words-free (part from to t) (any-take (to - from) (drop from t) (any-drop from t e)) in
@@ -108,12 +108,12 @@ module _ (test : ℕ → Bool) where
 
 -- ---- weights
 
-bare-weight : (t : Bytes) → any (is ">") t ≡ false → any (is "<") t ≡ false → weight t ≡ length t
-unfolding weight weightOf any
+bare-weight : (t : Bytes) → anyOf (is ">") t ≡ false → anyOf (is "<") t ≡ false → weight t ≡ length t
+unfolding weight weightOf anyOf
 bare-weight [] e f = refl
 bare-weight (x ∷ t) e f =
-    rw (or-left (is ">" x) (any (is ">") t) e, or-left (is "<" x) (any (is "<") t) f)
-    (omega (arith, bare-weight t (or-right (is ">" x) (any (is ">") t) e) (or-right (is "<" x) (any (is "<") t) f)))
+    rw (or-left (is ">" x) (anyOf (is ">") t) e, or-left (is "<" x) (anyOf (is "<") t) f)
+    (omega (arith, bare-weight t (or-right (is ">" x) (anyOf (is ">") t) e) (or-right (is "<" x) (anyOf (is "<") t) f)))
 
 pub step-weight : {t : Bytes} (from to : ℕ) → Bare t → weight (stepText (words (part from to t))) ≤ length (stepText (words (part from to t)))
 step-weight {t} from to b =

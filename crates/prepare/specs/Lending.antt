@@ -6,7 +6,7 @@ use mathlib.Core.List.{List, _++_, map}
 use lib.ListN.{length, take, drop}
 use lib.Dec.{ltb}
 use Rattle.rules.specs.Ascii.{is}
-use Rattle.rules.specs.Lists.{any}
+use Rattle.rules.specs.Lists.{anyOf}
 use Rattle.rules.specs.Text.{Bytes}
 use Rattle.rules.specs.Refusal.{Reply, refuses, andThen, tested, lent, prepared}
 use Rattle.rules.specs.Split.{stepsOf, splitSteps, stepText}
@@ -39,8 +39,8 @@ preparing text t = lentTo (tested prepare text) t
 
 -- a text without the separators that normalising takes away
 pub record Bare (t : Bytes) : Type 0 where
-  pub no-more : any (is ">") t ≡ false
-  pub no-less : any (is "<") t ≡ false
+  pub no-more : anyOf (is ">") t ≡ false
+  pub no-less : anyOf (is "<") t ≡ false
 
 -- buffers have room for the normal form of a step's text of so many bytes, if it is not too long, and the first for nine bytes
 -- behind it

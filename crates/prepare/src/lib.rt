@@ -23,7 +23,7 @@ ghost use mathlib.Core.Path.{_≡_};
 ghost use mathlib.Core.Bool.{true, false};
 ghost use Prim.Native.Nat.{_+_, _*_, _<_, _≤_, min};
 ghost use lib.ListN.{length, take};
-ghost use Rattle.rules.specs.Lists.{all};
+ghost use Rattle.rules.specs.Lists.{allOf};
 ghost use Rattle.rules.specs.Text.{words, inDomain};
 ghost use Rattle.rules.specs.Refusal.{andThen};
 ghost use Rattle.rules.specs.Split.{modifier, stepsOf, stepText};
@@ -89,7 +89,7 @@ fn prepare_text(text: &[u8], a: &mut [u8], b: &mut [u8]) -> Judged
 
 // Prepares one step of a normalised text: 1, then the others. a, b and c are room to work in.
 fn prepare_step(step: &[u8], a: &mut [u8], b: &mut [u8], c: &mut [u8]) -> Judged
-    requires { ⌜ all modifier (words (now step)) ≡ false ⌝ }
+    requires { ⌜ allOf modifier (words (now step)) ≡ false ⌝ }
     requires { ⌜ weight (stepText (words (now step))) ≤ length (stepText (words (now step))) ⌝ }
     requires { ⌜ Roomy (length (stepText (words (now step)))) (length (now a)) (length (now b)) ⌝ }
     requires { ⌜ length (stepText (words (now step))) ≤ length (now c) ⌝ }

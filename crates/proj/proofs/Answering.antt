@@ -9,7 +9,7 @@ use lib.ListN.{length, take, drop}
 use lib.Seq.{length-take-le}
 use lib.Dec.{eqb, ltb, leb}
 use Rattle.rules.specs.Ascii.{ascii, is}
-use Rattle.rules.specs.Lists.{any}
+use Rattle.rules.specs.Lists.{anyOf}
 use Rattle.rules.specs.Text.{Bytes, Steps, starts, contains, words, inDomain}
 use Rattle.rules.specs.Refusal.{answers, Writes}
 use Rattle.rules.specs.Proj.{projSteps}
@@ -90,26 +90,26 @@ contains-ahead p old (x ∷ t) = go (starts (p ∷ old) (x ∷ t)) (contains-ahe
     go true h = sym (lt-ltb 0 (suc (length t)) (omega arith))
     go false h = h ∙ ltb-suc (ahead (p ∷ old) t) (length t)
 
-bar-contains : (t : Bytes) → any (is "|") t ≡ contains (124 ∷ []) t
-unfolding any contains starts
+bar-contains : (t : Bytes) → anyOf (is "|") t ≡ contains (124 ∷ []) t
+unfolding anyOf contains starts
 bar-contains [] = refl
 bar-contains (x ∷ t) = go (eqb x 124) (bar-contains t)
   where
-    go : (b : Bool) → any (is "|") t ≡ contains (124 ∷ []) t → (b || any (is "|") t) ≡ ((b && true) || contains (124 ∷ []) t)
+    go : (b : Bool) → anyOf (is "|") t ≡ contains (124 ∷ []) t → (b || anyOf (is "|") t) ≡ ((b && true) || contains (124 ∷ []) t)
     go true h = refl
     go false h = h
 
 module _ (t : Bytes) where
-  pub other-bar : {i : ℕ} → i ≡ 0 + ahead (124 ∷ []) (drop 0 t) → i < length t → true ≡ (any (is "|") t || not (contains (ascii "proj") t))
+  pub other-bar : {i : ℕ} → i ≡ 0 + ahead (124 ∷ []) (drop 0 t) → i < length t → true ≡ (anyOf (is "|") t || not (contains (ascii "proj") t))
   other-bar {i} e h =
-      let b : any (is "|") t ≡ true = bar-contains t ∙ contains-ahead 124 [] t ∙ lt-ltb (ahead (124 ∷ []) t) (length t) (omega arith) in
+      let b : anyOf (is "|") t ≡ true = bar-contains t ∙ contains-ahead 124 [] t ∙ lt-ltb (ahead (124 ∷ []) t) (length t) (omega arith) in
       sym (rw b)
 
-  no-bar : {i : ℕ} → i ≡ 0 + ahead (124 ∷ []) (drop 0 t) → length t ≤ i → any (is "|") t ≡ false
+  no-bar : {i : ℕ} → i ≡ 0 + ahead (124 ∷ []) (drop 0 t) → length t ≤ i → anyOf (is "|") t ≡ false
   no-bar {i} e h = bar-contains t ∙ contains-ahead 124 [] t ∙ le-ltb (ahead (124 ∷ []) t) (length t) (omega arith)
 
   pub other-proj : {i j : ℕ} → i ≡ 0 + ahead (124 ∷ []) (drop 0 t) → length t ≤ i → j ≡ 0 + ahead (112 ∷ 114 ∷ 111 ∷ 106 ∷ []) (drop 0 t)
-      → leb (length t) j ≡ (any (is "|") t || not (contains (ascii "proj") t))
+      → leb (length t) j ≡ (anyOf (is "|") t || not (contains (ascii "proj") t))
   unfolding ascii
   other-proj {i} {j} e h f = sym (rw (no-bar e h, contains-ahead 112 (114 ∷ 111 ∷ 106 ∷ []) t) (turned (ahead (112 ∷ 114 ∷ 111 ∷ 106 ∷ []) t) f))
     where
@@ -126,15 +126,15 @@ steps-are : (t : Bytes) → projSteps t ≡ stepsFrom (cleaned t) 0
 unfolding projSteps stepsFrom stepsIn cleaned
 steps-are t = refl
 
-translate-other : (t : Bytes) → (any (is "|") t || not (contains (ascii "proj") t)) ≡ true → translate t ≡ answers t
+translate-other : (t : Bytes) → (anyOf (is "|") t || not (contains (ascii "proj") t)) ≡ true → translate t ≡ answers t
 unfolding translate
 translate-other t e = rw e
 
-translate-proj : (t : Bytes) → (any (is "|") t || not (contains (ascii "proj") t)) ≡ false → translate t ≡ translated (pipeline (stepsFrom (cleaned t) 0)) (stepsFrom (cleaned t) 0)
+translate-proj : (t : Bytes) → (anyOf (is "|") t || not (contains (ascii "proj") t)) ≡ false → translate t ≡ translated (pipeline (stepsFrom (cleaned t) 0)) (stepsFrom (cleaned t) 0)
 unfolding translate
 translate-proj t e = rw e (ap (λ (ss : Steps). translated (pipeline ss) ss) (steps-are t))
 
-pub unchanged-so : {t out out′ : Bytes} {r : Written} → length t ≤ 4096 → inDomain t ≡ true → (any (is "|") t || not (contains (ascii "proj") t)) ≡ true → Lends (answers t) out r out′ → Writes translate t out r out′
+pub unchanged-so : {t out out′ : Bytes} {r : Written} → length t ≤ 4096 → inDomain t ≡ true → (anyOf (is "|") t || not (contains (ascii "proj") t)) ≡ true → Lends (answers t) out r out′ → Writes translate t out r out′
 unchanged-so {t} h d e w = lends-so h d (translate-other t e) w
 
 module _ (t : Bytes) {a : Bytes} {n : ℕ} (w : Holds (cleaned t) n a) where
@@ -149,7 +149,7 @@ module _ (t : Bytes) {a : Bytes} {n : ℕ} (w : Holds (cleaned t) n a) where
   pub globals-small : {p : Pipe} {b : Bytes} → length t ≤ 4096 → IsPipe (length (take n a)) (stepsFrom (take n a) 0) p b → length (take (p .n) b) ≤ 40960
   globals-small {p} {b} h i = omega (arith, cleaned-small h, i .few, length-take-le (p .n) b (i .fits))
 
-  pub translate-so : {p : Pipe} {b out out′ : Bytes} {r : Written} → length t ≤ 4096 → inDomain t ≡ true → (any (is "|") t || not (contains (ascii "proj") t)) ≡ false
+  pub translate-so : {p : Pipe} {b out out′ : Bytes} {r : Written} → length t ≤ 4096 → inDomain t ≡ true → (anyOf (is "|") t || not (contains (ascii "proj") t)) ≡ false
       → IsPipe (length (take n a)) (stepsFrom (take n a) 0) p b → Lends (translated (pipelineOf (take (p .n) b) (p .inverted)) (stepsFrom (take n a) 0)) out r out′ → Writes translate t out r out′
   translate-so {p} {b} {out} {out′} {r} h d e i l =
       let z : take n a ≡ cleaned t = wrote-front w in

@@ -6,7 +6,7 @@ use Prim.Native.Nat.{ℕ, _≤_}
 use native.Mathlib.Omega.{arith}
 use lib.ListN.{length, take, drop}
 use Rattle.rules.specs.Ascii.{ascii}
-use Rattle.rules.specs.Lists.{any, kept, nonEmpty}
+use Rattle.rules.specs.Lists.{anyOf, kept, nonEmpty}
 use Rattle.rules.specs.Text.{Bytes, Steps, same, words, joinedBy, joined}
 use Rattle.rules.specs.Proj.{exchanged}
 use Rattle.rules.specs.Translate.{isInv, isPipeline, pipelineWords, pipeline}
@@ -36,7 +36,7 @@ silent : (most : ℕ) (ss : Steps) (b : Bytes) → pipelineWords ss ≡ [] → I
 silent most ss b e = record { few = omega arith; fits = omega arith; is = says e; global = nothing-global }
   where
     says : pipelineWords ss ≡ [] → pipeline ss ≡ pipelineOf [] false
-    says f = unfold pipeline kept any joined joinedBy in rw f
+    says f = unfold pipeline kept anyOf joined joinedBy in rw f
 
 pub pipe-none : (n b : Bytes) → stepsFrom n 0 ≡ [] → IsPipe (length n) (stepsFrom n 0) (record { n = 0; inverted = false }) b
 pipe-none n b e = silent (length n) (stepsFrom n 0) b (ap pipelineWords e ∙ unfold pipelineWords in refl)
@@ -56,7 +56,7 @@ module _ {n : Bytes} {from to then : ℕ} (s : IsStep n 0 from to then) {h : Hea
     unfolding pipelineWords
     words-are = ap pipelineWords (s .here) ∙ rw (sym (m .pipeline) ∙ e)
 
-    inverted-is : any isInv (drop 1 (exchanged (words (part from to n)))) ≡ k .inv
+    inverted-is : anyOf isInv (drop 1 (exchanged (words (part from to n)))) ≡ k .inv
     inverted-is = sym (pipeline-inv (words (part from to n)) (sym (m .pipeline) ∙ e)) ∙ sym (w .inv)
 
     says : pipeline (stepsFrom n 0) ≡ pipelineOf (take r b) (k .inv)

@@ -16,7 +16,7 @@ ghost use mathlib.Core.Bool.{true, false, _&&_, _||_, not};
 ghost use Prim.Native.Nat.{_*_, _<_, _≤_};
 ghost use lib.ListN.{length};
 ghost use Rattle.rules.specs.Ascii.{ascii, is};
-ghost use Rattle.rules.specs.Lists.{any, nonEmpty};
+ghost use Rattle.rules.specs.Lists.{anyOf, nonEmpty};
 ghost use Rattle.rules.specs.Text.{words, contains, inDomain};
 ghost use Rattle.rules.specs.Translate.{translate, translated};
 ghost use Rattle.rules.specs.Refusal.{answers, Writes};
@@ -174,7 +174,7 @@ fn unchanged(text: &[u8], out: &mut [u8]) -> Written
 
 // Does the text hold `|`, or lack `proj`? Then it is no PROJ text.
 fn is_other(text: &[u8]) -> bool
-    ensures { λ r. ⌜ r ≡ (any (is "|") (now (text .entry)) || not (contains (ascii "proj") (now (text .entry)))) ⌝ }
+    ensures { λ r. ⌜ r ≡ (anyOf (is "|") (now (text .entry)) || not (contains (ascii "proj") (now (text .entry)))) ⌝ }
 {
     if find(text, 0, b"|") < text.len() {
         return true;
@@ -186,7 +186,7 @@ fn is_other(text: &[u8]) -> bool
 fn answer(text: &[u8], out: &mut [u8], a: &mut [u8], b: &mut [u8], c: &mut [u8]) -> Written
     requires { ⌜ length (now text) ≤ 4096 ⌝ }
     requires { ⌜ inDomain (now text) ≡ true ⌝ }
-    requires { ⌜ (any (is "|") (now text) || not (contains (ascii "proj") (now text))) ≡ false ⌝ }
+    requires { ⌜ (anyOf (is "|") (now text) || not (contains (ascii "proj") (now text))) ≡ false ⌝ }
     requires { ⌜ 10 * length (now text) ≤ length (now a) ⌝ }
     requires { ⌜ 10 * length (now text) < length (now b) ⌝ }
     requires { ⌜ 10 * length (now text) ≤ length (now c) ⌝ }
@@ -202,7 +202,7 @@ fn answer(text: &[u8], out: &mut [u8], a: &mut [u8], b: &mut [u8], c: &mut [u8])
 fn short(text: &[u8], out: &mut [u8]) -> Written
     requires { ⌜ length (now text) ≤ 409 ⌝ }
     requires { ⌜ inDomain (now text) ≡ true ⌝ }
-    requires { ⌜ (any (is "|") (now text) || not (contains (ascii "proj") (now text))) ≡ false ⌝ }
+    requires { ⌜ (anyOf (is "|") (now text) || not (contains (ascii "proj") (now text))) ≡ false ⌝ }
     ensures { λ r. ⌜ Writes translate (now (text .entry)) (now (out .entry)) r (now (out .exit)) ⌝ }
 {
     let mut a = [0u8; 4096];
@@ -214,7 +214,7 @@ fn short(text: &[u8], out: &mut [u8]) -> Written
 fn long(text: &[u8], out: &mut [u8]) -> Written
     requires { ⌜ length (now text) ≤ 4096 ⌝ }
     requires { ⌜ inDomain (now text) ≡ true ⌝ }
-    requires { ⌜ (any (is "|") (now text) || not (contains (ascii "proj") (now text))) ≡ false ⌝ }
+    requires { ⌜ (anyOf (is "|") (now text) || not (contains (ascii "proj") (now text))) ≡ false ⌝ }
     ensures { λ r. ⌜ Writes translate (now (text .entry)) (now (out .entry)) r (now (out .exit)) ⌝ }
 {
     let mut a = [0u8; 40960];

@@ -6,7 +6,7 @@ use Prim.Native.Nat.{ℕ, zero, suc, _+_, _-_, _≤_, _<_}
 use native.Mathlib.Omega.{arith}
 use lib.ListN.{length, take, drop}
 use Rattle.rules.specs.Ascii.{ascii}
-use Rattle.rules.specs.Lists.{any, all, nonEmpty}
+use Rattle.rules.specs.Lists.{anyOf, allOf, nonEmpty}
 use Rattle.rules.specs.Text.{Bytes, Words, same}
 use Rattle.rules.specs.Translate.{isInv, exchangedMark}
 use Rattle.walk.proofs.Leading.{part-from}
@@ -27,16 +27,16 @@ one-word begun d e = more-word begun d [] e ∙ ap (λ (t : Bytes). cond begun (
 
 module _ {write : Bool} {pen : Pen} {dst : Bytes} where
   pub emits-none : {owed : Bool} → pen .owed ≡ owed → Emits write [] pen owed dst pen dst
-  unfolding any
+  unfolding anyOf
   emits-none e = record { adds = adds-as (sym (more-none (pen .begun))) (adds-nothing dst (pen .o) write); begun = sym (or-no (pen .begun)); owes = e }
 
   emits-empty : Emits write ([] ∷ []) pen (pen .owed) dst pen dst
-  unfolding any nonEmpty
+  unfolding anyOf nonEmpty
   emits-empty = record { adds = adds-as (sym (more-empty (pen .begun) [] ∙ more-none (pen .begun))) (adds-nothing dst (pen .o) write); begun = sym (or-no (pen .begun)); owes = refl }
 
 module _ {write : Bool} (d : Bytes) {pen : Pen} (n : nonEmpty d ≡ true) where
   emits-word : {owed : Bool} {dst₀ dst : Bytes} {r : ℕ} → Adds write (gapped (pen .begun) d) dst₀ (pen .o) r dst → Emits write (d ∷ []) pen owed dst₀ (record { o = r; begun = true; owed = owed }) dst
-  unfolding any
+  unfolding anyOf
   emits-word a = record { adds = adds-as (sym (one-word (pen .begun) d n)) a; begun = sym (rw n (or-yes (pen .begun))); owes = refl }
 
   word-room : {dst : Bytes} → Fits write (d ∷ []) pen dst → Room write (gapped (pen .begun) d) (pen .o) dst
@@ -51,22 +51,22 @@ emits-as {write} {ds} {es} {pen} {a} {b} {dst₀} {dst} {r} e f m = subst (λ (x
 
 -- words after others
 module _ {write : Bool} (ds es : Words) {pen : Pen} {dst₀ : Bytes} (h : Fits write (ds ++ es) pen dst₀) where
-  both-room : Room write (more (pen .begun) ds ++ more (pen .begun || any nonEmpty ds) es) (pen .o) dst₀
+  both-room : Room write (more (pen .begun) ds ++ more (pen .begun || anyOf nonEmpty ds) es) (pen .o) dst₀
   both-room = room-as (more-append (pen .begun) ds es) (h .room)
 
   pub emits-first : Fits write ds pen dst₀
-  emits-first = record { room = first-room (more (pen .begun) ds) (more (pen .begun || any nonEmpty ds) es) both-room }
+  emits-first = record { room = first-room (more (pen .begun) ds) (more (pen .begun || anyOf nonEmpty ds) es) both-room }
 
   module _ {owed : Bool} {r : Pen} {dst : Bytes} (m : Emits write ds pen owed dst₀ r dst) where
     pub emits-then : Fits write es r dst
-    emits-then = record { room = rw (m .begun) (then-room (more (pen .begun) ds) (more (pen .begun || any nonEmpty ds) es) both-room (m .adds)) }
+    emits-then = record { room = rw (m .begun) (then-room (more (pen .begun) ds) (more (pen .begun || anyOf nonEmpty ds) es) both-room (m .adds)) }
 
     pub emits-both : {owed′ : Bool} {r′ : Pen} {dst′ : Bytes} → Emits write es r owed′ dst r′ dst′ → Emits write (ds ++ es) pen owed′ dst₀ r′ dst′
     emits-both {owed′} {r′} {dst′} k =
-        let a : Adds write (more (pen .begun || any nonEmpty ds) es) dst (r .o) (r′ .o) dst′ = adds-as (ap (λ (b : Bool). more b es) (m .begun)) (k .adds) in
+        let a : Adds write (more (pen .begun || anyOf nonEmpty ds) es) dst (r .o) (r′ .o) dst′ = adds-as (ap (λ (b : Bool). more b es) (m .begun)) (k .adds) in
         record {
-          adds = adds-as (sym (more-append (pen .begun) ds es)) (adds-both (more (pen .begun) ds) (more (pen .begun || any nonEmpty ds) es) both-room (m .adds) a);
-          begun = k .begun ∙ rw (m .begun, any-append nonEmpty ds es) (sym (or-assoc (pen .begun) (any nonEmpty ds) (any nonEmpty es)));
+          adds = adds-as (sym (more-append (pen .begun) ds es)) (adds-both (more (pen .begun) ds) (more (pen .begun || anyOf nonEmpty ds) es) both-room (m .adds) a);
+          begun = k .begun ∙ rw (m .begun, any-append nonEmpty ds es) (sym (or-assoc (pen .begun) (anyOf nonEmpty ds) (anyOf nonEmpty es)));
           owes = k .owes;
         }
 
@@ -125,15 +125,15 @@ settle-none {write} {pen} e = emits-as (sym (owing-no (pen .owed) e)) refl (emit
 -- ---- an element
 
 pub element-inv : {write : Bool} {x : Bytes} {pen : Pen} {dst : Bytes} → isInv x ≡ true → Pens write (x ∷ []) pen dst pen dst
-unfolding emitted forth all
+unfolding emitted forth allOf
 element-inv {write} {x} {pen} {dst} e = record { emits = emits-as (sym (rw e)) (sym (rw e (and-yes (pen .owed)))) (emits-none refl) }
 
 one-is : (owed : Bool) (x : Bytes) → isInv x ≡ false → emitted owed (x ∷ []) ≡ (exchangedMark x ∷ []) ++ owing owed
 unfolding emitted forth owing
 one-is owed x n = rw n (append-nil (exchangedMark x ∷ owing owed))
 
-one-owes : (owed : Bool) (x : Bytes) → isInv x ≡ false → false ≡ (owed && all isInv (x ∷ []))
-unfolding all
+one-owes : (owed : Bool) (x : Bytes) → isInv x ≡ false → false ≡ (owed && allOf isInv (x ∷ []))
+unfolding allOf
 one-owes owed x n = sym (rw n (and-no owed))
 
 module _ {write : Bool} {x : Bytes} {pen : Pen} (n : isInv x ≡ false) where
@@ -233,7 +233,7 @@ pens-as : {write : Bool} {xs ys : Words} {pen : Pen} {dst₀ dst : Bytes} {r : P
 pens-as {write} {xs} {ys} {pen} {dst₀} {dst} {r} e m = subst (λ (x : Words). Pens write x pen dst₀ r dst) e m
 
 pens-none : {write : Bool} {pen : Pen} {dst : Bytes} → Pens write [] pen dst pen dst
-unfolding emitted all
+unfolding emitted allOf
 pens-none {write} {pen} = record { emits = emits-as refl (sym (and-yes (pen .owed))) (emits-none refl) }
 
 module _ {write fresh : Bool} (g : Bytes) {pen : Pen} {dst : Bytes} where
@@ -252,22 +252,22 @@ module _ {write fresh : Bool} (g : Bytes) {pen : Pen} {dst : Bytes} where
 -- ---- elements after others
 
 module _ {write : Bool} (xs ys : Words) {pen : Pen} {dst₀ : Bytes} (h : RoomFor write (xs ++ ys) pen dst₀) where
-  apart : Fits write (emitted (pen .owed) xs ++ emitted (pen .owed && all isInv xs) ys) pen dst₀
+  apart : Fits write (emitted (pen .owed) xs ++ emitted (pen .owed && allOf isInv xs) ys) pen dst₀
   apart = fits-as (emitted-append (pen .owed) xs ys) (h .fits)
 
   pub pens-first : RoomFor write xs pen dst₀
-  pens-first = record { fits = emits-first (emitted (pen .owed) xs) (emitted (pen .owed && all isInv xs) ys) apart }
+  pens-first = record { fits = emits-first (emitted (pen .owed) xs) (emitted (pen .owed && allOf isInv xs) ys) apart }
 
   module _ {r : Pen} {dst : Bytes} (m : Pens write xs pen dst₀ r dst) where
     pub pens-then : RoomFor write ys r dst
-    pens-then = record { fits = fits-as (ap (λ (b : Bool). emitted b ys) (sym (m .emits .owes))) (emits-then (emitted (pen .owed) xs) (emitted (pen .owed && all isInv xs) ys) apart (m .emits)) }
+    pens-then = record { fits = fits-as (ap (λ (b : Bool). emitted b ys) (sym (m .emits .owes))) (emits-then (emitted (pen .owed) xs) (emitted (pen .owed && allOf isInv xs) ys) apart (m .emits)) }
 
     pub pens-both : {r′ : Pen} {dst′ : Bytes} → Pens write ys r dst r′ dst′ → Pens write (xs ++ ys) pen dst₀ r′ dst′
     pens-both {r′} {dst′} k =
         record {
           emits = emits-as (sym (emitted-append (pen .owed) xs ys))
-              (ap (λ (b : Bool). b && all isInv ys) (m .emits .owes) ∙ sym (and-assoc (pen .owed) (all isInv xs) (all isInv ys)) ∙ ap (λ (b : Bool). pen .owed && b) (sym (all-append isInv xs ys)))
-              (emits-both (emitted (pen .owed) xs) (emitted (pen .owed && all isInv xs) ys) apart (m .emits) (emits-as (ap (λ (b : Bool). emitted b ys) (m .emits .owes)) refl (k .emits)));
+              (ap (λ (b : Bool). b && allOf isInv ys) (m .emits .owes) ∙ sym (and-assoc (pen .owed) (allOf isInv xs) (allOf isInv ys)) ∙ ap (λ (b : Bool). pen .owed && b) (sym (all-append isInv xs ys)))
+              (emits-both (emitted (pen .owed) xs) (emitted (pen .owed && allOf isInv xs) ys) apart (m .emits) (emits-as (ap (λ (b : Bool). emitted b ys) (m .emits .owes)) refl (k .emits)));
         }
 
 -- a word of the step's own
@@ -296,27 +296,27 @@ module _ {write : Bool} (scale fresh : Bool) (x g : Bytes) {pen : Pen} {dst₀ :
 
 -- ---- what comes last
 
-flow-all : (owed : Bool) (xs : Words) → flow owed xs ≡ emitted owed xs ++ owing (owed && all isInv xs)
+flow-all : (owed : Bool) (xs : Words) → flow owed xs ≡ emitted owed xs ++ owing (owed && allOf isInv xs)
 unfolding owing
-flow-all owed xs = ap (flow owed) (sym (append-nil xs)) ∙ flow-append owed xs [] ∙ ap (λ (ds : Words). emitted owed xs ++ ds) (flow-end (owed && all isInv xs))
+flow-all owed xs = ap (flow owed) (sym (append-nil xs)) ∙ flow-append owed xs [] ∙ ap (λ (ds : Words). emitted owed xs ++ ds) (flow-end (owed && allOf isInv xs))
 
 -- all elements, and then what is owed
 module _ {write : Bool} (xs : Words) {pen : Pen} {dst₀ : Bytes} (h : RoomForAll write xs pen dst₀) where
-  flow-room : Fits write (emitted (pen .owed) xs ++ owing (pen .owed && all isInv xs)) pen dst₀
+  flow-room : Fits write (emitted (pen .owed) xs ++ owing (pen .owed && allOf isInv xs)) pen dst₀
   flow-room = fits-as (flow-all (pen .owed) xs) (h .fits)
 
   pub last-first : RoomFor write xs pen dst₀
-  last-first = record { fits = emits-first (emitted (pen .owed) xs) (owing (pen .owed && all isInv xs)) flow-room }
+  last-first = record { fits = emits-first (emitted (pen .owed) xs) (owing (pen .owed && allOf isInv xs)) flow-room }
 
   module _ {r : Pen} {dst : Bytes} (m : Pens write xs pen dst₀ r dst) where
     pub last-then : Fits write (owing (r .owed)) r dst
-    last-then = fits-as (ap owing (sym (m .emits .owes))) (emits-then (emitted (pen .owed) xs) (owing (pen .owed && all isInv xs)) flow-room (m .emits))
+    last-then = fits-as (ap owing (sym (m .emits .owes))) (emits-then (emitted (pen .owed) xs) (owing (pen .owed && allOf isInv xs)) flow-room (m .emits))
 
     pub last-done : {r′ : Pen} {dst′ : Bytes} → Emits write (owing (r .owed)) r false dst r′ dst′ → PensAll write xs pen dst₀ (r′ .o) dst′
     last-done k = record {
       adds =
           adds-as (ap (more (pen .begun)) (sym (flow-all (pen .owed) xs)))
-          (emits-both (emitted (pen .owed) xs) (owing (pen .owed && all isInv xs)) flow-room (m .emits) (emits-as (ap owing (m .emits .owes)) refl k) .adds);
+          (emits-both (emitted (pen .owed) xs) (owing (pen .owed && allOf isInv xs)) flow-room (m .emits) (emits-as (ap owing (m .emits .owes)) refl k) .adds);
     }
 
 module _ (composed : Bool) (a rf : Bytes) (fresh : Bool) (g : Bytes) where

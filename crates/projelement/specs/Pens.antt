@@ -4,7 +4,7 @@ use mathlib.Core.Bool.{Bool, cond, _&&_, _||_}
 use mathlib.Core.List.{[], _∷_}
 use Prim.Native.Nat.{ℕ}
 use Rattle.rules.specs.Ascii.{ascii}
-use Rattle.rules.specs.Lists.{any, all, nonEmpty}
+use Rattle.rules.specs.Lists.{anyOf, allOf, nonEmpty}
 use Rattle.rules.specs.Text.{Bytes, Words}
 use Rattle.rules.specs.Translate.{isInv}
 use Rattle.pen.specs.Adding.{Room, Adds}
@@ -25,12 +25,12 @@ pub record RoomForAll (write : Bool) (xs : Words) (pen : Pen) (dst : Bytes) : Ty
 -- words are added, and the pen says so
 pub record Emits (write : Bool) (ds : Words) (pen : Pen) (owed : Bool) (dst₀ : Bytes) (r : Pen) (dst : Bytes) : Type 0 where
   pub adds : Adds write (more (pen .begun) ds) dst₀ (pen .o) (r .o) dst
-  pub begun : r .begun ≡ (pen .begun || any nonEmpty ds)
+  pub begun : r .begun ≡ (pen .begun || anyOf nonEmpty ds)
   pub owes : r .owed ≡ owed
 
 -- elements are added; or elements with what is owed after them
 pub record Pens (write : Bool) (xs : Words) (pen : Pen) (dst₀ : Bytes) (r : Pen) (dst : Bytes) : Type 0 where
-  pub emits : Emits write (emitted (pen .owed) xs) pen (pen .owed && all isInv xs) dst₀ r dst
+  pub emits : Emits write (emitted (pen .owed) xs) pen (pen .owed && allOf isInv xs) dst₀ r dst
 
 pub record PensAll (write : Bool) (xs : Words) (pen : Pen) (dst₀ : Bytes) (r : ℕ) (dst : Bytes) : Type 0 where
   pub adds : Adds write (more (pen .begun) (flow (pen .owed) xs)) dst₀ (pen .o) r dst

@@ -6,7 +6,7 @@ use Prim.Native.Nat.{ℕ, suc, _+_, _-_, _*_, _≤_}
 use native.Mathlib.Omega.{arith}
 use lib.ListN.{length, drop, length-append, length-drop}
 use Rattle.rules.specs.Ascii.{ascii}
-use Rattle.rules.specs.Lists.{any, kept, nonEmpty}
+use Rattle.rules.specs.Lists.{anyOf, kept, nonEmpty}
 use Rattle.rules.specs.Text.{Bytes, Words, white, same, starts, cut, words, afterEach, joinedBy, joined}
 use Rattle.rules.specs.Proj.{isProj, firstProj, inItsPlace, exchanged, hasKey, lastOf, withoutLast, composed, ellipsoid, scale, tidied}
 use Rattle.rules.specs.Translate.{isInv, notInv, atPosition1, Pipeline, withGlobals, exchangedMark, withoutInv, stepOf}
@@ -63,7 +63,7 @@ size-place v (w ∷ ws) = go (isProj w) (size-place v ws)
 size-exchanged : (ws : Words) → size (exchanged ws) ≤ size ws
 unfolding exchanged
 size-exchanged [] = omega arith
-size-exchanged (w ∷ ws) = go (isProj w) (any isProj ws)
+size-exchanged (w ∷ ws) = go (isProj w) (anyOf isProj ws)
   where
     go : (b d : Bool) → size (cond b (drop 5 w ∷ ws) (cond d (drop 5 (firstProj ws) ∷ inItsPlace w ws) (w ∷ ws))) ≤ size (w ∷ ws)
     go true d = unfold size in omega (arith, length-drop 5 w)
@@ -178,7 +178,7 @@ more-size ws = omega (arith, joined-size (kept nonEmpty ws), size-kept nonEmpty 
 -- a step's text
 pub step-length : (p : Pipeline) (t : Bytes) → Global p → length (stepOf p (words t)) ≤ 3 * length t + length (p .globals) + 20
 step-length p t g =
-    let owed = xor (any isInv (exchanged (words t))) (p .inverted) in
+    let owed = xor (anyOf isInv (exchanged (words t))) (p .inverted) in
     let us = withGlobals p (tidied (words t)) in
     omega (arith, ap length (step-text p t g), more-size (flow owed us), size-flow owed us, size-globals p (tidied (words t)), size-tidied (words t), size-words t)
 

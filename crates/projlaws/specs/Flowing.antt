@@ -3,7 +3,7 @@ use mathlib.Core.Path.{_≡_, refl, sym, ap, _∙_}
 use mathlib.Core.Bool.{Bool, true, false, cond, _&&_, _||_}
 use mathlib.Core.List.{[], _∷_, _++_, append-assoc}
 use Rattle.rules.specs.Ascii.{ascii}
-use Rattle.rules.specs.Lists.{any, all, kept, nonEmpty}
+use Rattle.rules.specs.Lists.{anyOf, allOf, kept, nonEmpty}
 use Rattle.rules.specs.Text.{Bytes, Words, afterEach, joinedBy, joined}
 use Rattle.rules.specs.Translate.{isInv, notInv, atPosition1, exchangedMark, withoutInv}
 use Rattle.projlaws.specs.Tests.{and-yes, and-no, or-no, or-yes, and-assoc}
@@ -38,26 +38,26 @@ unfolding flow withoutInv kept notInv atPosition1
 flow-other true x xs e = rw e
 flow-other false x xs e = rw e
 
-pub flow-append : (owed : Bool) (xs ys : Words) → flow owed (xs ++ ys) ≡ emitted owed xs ++ flow (owed && all isInv xs) ys
-unfolding emitted all
+pub flow-append : (owed : Bool) (xs ys : Words) → flow owed (xs ++ ys) ≡ emitted owed xs ++ flow (owed && allOf isInv xs) ys
+unfolding emitted allOf
 flow-append owed [] ys = rw (and-yes owed)
 flow-append owed (x ∷ xs) ys = go (isInv x) refl (flow-append owed xs ys) (flow-append false xs ys)
   where
-    go : (b : Bool) → isInv x ≡ b → flow owed (xs ++ ys) ≡ emitted owed xs ++ flow (owed && all isInv xs) ys → flow false (xs ++ ys) ≡ emitted false xs ++ flow false ys
-        → flow owed (x ∷ (xs ++ ys)) ≡ (forth x owed ++ emitted (owed && isInv x) xs) ++ flow (owed && (isInv x && all isInv xs)) ys
+    go : (b : Bool) → isInv x ≡ b → flow owed (xs ++ ys) ≡ emitted owed xs ++ flow (owed && allOf isInv xs) ys → flow false (xs ++ ys) ≡ emitted false xs ++ flow false ys
+        → flow owed (x ∷ (xs ++ ys)) ≡ (forth x owed ++ emitted (owed && isInv x) xs) ++ flow (owed && (isInv x && allOf isInv xs)) ys
     go true e h k = flow-inv owed x (xs ++ ys) e ∙ h ∙ unfold forth in sym (rw (e, and-yes owed))
     go false e h k =
         flow-other owed x (xs ++ ys) e ∙ ap (λ (us : Words). (exchangedMark x ∷ cond owed (ascii "inv" ∷ []) []) ++ us) k
         ∙ sym (append-assoc (exchangedMark x ∷ cond owed (ascii "inv" ∷ []) []) (emitted false xs) (flow false ys))
         ∙ unfold forth in sym (rw (e, and-no owed))
 
-pub emitted-append : (owed : Bool) (xs ys : Words) → emitted owed (xs ++ ys) ≡ emitted owed xs ++ emitted (owed && all isInv xs) ys
-unfolding emitted all
+pub emitted-append : (owed : Bool) (xs ys : Words) → emitted owed (xs ++ ys) ≡ emitted owed xs ++ emitted (owed && allOf isInv xs) ys
+unfolding emitted allOf
 emitted-append owed [] ys = rw (and-yes owed)
 emitted-append owed (x ∷ xs) ys =
     ap (λ (us : Words). forth x owed ++ us) (emitted-append (owed && isInv x) xs ys)
-    ∙ sym (append-assoc (forth x owed) (emitted (owed && isInv x) xs) (emitted ((owed && isInv x) && all isInv xs) ys))
-    ∙ ap (λ (b : Bool). (forth x owed ++ emitted (owed && isInv x) xs) ++ emitted b ys) (sym (and-assoc owed (isInv x) (all isInv xs)))
+    ∙ sym (append-assoc (forth x owed) (emitted (owed && isInv x) xs) (emitted ((owed && isInv x) && allOf isInv xs) ys))
+    ∙ ap (λ (b : Bool). (forth x owed ++ emitted (owed && isInv x) xs) ++ emitted b ys) (sym (and-assoc owed (isInv x) (allOf isInv xs)))
 
 pub flow-end : (owed : Bool) → flow owed [] ≡ cond owed (ascii "inv" ∷ []) []
 unfolding flow withoutInv kept atPosition1
@@ -79,13 +79,13 @@ unfolding more kept afterEach joined joinedBy
 more-word true d ds e = rw e
 more-word false d ds e = rw e
 
-pub more-append : (begun : Bool) (ds es : Words) → more begun (ds ++ es) ≡ more begun ds ++ more (begun || any nonEmpty ds) es
-unfolding any
+pub more-append : (begun : Bool) (ds es : Words) → more begun (ds ++ es) ≡ more begun ds ++ more (begun || anyOf nonEmpty ds) es
+unfolding anyOf
 more-append begun [] es = rw (more-none begun, or-no begun)
 more-append begun (d ∷ ds) es = go d (more-append begun ds es) (more-append true ds es)
   where
-    go : (x : Bytes) → more begun (ds ++ es) ≡ more begun ds ++ more (begun || any nonEmpty ds) es → more true (ds ++ es) ≡ more true ds ++ more true es
-        → more begun (x ∷ (ds ++ es)) ≡ more begun (x ∷ ds) ++ more (begun || (nonEmpty x || any nonEmpty ds)) es
+    go : (x : Bytes) → more begun (ds ++ es) ≡ more begun ds ++ more (begun || anyOf nonEmpty ds) es → more true (ds ++ es) ≡ more true ds ++ more true es
+        → more begun (x ∷ (ds ++ es)) ≡ more begun (x ∷ ds) ++ more (begun || (nonEmpty x || anyOf nonEmpty ds)) es
     go [] h k = unfold nonEmpty in more-empty begun (ds ++ es) ∙ h ∙ sym (rw (more-empty begun ds))
     go (y ∷ x) h k =
         more-word begun (y ∷ x) (ds ++ es) (unfold nonEmpty in refl) ∙ ap (λ (t : Bytes). cond begun (32 ∷ y ∷ x) (y ∷ x) ++ t) k

@@ -7,7 +7,7 @@ use native.Mathlib.Omega.{arith}
 use borrow.Author.Tests.{lt-ltb, eqb-true}
 use lib.ListN.{length, length-append}
 use lib.Dec.{eqb, ltb}
-use Rattle.rules.specs.Lists.{all, nonEmpty}
+use Rattle.rules.specs.Lists.{allOf, nonEmpty}
 use Rattle.rules.specs.Text.{Bytes, white, trimStart, trimEnd, trimmed, afterEach, joinedBy}
 use Rattle.laws.specs.Passes.{inWord, keep, trimEnd-cons}
 use Rattle.laws.specs.Separators.{and-left, and-right}
@@ -177,7 +177,7 @@ regroup y t z = sym (append-assoc y (32 ∷ (t ++ (32 ∷ 124 ∷ []))) (32 ∷ 
 
 -- white space behind a byte that is none goes
 space-goes : trimEnd white (32 ∷ []) ≡ []
-unfolding trimEnd all white
+unfolding trimEnd allOf white
 space-goes = refl
 
 end-space : (y : Bytes) → lastFine y ≡ true → trimEnd white (y ++ (32 ∷ [])) ≡ y
@@ -200,13 +200,13 @@ unfolding forth-text afterEach
 forth-more y t u us = regroup y t (forth-text u us)
 
 -- of texts that all are mild, behind a bar: only an empty last one leaves white space
-trim-behind : (y t : Bytes) (ts : List Bytes) → lastFine y ≡ true → all mild (t ∷ ts) ≡ true
+trim-behind : (y t : Bytes) (ts : List Bytes) → lastFine y ≡ true → allOf mild (t ∷ ts) ≡ true
     → trimEnd white (y ++ (32 ∷ forth-text t ts)) ≡ y ++ cond (nonEmpty t || nonEmpty ts) (side false (32 ∷ []) (side false t (following false true ts))) []
 trim-behind y [] [] e m = unfold forth-text afterEach nonEmpty in end-space y e ∙ sym (append-nil y)
-trim-behind y (x ∷ t) [] e m = unfold forth-text afterEach nonEmpty side following in rw (append-nil t) (end-same (y ++ (32 ∷ x ∷ t)) (fine-append y (32 ∷ x ∷ t) (fine-append (32 ∷ []) (x ∷ t) (last-of (x ∷ t) (mild-solid (x ∷ t) (unfold all in and-left (mild (x ∷ t)) true m) (unfold nonEmpty in refl))))))
+trim-behind y (x ∷ t) [] e m = unfold forth-text afterEach nonEmpty side following in rw (append-nil t) (end-same (y ++ (32 ∷ x ∷ t)) (fine-append y (32 ∷ x ∷ t) (fine-append (32 ∷ []) (x ∷ t) (last-of (x ∷ t) (mild-solid (x ∷ t) (unfold allOf in and-left (mild (x ∷ t)) true m) (unfold nonEmpty in refl))))))
 trim-behind y t (u ∷ us) e m =
     ap (trimEnd white) (forth-more y t u us)
-    ∙ trim-behind (y ++ (32 ∷ (t ++ (32 ∷ 124 ∷ [])))) u us (fine-append y (32 ∷ (t ++ (32 ∷ 124 ∷ []))) (fine-append (32 ∷ t) (32 ∷ 124 ∷ []) (unfold lastFine white in refl))) (unfold all in and-right (mild t) (all mild (u ∷ us)) m)
+    ∙ trim-behind (y ++ (32 ∷ (t ++ (32 ∷ 124 ∷ [])))) u us (fine-append y (32 ∷ (t ++ (32 ∷ 124 ∷ []))) (fine-append (32 ∷ t) (32 ∷ 124 ∷ []) (unfold lastFine white in refl))) (unfold allOf in and-right (mild t) (allOf mild (u ∷ us)) m)
     ∙ joins y t u us
 
 -- the same in front of a bar
@@ -227,13 +227,13 @@ back-joins : (y t u : Bytes) (us : List Bytes) → before-it u us ++ (124 ∷ 32
 back-joins y t u us =
     back-regroup (before-it u us) t y ∙ ap (λ (b : Bool). cond b ((((before-it u us ++ (124 ∷ [])) ++ (32 ∷ [])) ++ t) ++ (32 ∷ [])) [] ++ y) (sym (or-yes (nonEmpty t))) ∙ unfold side following nonEmpty in refl
 
-trim-before : (y t : Bytes) (ts : List Bytes) → inWord y ≡ true → all mild (t ∷ ts) ≡ true
+trim-before : (y t : Bytes) (ts : List Bytes) → inWord y ≡ true → allOf mild (t ∷ ts) ≡ true
     → trimStart white (back-text t ts ++ (32 ∷ y)) ≡ cond (nonEmpty t || nonEmpty ts) (side true (32 ∷ []) (side true t (following true true ts))) [] ++ y
 trim-before y [] [] e m = unfold back-text nonEmpty trimStart white in start-same y e
-trim-before y (x ∷ t) [] e m = unfold back-text nonEmpty side following in front-solid (x ∷ t) y (mild-solid (x ∷ t) (unfold all in and-left (mild (x ∷ t)) true m) (unfold nonEmpty in refl))
+trim-before y (x ∷ t) [] e m = unfold back-text nonEmpty side following in front-solid (x ∷ t) y (mild-solid (x ∷ t) (unfold allOf in and-left (mild (x ∷ t)) true m) (unfold nonEmpty in refl))
 trim-before y t (u ∷ us) e m =
     ap (trimStart white) (back-more y t u us)
-    ∙ trim-before (124 ∷ 32 ∷ (t ++ (32 ∷ y))) u us (unfold inWord white in refl) (unfold all in and-right (mild t) (all mild (u ∷ us)) m)
+    ∙ trim-before (124 ∷ 32 ∷ (t ++ (32 ∷ y))) u us (unfold inWord white in refl) (unfold allOf in and-right (mild t) (allOf mild (u ∷ us)) m)
     ∙ back-joins y t u us
 
 -- ---- the whole
@@ -250,17 +250,17 @@ forth-nil : (t : Bytes) → forth-text t [] ≡ t
 unfolding forth-text afterEach
 forth-nil t = append-nil t
 
-one-mild : (t : Bytes) → all mild (t ∷ []) ≡ true → mild t ≡ true
-unfolding all
+one-mild : (t : Bytes) → allOf mild (t ∷ []) ≡ true → mild t ≡ true
+unfolding allOf
 one-mild t m = and-left (mild t) true m
 
-rest-mild : (t u : Bytes) (us : List Bytes) → all mild (t ∷ u ∷ us) ≡ true → all mild (u ∷ us) ≡ true
-unfolding all
-rest-mild t u us m = and-right (mild t) (all mild (u ∷ us)) m
+rest-mild : (t u : Bytes) (us : List Bytes) → allOf mild (t ∷ u ∷ us) ≡ true → allOf mild (u ∷ us) ≡ true
+unfolding allOf
+rest-mild t u us m = and-right (mild t) (allOf mild (u ∷ us)) m
 
-head-solid : (x : ℕ) (t : Bytes) (ts : List Bytes) → all mild ((x ∷ t) ∷ ts) ≡ true → solid (x ∷ t) ≡ true
-unfolding all
-head-solid x t ts m = mild-solid (x ∷ t) (and-left (mild (x ∷ t)) (all mild ts) m) (unfold nonEmpty in refl)
+head-solid : (x : ℕ) (t : Bytes) (ts : List Bytes) → allOf mild ((x ∷ t) ∷ ts) ≡ true → solid (x ∷ t) ≡ true
+unfolding allOf
+head-solid x t ts m = mild-solid (x ∷ t) (and-left (mild (x ∷ t)) (allOf mild ts) m) (unfold nonEmpty in refl)
 
 -- in their order
 forth-empty : (u : Bytes) (us : List Bytes) → trimStart white (forth-text [] (u ∷ us)) ≡ (124 ∷ []) ++ (32 ∷ forth-text u us)
@@ -287,7 +287,7 @@ space-bar-fine : lastFine (32 ∷ 124 ∷ []) ≡ true
 unfolding lastFine white
 space-bar-fine = refl
 
-forth-whole : (t : Bytes) (ts : List Bytes) → all mild (t ∷ ts) ≡ true → trimmed white (forth-text t ts) ≡ whole false (t ∷ ts)
+forth-whole : (t : Bytes) (ts : List Bytes) → allOf mild (t ∷ ts) ≡ true → trimmed white (forth-text t ts) ≡ whole false (t ∷ ts)
 unfolding trimmed
 forth-whole t [] m = ap (trimmed white) (forth-nil t) ∙ mild-none t (one-mild t m) ∙ sym (whole-one false t)
 forth-whole [] (u ∷ us) m = ap (trimEnd white) (forth-empty u us) ∙ trim-behind (124 ∷ []) u us bar-fine (rest-mild [] u us m) ∙ sym (whole-empty u us)
@@ -303,7 +303,7 @@ back-nil : (t : Bytes) → back-text t [] ≡ t
 unfolding back-text
 back-nil t = refl
 
-back-first : (t u : Bytes) (us : List Bytes) → all mild (t ∷ u ∷ us) ≡ true → trimStart white (back-text t (u ∷ us)) ≡ before-it u us ++ (124 ∷ 32 ∷ t)
+back-first : (t u : Bytes) (us : List Bytes) → allOf mild (t ∷ u ∷ us) ≡ true → trimStart white (back-text t (u ∷ us)) ≡ before-it u us ++ (124 ∷ 32 ∷ t)
 unfolding back-text
 back-first t u us m = trim-before (124 ∷ 32 ∷ t) u us (unfold inWord white in refl) (rest-mild t u us m)
 
@@ -315,7 +315,7 @@ whole-back-first : (x : ℕ) (t u : Bytes) (us : List Bytes) → whole true ((x 
 unfolding whole following side nonEmpty
 whole-back-first x t u us = append-assoc (before-it u us ++ (124 ∷ [])) (32 ∷ []) (x ∷ t) ∙ append-assoc (before-it u us) (124 ∷ []) (32 ∷ x ∷ t)
 
-back-whole : (t : Bytes) (ts : List Bytes) → all mild (t ∷ ts) ≡ true → trimmed white (back-text t ts) ≡ whole true (t ∷ ts)
+back-whole : (t : Bytes) (ts : List Bytes) → allOf mild (t ∷ ts) ≡ true → trimmed white (back-text t ts) ≡ whole true (t ∷ ts)
 unfolding trimmed
 back-whole t [] m = ap (trimmed white) (back-nil t) ∙ mild-none t (one-mild t m) ∙ sym (whole-one true t)
 back-whole [] (u ∷ us) m =
@@ -353,7 +353,7 @@ forth-is : (t : Bytes) (ts : List Bytes) → joinedBy sep (t ∷ ts) ≡ forth-t
 unfolding joinedBy forth-text
 forth-is t ts = refl
 
-pub whole-is : (back : Bool) (ts : List Bytes) → all mild ts ≡ true → trimmed white (joinedBy (32 ∷ 124 ∷ 32 ∷ []) (cond back (reverse ts) ts)) ≡ whole back ts
+pub whole-is : (back : Bool) (ts : List Bytes) → allOf mild ts ≡ true → trimmed white (joinedBy (32 ∷ 124 ∷ 32 ∷ []) (cond back (reverse ts) ts)) ≡ whole back ts
 whole-is true [] m = unfold trimmed trimStart trimEnd joinedBy whole in refl
 whole-is false [] m = unfold trimmed trimStart trimEnd joinedBy whole in refl
 whole-is true (t ∷ ts) m = ap (λ (vs : List Bytes). trimmed white (joinedBy sep vs)) (reverseAux-eq ts (t ∷ [])) ∙ ap (trimmed white) (back-is t ts) ∙ back-whole t ts m

@@ -4,7 +4,7 @@ use mathlib.Core.Bool.{Bool, true, false, cond, not, _&&_, _||_, false≢true}
 use mathlib.Core.List.{[], _∷_, _++_, map, append-nil}
 use Prim.Native.Nat.{ℕ}
 use Rattle.rules.specs.Ascii.{ascii}
-use Rattle.rules.specs.Lists.{all, kept, nonEmpty}
+use Rattle.rules.specs.Lists.{allOf, kept, nonEmpty}
 use Rattle.rules.specs.Text.{Bytes, Words, white, same, trimStart, trimEnd, trimmed, afterEach, joinedBy, joined}
 use Rattle.rules.specs.Translate.{atPosition1, exchangedMark, withoutInv, notInv, Pipeline, withGlobals}
 use Rattle.laws.specs.Passes.{inWord, keep, trimEnd-cons}
@@ -29,7 +29,7 @@ mild w = not (nonEmpty w) || solid w
 -- elements of which only the first may be empty
 unfoldable pub fine : Words → Bool
 fine [] = true
-fine (x ∷ xs) = mild x && all solid xs
+fine (x ∷ xs) = mild x && allOf solid xs
 
 -- ---- trimming
 
@@ -64,31 +64,31 @@ unfolding inWord
 front-append [] b e = absurd (false≢true e)
 front-append (x ∷ a) b e = e
 
-after-fine : (w : Bytes) (ws : Words) → lastFine w ≡ true → all solid ws ≡ true → lastFine (w ++ afterEach (32 ∷ []) ws) ≡ true
-unfolding all afterEach
+after-fine : (w : Bytes) (ws : Words) → lastFine w ≡ true → allOf solid ws ≡ true → lastFine (w ++ afterEach (32 ∷ []) ws) ≡ true
+unfolding allOf afterEach
 after-fine w [] e f = rw (append-nil w) e
 after-fine w (v ∷ ws) e f =
-    let s = and-left (solid v) (all solid ws) f in
-    fine-append w (32 ∷ (v ++ afterEach (32 ∷ []) ws)) (fine-append (32 ∷ []) (v ++ afterEach (32 ∷ []) ws) (after-fine v ws (unfold solid in and-right (inWord v) (lastFine v) s) (and-right (solid v) (all solid ws) f)))
+    let s = and-left (solid v) (allOf solid ws) f in
+    fine-append w (32 ∷ (v ++ afterEach (32 ∷ []) ws)) (fine-append (32 ∷ []) (v ++ afterEach (32 ∷ []) ws) (after-fine v ws (unfold solid in and-right (inWord v) (lastFine v) s) (and-right (solid v) (allOf solid ws) f)))
 
-pub joined-solid : (w : Bytes) (ws : Words) → all solid (w ∷ ws) ≡ true → solid (joined (w ∷ ws)) ≡ true
-unfolding all solid joined joinedBy
+pub joined-solid : (w : Bytes) (ws : Words) → allOf solid (w ∷ ws) ≡ true → solid (joined (w ∷ ws)) ≡ true
+unfolding allOf solid joined joinedBy
 joined-solid w ws e =
-    let s = and-left (solid w) (all solid ws) e in
-    both (front-append w (afterEach (32 ∷ []) ws) (and-left (inWord w) (lastFine w) s)) (after-fine w ws (and-right (inWord w) (lastFine w) s) (and-right (solid w) (all solid ws) e))
+    let s = and-left (solid w) (allOf solid ws) e in
+    both (front-append w (afterEach (32 ∷ []) ws) (and-left (inWord w) (lastFine w) s)) (after-fine w ws (and-right (inWord w) (lastFine w) s) (and-right (solid w) (allOf solid ws) e))
 
 solid-some : (w : Bytes) → solid w ≡ true → nonEmpty w ≡ true
 unfolding solid inWord nonEmpty
 solid-some [] e = absurd (false≢true e)
 solid-some (x ∷ w) e = refl
 
-kept-solid : (ws : Words) → all solid ws ≡ true → kept nonEmpty ws ≡ ws
-unfolding all kept
+kept-solid : (ws : Words) → allOf solid ws ≡ true → kept nonEmpty ws ≡ ws
+unfolding allOf kept
 kept-solid [] e = refl
-kept-solid (w ∷ ws) e = rw (solid-some w (and-left (solid w) (all solid ws) e)) (ap (λ (us : Words). w ∷ us) (kept-solid ws (and-right (solid w) (all solid ws) e)))
+kept-solid (w ∷ ws) e = rw (solid-some w (and-left (solid w) (allOf solid ws) e)) (ap (λ (us : Words). w ∷ us) (kept-solid ws (and-right (solid w) (allOf solid ws) e)))
 
 -- an empty first element
-trim-after : (ws : Words) → all solid ws ≡ true → trimmed white (afterEach (32 ∷ []) ws) ≡ joined ws
+trim-after : (ws : Words) → allOf solid ws ≡ true → trimmed white (afterEach (32 ∷ []) ws) ≡ joined ws
 unfolding trimmed
 trim-after [] e = unfold trimStart trimEnd afterEach joined joinedBy in refl
 trim-after (w ∷ ws) e = ap (trimEnd white) first ∙ unfold solid in end-same (joined (w ∷ ws)) (and-right (inWord (joined (w ∷ ws))) (lastFine (joined (w ∷ ws))) s)
@@ -104,12 +104,12 @@ unfolding fine more joined joinedBy
 trim-joined [] e = unfold trimmed trimStart trimEnd kept joined joinedBy in refl
 trim-joined ([] ∷ ws) e = trim-after ws s ∙ sym (unfold kept nonEmpty in ap joined (kept-solid ws s))
   where
-    s : all solid ws ≡ true
-    s = and-right (mild []) (all solid ws) e
+    s : allOf solid ws ≡ true
+    s = and-right (mild []) (allOf solid ws) e
 trim-joined ((x ∷ w) ∷ ws) e = solid-same (joined ((x ∷ w) ∷ ws)) (joined-solid (x ∷ w) ws s) ∙ sym (ap joined (kept-solid ((x ∷ w) ∷ ws) s))
   where
-    s : all solid ((x ∷ w) ∷ ws) ≡ true
-    s = unfold all mild nonEmpty in e
+    s : allOf solid ((x ∷ w) ∷ ws) ≡ true
+    s = unfold allOf mild nonEmpty in e
 
 -- ---- elements
 
@@ -121,29 +121,29 @@ pub mild-solid : (w : Bytes) → mild w ≡ true → nonEmpty w ≡ true → sol
 unfolding mild
 mild-solid w e f = sym (rw f) ∙ e
 
-pub solid-fine : (ws : Words) → all solid ws ≡ true → fine ws ≡ true
-unfolding fine all
+pub solid-fine : (ws : Words) → allOf solid ws ≡ true → fine ws ≡ true
+unfolding fine allOf
 solid-fine [] e = refl
-solid-fine (w ∷ ws) e = both (solid-mild w (and-left (solid w) (all solid ws) e)) (and-right (solid w) (all solid ws) e)
+solid-fine (w ∷ ws) e = both (solid-mild w (and-left (solid w) (allOf solid ws) e)) (and-right (solid w) (allOf solid ws) e)
 
 -- the text of elements
-kept-fine : (ws : Words) → fine ws ≡ true → all solid (kept nonEmpty ws) ≡ true
-unfolding fine all kept
+kept-fine : (ws : Words) → fine ws ≡ true → allOf solid (kept nonEmpty ws) ≡ true
+unfolding fine allOf kept
 kept-fine [] e = refl
 kept-fine (w ∷ ws) e = go (nonEmpty w) refl
   where
-    rest : all solid (kept nonEmpty ws) ≡ true
-    rest = all-kept solid nonEmpty ws (and-right (mild w) (all solid ws) e)
+    rest : allOf solid (kept nonEmpty ws) ≡ true
+    rest = all-kept solid nonEmpty ws (and-right (mild w) (allOf solid ws) e)
 
-    go : (b : Bool) → nonEmpty w ≡ b → all solid (cond b (w ∷ kept nonEmpty ws) (kept nonEmpty ws)) ≡ true
-    go true f = unfold all in both (mild-solid w (and-left (mild w) (all solid ws) e) f) rest
+    go : (b : Bool) → nonEmpty w ≡ b → allOf solid (cond b (w ∷ kept nonEmpty ws) (kept nonEmpty ws)) ≡ true
+    go true f = unfold allOf in both (mild-solid w (and-left (mild w) (allOf solid ws) e) f) rest
     go false f = rest
 
 pub more-mild : (ws : Words) → fine ws ≡ true → mild (more false ws) ≡ true
 unfolding more
 more-mild ws e = go (kept nonEmpty ws) (kept-fine ws e)
   where
-    go : (us : Words) → all solid us ≡ true → mild (joined us) ≡ true
+    go : (us : Words) → allOf solid us ≡ true → mild (joined us) ≡ true
     go [] f = unfold joined joinedBy mild nonEmpty in refl
     go (u ∷ us) f = solid-mild (joined (u ∷ us)) (joined-solid u us f)
 
@@ -153,11 +153,11 @@ unfolding kept
 fine-kept test [] e = e
 fine-kept test (w ∷ ws) e = go (test w) (unfold fine in e)
   where
-    rest : (mild w && all solid ws) ≡ true → all solid (kept test ws) ≡ true
-    rest f = all-kept solid test ws (and-right (mild w) (all solid ws) f)
+    rest : (mild w && allOf solid ws) ≡ true → allOf solid (kept test ws) ≡ true
+    rest f = all-kept solid test ws (and-right (mild w) (allOf solid ws) f)
 
-    go : (b : Bool) → (mild w && all solid ws) ≡ true → fine (cond b (w ∷ kept test ws) (kept test ws)) ≡ true
-    go true f = unfold fine in both (and-left (mild w) (all solid ws) f) (rest f)
+    go : (b : Bool) → (mild w && allOf solid ws) ≡ true → fine (cond b (w ∷ kept test ws) (kept test ws)) ≡ true
+    go true f = unfold fine in both (and-left (mild w) (allOf solid ws) f) (rest f)
     go false f = solid-fine (kept test ws) (rest f)
 
 mark-solid : (w : Bytes) → solid w ≡ true → solid (exchangedMark w) ≡ true
@@ -178,20 +178,20 @@ mark-mild w e = go (same w (ascii "omit_fwd")) (same w (ascii "omit_inv"))
     go false true = unfold mild nonEmpty solid ascii inWord lastFine white in refl
     go false false = e
 
-marks-solid : (ws : Words) → all solid ws ≡ true → all solid (map exchangedMark ws) ≡ true
-unfolding all
+marks-solid : (ws : Words) → allOf solid ws ≡ true → allOf solid (map exchangedMark ws) ≡ true
+unfolding allOf
 marks-solid [] e = refl
-marks-solid (w ∷ ws) e = both (mark-solid w (and-left (solid w) (all solid ws) e)) (marks-solid ws (and-right (solid w) (all solid ws) e))
+marks-solid (w ∷ ws) e = both (mark-solid w (and-left (solid w) (allOf solid ws) e)) (marks-solid ws (and-right (solid w) (allOf solid ws) e))
 
 fine-marks : (ws : Words) → fine ws ≡ true → fine (map exchangedMark ws) ≡ true
 unfolding fine
 fine-marks [] e = refl
-fine-marks (w ∷ ws) e = both (mark-mild w (and-left (mild w) (all solid ws) e)) (marks-solid ws (and-right (mild w) (all solid ws) e))
+fine-marks (w ∷ ws) e = both (mark-mild w (and-left (mild w) (allOf solid ws) e)) (marks-solid ws (and-right (mild w) (allOf solid ws) e))
 
 fine-position : (v : Bytes) (ws : Words) → solid v ≡ true → fine ws ≡ true → fine (atPosition1 v ws) ≡ true
-unfolding fine atPosition1 all
+unfolding fine atPosition1 allOf
 fine-position v [] s e = both (solid-mild v s) refl
-fine-position v (w ∷ ws) s e = both (and-left (mild w) (all solid ws) e) (both s (and-right (mild w) (all solid ws) e))
+fine-position v (w ∷ ws) s e = both (and-left (mild w) (allOf solid ws) e) (both s (and-right (mild w) (allOf solid ws) e))
 
 pub fine-flow : (owed : Bool) (ws : Words) → fine ws ≡ true → fine (flow owed ws) ≡ true
 unfolding flow withoutInv

@@ -7,7 +7,7 @@ use native.Mathlib.Omega.{arith}
 use borrow.Author.Tests.{eqb-true}
 use lib.ListN.{length, drop}
 use lib.Dec.{eqb}
-use Rattle.rules.specs.Lists.{any, all, kept, nonEmpty}
+use Rattle.rules.specs.Lists.{anyOf, allOf, kept, nonEmpty}
 use Rattle.rules.specs.Text.{Bytes, starts}
 use Rattle.laws.specs.Separators.{and-left, and-right}
 
@@ -36,15 +36,15 @@ and-assoc true b c = refl
 and-assoc false b c = refl
 
 module _ {A : Type 0} (test : A → Bool) where
-  pub any-append : (l k : List A) → any test (l ++ k) ≡ (any test l || any test k)
-  unfolding any
+  pub any-append : (l k : List A) → anyOf test (l ++ k) ≡ (anyOf test l || anyOf test k)
+  unfolding anyOf
   any-append [] k = refl
-  any-append (x ∷ l) k = ap (λ (b : Bool). test x || b) (any-append l k) ∙ or-assoc (test x) (any test l) (any test k)
+  any-append (x ∷ l) k = ap (λ (b : Bool). test x || b) (any-append l k) ∙ or-assoc (test x) (anyOf test l) (anyOf test k)
 
-  pub all-append : (l k : List A) → all test (l ++ k) ≡ (all test l && all test k)
-  unfolding all
+  pub all-append : (l k : List A) → allOf test (l ++ k) ≡ (allOf test l && allOf test k)
+  unfolding allOf
   all-append [] k = refl
-  all-append (x ∷ l) k = ap (λ (b : Bool). test x && b) (all-append l k) ∙ and-assoc (test x) (all test l) (all test k)
+  all-append (x ∷ l) k = ap (λ (b : Bool). test x && b) (all-append l k) ∙ and-assoc (test x) (allOf test l) (allOf test k)
 
 -- a word that begins with one key does not begin with another whose first byte is another
 pub starts-other : (p q : ℕ) (ps qs w : Bytes) → starts (p ∷ ps) w ≡ true → eqb p q ≡ false → starts (q ∷ qs) w ≡ false
@@ -69,32 +69,32 @@ pub both : {a b : Bool} → a ≡ true → b ≡ true → (a && b) ≡ true
 both e f = rw (e, f)
 
 module _ {A : Type 0} (test : A → Bool) where
-  pub all-kept : (which : A → Bool) (l : List A) → all test l ≡ true → all test (kept which l) ≡ true
-  unfolding all kept
+  pub all-kept : (which : A → Bool) (l : List A) → allOf test l ≡ true → allOf test (kept which l) ≡ true
+  unfolding allOf kept
   all-kept which [] e = refl
-  all-kept which (x ∷ l) e = go (which x) (all-kept which l (and-right (test x) (all test l) e))
+  all-kept which (x ∷ l) e = go (which x) (all-kept which l (and-right (test x) (allOf test l) e))
     where
-      go : (b : Bool) → all test (kept which l) ≡ true → all test (cond b (x ∷ kept which l) (kept which l)) ≡ true
-      go true h = both (and-left (test x) (all test l) e) h
+      go : (b : Bool) → allOf test (kept which l) ≡ true → allOf test (cond b (x ∷ kept which l) (kept which l)) ≡ true
+      go true h = both (and-left (test x) (allOf test l) e) h
       go false h = h
 
-  pub all-drop : (n : ℕ) (l : List A) → all test l ≡ true → all test (drop n l) ≡ true
-  unfolding all
+  pub all-drop : (n : ℕ) (l : List A) → allOf test l ≡ true → allOf test (drop n l) ≡ true
+  unfolding allOf
   all-drop zero l e = e
   all-drop (suc n) [] e = refl
-  all-drop (suc n) (x ∷ l) e = all-drop n l (and-right (test x) (all test l) e)
+  all-drop (suc n) (x ∷ l) e = all-drop n l (and-right (test x) (allOf test l) e)
 
-  pub all-each : (other : A → Bool) → ((x : A) → test x ≡ true → other x ≡ true) → (l : List A) → all test l ≡ true → all other l ≡ true
-  unfolding all
+  pub all-each : (other : A → Bool) → ((x : A) → test x ≡ true → other x ≡ true) → (l : List A) → allOf test l ≡ true → allOf other l ≡ true
+  unfolding allOf
   all-each other f [] e = refl
-  all-each other f (x ∷ l) e = both (f x (and-left (test x) (all test l) e)) (all-each other f l (and-right (test x) (all test l) e))
+  all-each other f (x ∷ l) e = both (f x (and-left (test x) (allOf test l) e)) (all-each other f l (and-right (test x) (allOf test l) e))
 
-  pub kept-all : (l : List A) → all test (kept test l) ≡ true
-  unfolding all kept
+  pub kept-all : (l : List A) → allOf test (kept test l) ≡ true
+  unfolding allOf kept
   kept-all [] = refl
   kept-all (x ∷ l) = go (test x) refl (kept-all l)
     where
-      go : (b : Bool) → test x ≡ b → all test (kept test l) ≡ true → all test (cond b (x ∷ kept test l) (kept test l)) ≡ true
+      go : (b : Bool) → test x ≡ b → allOf test (kept test l) ≡ true → allOf test (cond b (x ∷ kept test l) (kept test l)) ≡ true
       go true e h = both e h
       go false e h = h
 

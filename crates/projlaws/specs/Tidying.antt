@@ -8,7 +8,7 @@ use borrow.Author.Tests.{lt-ltb, ltb-true, ltb-false, ne-eqb, eq-eqb}
 use lib.ListN.{drop}
 use lib.Dec.{eqb, ltb}
 use Rattle.rules.specs.Ascii.{ascii}
-use Rattle.rules.specs.Lists.{any}
+use Rattle.rules.specs.Lists.{anyOf}
 use Rattle.rules.specs.Text.{Bytes, Words, starts}
 use Rattle.rules.specs.Proj.{hasKey, lastOf, withoutLast, composed, ellipsoid, scale, exchanged, tidied}
 use Rattle.projlaws.specs.Tests.{starts-other}
@@ -187,16 +187,16 @@ rest-nothing a rf still = rw (without-nil (ascii "a=") a, without-nil (ascii "rf
 
 module _ (key : Bytes) where
   pub has-count : (ws : Words) → hasKey key ws ≡ ltb 0 (countOf key ws)
-  unfolding hasKey any countOf
+  unfolding hasKey anyOf countOf
   has-count [] = refl
   has-count (w ∷ ws) = go (starts key w) (has-count ws)
     where
-      go : (b : Bool) → any (starts key) ws ≡ ltb 0 (countOf key ws) → (b || any (starts key) ws) ≡ ltb 0 (cond b (suc (countOf key ws)) (countOf key ws))
+      go : (b : Bool) → anyOf (starts key) ws ≡ ltb 0 (countOf key ws) → (b || anyOf (starts key) ws) ≡ ltb 0 (cond b (suc (countOf key ws)) (countOf key ws))
       go true h = sym (lt-ltb 0 (suc (countOf key ws)) (omega arith))
       go false h = h
 
   last-same : (us : Words) (u : Bytes) → hasKey key us ≡ false → lastFrom key u us ≡ u
-  unfolding hasKey any lastFrom
+  unfolding hasKey anyOf lastFrom
   last-same [] u f = refl
   last-same (x ∷ us) u f = turn (starts key x) f (last-same us u)
     where
@@ -205,7 +205,7 @@ module _ (key : Bytes) where
       turn false g h = h g
 
   pub last-from : (ws : Words) (w : Bytes) → hasKey key ws ≡ true → lastFrom key w ws ≡ lastOf key ws
-  unfolding hasKey any lastFrom lastOf
+  unfolding hasKey anyOf lastFrom lastOf
   last-from [] w e = absurd (false≢true e)
   last-from (v ∷ ws) w e = go (hasKey key ws) refl (starts key v) e (last-from ws)
     where
@@ -216,7 +216,7 @@ module _ (key : Bytes) where
       go false f false g h = absurd (false≢true (sym f ∙ g))
 
   pub last-starts : (ws : Words) → hasKey key ws ≡ true → starts key (lastOf key ws) ≡ true
-  unfolding hasKey any lastOf
+  unfolding hasKey anyOf lastOf
   last-starts [] e = absurd (false≢true e)
   last-starts (w ∷ ws) e = go (hasKey key ws) refl (starts key w) refl e (last-starts ws)
     where
@@ -236,7 +236,7 @@ module _ (key : Bytes) where
 
   -- the last of them is the so-manieth
   pub without-count : (ws : Words) → hasKey key ws ≡ true → without (countOf key ws) key ws ≡ withoutLast key ws
-  unfolding hasKey any withoutLast countOf
+  unfolding hasKey anyOf withoutLast countOf
   without-count [] e = absurd (false≢true e)
   without-count (w ∷ ws) e = go (hasKey key ws) refl (starts key w) refl e (without-count ws)
     where
@@ -251,13 +251,13 @@ module _ (key : Bytes) where
 
   -- a test that no word passes which begins with the key
   module _ (test : Bytes → Bool) (n : (w : Bytes) → starts key w ≡ true → test w ≡ false) where
-    pub without-any : (ws : Words) → hasKey key ws ≡ true → any test (withoutLast key ws) ≡ any test ws
-    unfolding hasKey any withoutLast
+    pub without-any : (ws : Words) → hasKey key ws ≡ true → anyOf test (withoutLast key ws) ≡ anyOf test ws
+    unfolding hasKey anyOf withoutLast
     without-any [] e = absurd (false≢true e)
     without-any (w ∷ ws) e = go (hasKey key ws) refl (starts key w) refl e (without-any ws)
       where
-        go : (d : Bool) → hasKey key ws ≡ d → (b : Bool) → starts key w ≡ b → (b || hasKey key ws) ≡ true → (hasKey key ws ≡ true → any test (withoutLast key ws) ≡ any test ws)
-            → any test (cond d (w ∷ withoutLast key ws) ws) ≡ (test w || any test ws)
+        go : (d : Bool) → hasKey key ws ≡ d → (b : Bool) → starts key w ≡ b → (b || hasKey key ws) ≡ true → (hasKey key ws ≡ true → anyOf test (withoutLast key ws) ≡ anyOf test ws)
+            → anyOf test (cond d (w ∷ withoutLast key ws) ws) ≡ (test w || anyOf test ws)
         go true f b k g h = ap (λ (x : Bool). test w || x) (h f)
         go false f true k g h = sym (rw (n w k))
         go false f false k g h = absurd (false≢true (sym f ∙ g))
@@ -265,7 +265,7 @@ module _ (key : Bytes) where
 -- the same of words that begin with another key
 pub without-key : (key other : Bytes) → ((w : Bytes) → starts key w ≡ true → starts other w ≡ false) → (ws : Words) → hasKey key ws ≡ true
     → countOf other (withoutLast key ws) ≡ countOf other ws
-unfolding hasKey any withoutLast countOf
+unfolding hasKey anyOf withoutLast countOf
 without-key key other n [] e = absurd (false≢true e)
 without-key key other n (w ∷ ws) e = go (hasKey key ws) refl (starts key w) refl e (without-key key other n ws)
   where

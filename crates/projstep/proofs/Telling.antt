@@ -6,7 +6,7 @@ use Prim.Native.Nat.{ℕ, _+_, _-_, _≤_}
 use native.Mathlib.Omega.{arith}
 use lib.ListN.{length, drop}
 use Rattle.rules.specs.Ascii.{ascii}
-use Rattle.rules.specs.Lists.{any, all, nonEmpty}
+use Rattle.rules.specs.Lists.{anyOf, allOf, nonEmpty}
 use Rattle.rules.specs.Text.{Bytes, Words, starts, words}
 use Rattle.rules.specs.Proj.{exchanged, hasKey, composed, ellipsoid, scale, withoutLast, lastOf, tidied}
 use Rattle.rules.specs.Translate.{isInv, atPosition1, withGlobals}
@@ -26,11 +26,11 @@ use Rattle.projstep.specs.declared.Fate.{Fate}
 -- ---- elements that are left
 
 -- of all elements, xs are left, and what was written before them stands there
-pub record Going (write : Bool) (all xs : Words) (pen₀ pen : Pen) (dst₀ dst : Bytes) : Type 0 where
+pub record Going (write : Bool) (allOf xs : Words) (pen₀ pen : Pen) (dst₀ dst : Bytes) : Type 0 where
   pub done : Bytes
   pub adds : Adds write done dst₀ (pen₀ .o) (pen .o) dst
-  pub right : done ++ more (pen .begun) (flow (pen .owed) xs) ≡ more (pen₀ .begun) (flow (pen₀ .owed) all)
-  pub room : RoomForAll write all pen₀ dst₀
+  pub right : done ++ more (pen .begun) (flow (pen .owed) xs) ≡ more (pen₀ .begun) (flow (pen₀ .owed) allOf)
+  pub room : RoomForAll write allOf pen₀ dst₀
 
 pub going-start : {write : Bool} {xs : Words} {pen : Pen} {dst : Bytes} → RoomForAll write xs pen dst → Going write xs xs pen pen dst dst
 going-start {write} {xs} {pen} {dst} h = record { done = []; adds = adds-nothing dst (pen .o) write; right = refl; room = h }
@@ -50,18 +50,18 @@ module _ {write : Bool} {al xs : Words} {pen₀ pen : Pen} {dst₀ dst : Bytes} 
   going-end m = record { adds = adds-as (g .right) (adds-both (g .done) (more (pen .begun) (flow (pen .owed) xs)) going-room (g .adds) (m .adds)) }
 
 module _ {write : Bool} {al : Words} (xs ys : Words) {pen₀ pen : Pen} {dst₀ dst : Bytes} (g : Going write al (xs ++ ys) pen₀ pen dst₀ dst) where
-  apart : more (pen .begun) (flow (pen .owed) (xs ++ ys)) ≡ more (pen .begun) (emitted (pen .owed) xs) ++ more (pen .begun || any nonEmpty (emitted (pen .owed) xs)) (flow (pen .owed && all isInv xs) ys)
-  apart = ap (more (pen .begun)) (flow-append (pen .owed) xs ys) ∙ more-append (pen .begun) (emitted (pen .owed) xs) (flow (pen .owed && all isInv xs) ys)
+  apart : more (pen .begun) (flow (pen .owed) (xs ++ ys)) ≡ more (pen .begun) (emitted (pen .owed) xs) ++ more (pen .begun || anyOf nonEmpty (emitted (pen .owed) xs)) (flow (pen .owed && allOf isInv xs) ys)
+  apart = ap (more (pen .begun)) (flow-append (pen .owed) xs ys) ∙ more-append (pen .begun) (emitted (pen .owed) xs) (flow (pen .owed && allOf isInv xs) ys)
 
-  left-room : Room write (more (pen .begun) (emitted (pen .owed) xs) ++ more (pen .begun || any nonEmpty (emitted (pen .owed) xs)) (flow (pen .owed && all isInv xs) ys)) (pen .o) dst
+  left-room : Room write (more (pen .begun) (emitted (pen .owed) xs) ++ more (pen .begun || anyOf nonEmpty (emitted (pen .owed) xs)) (flow (pen .owed && allOf isInv xs) ys)) (pen .o) dst
   left-room = room-as apart (going-left g .fits .room)
 
   pub going-first : RoomFor write xs pen dst
-  going-first = record { fits = record { room = first-room (more (pen .begun) (emitted (pen .owed) xs)) (more (pen .begun || any nonEmpty (emitted (pen .owed) xs)) (flow (pen .owed && all isInv xs) ys)) left-room } }
+  going-first = record { fits = record { room = first-room (more (pen .begun) (emitted (pen .owed) xs)) (more (pen .begun || anyOf nonEmpty (emitted (pen .owed) xs)) (flow (pen .owed && allOf isInv xs) ys)) left-room } }
 
   pub going-part : {r : Pen} {dst′ : Bytes} → Pens write xs pen dst r dst′ → Going write al ys pen₀ r dst₀ dst′
   going-part {r} {dst′} m =
-      let e : more (r .begun) (flow (r .owed) ys) ≡ more (pen .begun || any nonEmpty (emitted (pen .owed) xs)) (flow (pen .owed && all isInv xs) ys) = rw (m .emits .begun, m .emits .owes) in
+      let e : more (r .begun) (flow (r .owed) ys) ≡ more (pen .begun || anyOf nonEmpty (emitted (pen .owed) xs)) (flow (pen .owed && allOf isInv xs) ys) = rw (m .emits .begun, m .emits .owes) in
       let w : Room write (g .done ++ (more (pen .begun) (emitted (pen .owed) xs) ++ more (r .begun) (flow (r .owed) ys))) (pen₀ .o) dst₀ = rw (e, ← apart) (going-room g) in
       let v : Room write ((g .done ++ more (pen .begun) (emitted (pen .owed) xs)) ++ more (r .begun) (flow (r .owed) ys)) (pen₀ .o) dst₀ = room-as (sym (append-assoc (g .done) (more (pen .begun) (emitted (pen .owed) xs)) (more (r .begun) (flow (r .owed) ys)))) w in
       record {

@@ -5,7 +5,7 @@ use mathlib.Core.List.{[], _∷_}
 use Prim.Native.Nat.{ℕ, zero, suc, _+_, _≤_, _<_}
 use native.Mathlib.Omega.{arith}
 use lib.ListN.{length, drop}
-use Rattle.rules.specs.Lists.{any, all, nonEmpty}
+use Rattle.rules.specs.Lists.{anyOf, allOf, nonEmpty}
 use Rattle.rules.specs.Text.{Bytes, Words, white, starts, words}
 use Rattle.rules.specs.Ascii.{ascii}
 use Rattle.rules.specs.Proj.{isProj, firstProj, inItsPlace, exchanged}
@@ -59,9 +59,9 @@ module _ {w : Bytes} {m : Marks} where
 pub record Marking (s : Bytes) (h : Head) (stage k : ℕ) (m : Marks) : Type 0 where
   pub head : IsHead s h
   pub within : k ≤ length s
-  pub inv : any isInv (exchanged (words s)) ≡ (m .inv || any isInv (elements s h stage k))
-  pub only : all isInv (exchanged (words s)) ≡ (m .only && all isInv (elements s h stage k))
-  pub some : any nonEmpty (exchanged (words s)) ≡ (m .some || any nonEmpty (elements s h stage k))
+  pub inv : anyOf isInv (exchanged (words s)) ≡ (m .inv || anyOf isInv (elements s h stage k))
+  pub only : allOf isInv (exchanged (words s)) ≡ (m .only && allOf isInv (elements s h stage k))
+  pub some : anyOf nonEmpty (exchanged (words s)) ≡ (m .some || anyOf nonEmpty (elements s h stage k))
 
 pub marking-start : {s : Bytes} {h : Head} → IsHead s h → Marking s h 0 0 (record { inv = false; only = true; some = false })
 unfolding elements
@@ -69,24 +69,24 @@ marking-start m = record { head = m; within = omega arith; inv = refl; only = re
 
 module _ {s : Bytes} {h : Head} {stage k : ℕ} {m : Marks} (i : Marking s h stage k m) where
   pub marking-end : elements s h stage k ≡ [] → IsMarks (exchanged (words s)) m
-  unfolding any all
+  unfolding anyOf allOf
   marking-end e = record {
-    inv = sym (or-no (m .inv)) ∙ sym (i .inv ∙ ap (λ (ws : Words). m .inv || any isInv ws) e);
-    only = sym (and-yes (m .only)) ∙ sym (i .only ∙ ap (λ (ws : Words). m .only && all isInv ws) e);
-    some = sym (or-no (m .some)) ∙ sym (i .some ∙ ap (λ (ws : Words). m .some || any nonEmpty ws) e);
+    inv = sym (or-no (m .inv)) ∙ sym (i .inv ∙ ap (λ (ws : Words). m .inv || anyOf isInv ws) e);
+    only = sym (and-yes (m .only)) ∙ sym (i .only ∙ ap (λ (ws : Words). m .only && allOf isInv ws) e);
+    some = sym (or-no (m .some)) ∙ sym (i .some ∙ ap (λ (ws : Words). m .some || anyOf nonEmpty ws) e);
   }
 
   pub marking-next : {from to then next : ℕ} {r : Marks} → IsElement s h stage k from to then next → Marked (part from to s) m r → Marking s h next then r
-  unfolding any all
+  unfolding anyOf allOf
   marking-next {from} {to} {then} {next} {r} e w =
       let x = part from to s in
       let ws = elements s h next then in
       record {
         head = i .head;
         within = e .onward;
-        inv = i .inv ∙ rw (e .here, w .inv) (or-assoc (m .inv) (isInv x) (any isInv ws));
-        only = i .only ∙ rw (e .here, w .only) (and-assoc (m .only) (isInv x) (all isInv ws));
-        some = i .some ∙ rw (e .here, w .some) (or-assoc (m .some) (nonEmpty x) (any nonEmpty ws));
+        inv = i .inv ∙ rw (e .here, w .inv) (or-assoc (m .inv) (isInv x) (anyOf isInv ws));
+        only = i .only ∙ rw (e .here, w .only) (and-assoc (m .only) (isInv x) (allOf isInv ws));
+        some = i .some ∙ rw (e .here, w .some) (or-assoc (m .some) (nonEmpty x) (anyOf nonEmpty ws));
       }
 
 -- the walk ends
@@ -122,7 +122,7 @@ place-few v (w ∷ ws) = go (isProj w) (place-few v ws)
 exchanged-few : (ws : Words) → length (exchanged ws) ≡ length ws
 unfolding exchanged
 exchanged-few [] = refl
-exchanged-few (w ∷ ws) = go (isProj w) (any isProj ws)
+exchanged-few (w ∷ ws) = go (isProj w) (anyOf isProj ws)
   where
     go : (b d : Bool) → length (cond b (drop 5 w ∷ ws) (cond d (drop 5 (firstProj ws) ∷ inItsPlace w ws) (w ∷ ws))) ≡ suc (length ws)
     go true d = refl

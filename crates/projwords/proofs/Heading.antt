@@ -9,7 +9,7 @@ use lib.ListN.{length, take, drop, length-drop}
 use lib.Seq.{drop-drop, take-add, drop-at, length-take-le}
 use lib.Dec.{eqb}
 use Rattle.rules.specs.Ascii.{ascii}
-use Rattle.rules.specs.Lists.{any, nonEmpty}
+use Rattle.rules.specs.Lists.{anyOf, nonEmpty}
 use Rattle.rules.specs.Text.{Bytes, Words, same, starts, words}
 use Rattle.rules.specs.Proj.{isProj, firstProj, inItsPlace, exchanged}
 use Rattle.rules.specs.Translate.{initFirst, isPipeline}
@@ -34,12 +34,12 @@ proj-long : (w : Bytes) → isProj w ≡ true → 5 ≤ length w
 unfolding isProj ascii
 proj-long w e = starts-long (ascii "proj=") w e
 
-first-is : (ws : Words) → any isProj ws ≡ true → isProj (firstProj ws) ≡ true
-unfolding any firstProj
+first-is : (ws : Words) → anyOf isProj ws ≡ true → isProj (firstProj ws) ≡ true
+unfolding anyOf firstProj
 first-is [] e = absurd (false≢true e)
 first-is (w ∷ ws) e = go (isProj w) refl e (first-is ws)
   where
-    go : (b : Bool) → isProj w ≡ b → (b || any isProj ws) ≡ true → (any isProj ws ≡ true → isProj (firstProj ws) ≡ true) → isProj (cond b w (firstProj ws)) ≡ true
+    go : (b : Bool) → isProj w ≡ b → (b || anyOf isProj ws) ≡ true → (anyOf isProj ws ≡ true → isProj (firstProj ws) ≡ true) → isProj (cond b w (firstProj ws)) ≡ true
     go true f g h = f
     go false f g h = h g
 
@@ -49,7 +49,7 @@ first-is (w ∷ ws) e = go (isProj w) refl e (first-is ws)
 pub record Seeking (s : Bytes) (k : ℕ) (init : Bool) : Type 0 where
   pub within : k ≤ length s
   pub inits : initFirst (words s) ≡ (init || initFirst (words (drop k s)))
-  pub some : any isProj (words s) ≡ any isProj (words (drop k s))
+  pub some : anyOf isProj (words s) ≡ anyOf isProj (words (drop k s))
   pub first : firstProj (words s) ≡ firstProj (words (drop k s))
 
 pub seeking-start : (s : Bytes) → Seeking s 0 false
@@ -57,18 +57,18 @@ seeking-start s = record { within = omega arith; inits = refl; some = refl; firs
 
 module _ {s : Bytes} {k : ℕ} {init : Bool} (m : Seeking s k init) where
   pub seek-none : words (drop k s) ≡ [] → IsFirst s (record { init = init; found = false; from = 0; to = 0 })
-  unfolding any firstProj initFirst
+  unfolding anyOf firstProj initFirst
   seek-none e = record {
     ahead = omega arith;
     within = omega arith;
     init = sym (m .inits ∙ ap (λ (ws : Words). init || initFirst ws) e ∙ or-no init);
-    found = sym (m .some ∙ ap (any isProj) e);
+    found = sym (m .some ∙ ap (anyOf isProj) e);
     here = sym (m .first ∙ ap firstProj e);
   }
 
   module _ {from to : ℕ} (w : IsWord s k from to) where
     pub seek-found : isProj (part from to s) ≡ true → IsFirst s (record { init = init; found = true; from = from; to = to })
-    unfolding any firstProj initFirst
+    unfolding anyOf firstProj initFirst
     seek-found e = record {
       ahead = w .body .ahead;
       within = word-within w;
@@ -78,7 +78,7 @@ module _ {s : Bytes} {k : ℕ} {init : Bool} (m : Seeking s k init) where
     }
 
     pub seek-init : isProj (part from to s) ≡ false → starts (ascii "init=") (part from to s) ≡ true → Seeking s to true
-    unfolding any firstProj initFirst
+    unfolding anyOf firstProj initFirst
     seek-init e f = record {
       within = word-within w;
       inits = m .inits ∙ rw (word-first w, f) (or-yes init);
@@ -87,7 +87,7 @@ module _ {s : Bytes} {k : ℕ} {init : Bool} (m : Seeking s k init) where
     }
 
     pub seek-on : isProj (part from to s) ≡ false → starts (ascii "init=") (part from to s) ≡ false → Seeking s to init
-    unfolding any firstProj initFirst
+    unfolding anyOf firstProj initFirst
     seek-on e f = record {
       within = word-within w;
       inits = m .inits ∙ rw (word-first w, f, e);
@@ -135,9 +135,9 @@ module _ {s : Bytes} {f : First} (m : IsFirst s f) where
     }
 
     -- it is another word
-    later : isProj (part from to s) ≡ false → f .found ≡ true → any isProj (words (drop to s)) ≡ true
-    unfolding any
-    later e g = sym (ap (any isProj) (word-first w) ∙ rw e) ∙ sym (m .found) ∙ g
+    later : isProj (part from to s) ≡ false → f .found ≡ true → anyOf isProj (words (drop to s)) ≡ true
+    unfolding anyOf
+    later e g = sym (ap (anyOf isProj) (word-first w) ∙ rw e) ∙ sym (m .found) ∙ g
 
     later-first : isProj (part from to s) ≡ false → firstProj (words (drop to s)) ≡ part (f .from) (f .to) s
     unfolding firstProj
@@ -162,9 +162,9 @@ module _ {s : Bytes} {f : First} (m : IsFirst s f) where
     }
 
     -- there is none
-    nowhere : isProj (part from to s) ≡ false → f .found ≡ false → any isProj (words (drop to s)) ≡ false
-    unfolding any
-    nowhere e g = sym (ap (any isProj) (word-first w) ∙ rw e) ∙ sym (m .found) ∙ g
+    nowhere : isProj (part from to s) ≡ false → f .found ≡ false → anyOf isProj (words (drop to s)) ≡ false
+    unfolding anyOf
+    nowhere e g = sym (ap (anyOf isProj) (word-first w) ∙ rw e) ∙ sym (m .found) ∙ g
 
     pub head-without : isProj (part from to s) ≡ false → f .found ≡ false
         → IsHead s (record { start = from; stop = to; value = from; ends = to; stage = 2; init = f .init; pipeline = pipeline })

@@ -4,7 +4,7 @@ use mathlib.Core.Bool.{_&&_, _||_}
 use mathlib.Core.List.{[]}
 use Prim.Native.Nat.{_≤_}
 use lib.ListN.{length}
-use Rattle.rules.specs.Lists.{any, all, nonEmpty}
+use Rattle.rules.specs.Lists.{anyOf, allOf, nonEmpty}
 use Rattle.rules.specs.Text.{Bytes, Words, words}
 use Rattle.rules.specs.Proj.{exchanged}
 use Rattle.rules.specs.Translate.{isInv}
@@ -21,9 +21,9 @@ pub record Marked (w : Bytes) (m r : Marks) : Type 0 where
 
 -- the marks of words
 pub record IsMarks (ws : Words) (m : Marks) : Type 0 where
-  pub inv : m .inv ≡ any isInv ws
-  pub only : m .only ≡ all isInv ws
-  pub some : m .some ≡ any nonEmpty ws
+  pub inv : m .inv ≡ anyOf isInv ws
+  pub only : m .only ≡ allOf isInv ws
+  pub some : m .some ≡ anyOf nonEmpty ws
 
 -- how many of the exchanged words begin with a key, and the last of them
 pub record IsKey (s key : Bytes) (r : Key) : Type 0 where

@@ -5,7 +5,7 @@ use mathlib.Core.List.{[], _∷_}
 use Prim.Native.Nat.{ℕ, _≤_}
 use lib.ListN.{length, drop}
 use lib.Dec.{eqb}
-use Rattle.rules.specs.Lists.{any}
+use Rattle.rules.specs.Lists.{anyOf}
 use Rattle.rules.specs.Text.{Bytes, Words, words}
 use Rattle.rules.specs.Proj.{isProj, firstProj, inItsPlace, exchanged}
 use Rattle.rules.specs.Translate.{initFirst, isPipeline}
@@ -20,7 +20,7 @@ pub record IsFirst (s : Bytes) (f : First) : Type 0 where
   pub ahead : f .from ≤ f .to
   pub within : f .to ≤ length s
   pub init : f .init ≡ initFirst (words s)
-  pub found : f .found ≡ any isProj (words s)
+  pub found : f .found ≡ anyOf isProj (words s)
   pub here : part (f .from) (f .to) s ≡ firstProj (words s)
 
 -- the exchanged words that are still to come, in a stage of the walk at k

@@ -6,7 +6,7 @@ use mathlib.Core.Option.{Option, none, some}
 use mathlib.Core.List.{List, [], _∷_, _++_}
 use lib.ListN.{length, getD, replicate}
 use lib.Dec.{ltb, eqb}
-use Rattle.rules.specs.Lists.{any}
+use Rattle.rules.specs.Lists.{anyOf}
 use Rattle.rules.specs.Record.{refusal18}
 use Rattle.rules.specs.Coordinate.{reordered}
 use Rattle.rules.specs.Act.{Act, pushes, pops, popsAll, flips, rolls, swaps, drops, orders, adapts, Numbered, running}
@@ -81,7 +81,7 @@ adapting (orders back l) = false
 adapting (adapts back l) = true
 
 unfoldable pub anyAdapt : List Numbered → Bool
-anyAdapt l = any (λ (s : Numbered). adapting (s .does)) l
+anyAdapt l = anyOf (λ (s : Numbered). adapting (s .does)) l
 
 -- ---- the verdict
 

@@ -7,7 +7,7 @@ use lib.ListN.{length}
 use lib.Dec.{leb, eqb}
 use lib.IntN.{ℤ, pos, negsuc}
 use Rattle.rules.specs.Ascii.{is}
-use Rattle.rules.specs.Lists.{any, all}
+use Rattle.rules.specs.Lists.{anyOf, allOf}
 use Rattle.rules.specs.Text.{Bytes, before, behind, cut}
 use Rattle.rules.specs.declared.Decimal.{Decimal}
 use Rattle.rules.specs.declared.Number.{Number}
@@ -20,7 +20,7 @@ digit b = leb 48 b && leb b 57
 
 -- "1 to 9 digits", "1 to 6 digits": at least one and at most `most` bytes, all of them digits
 unfoldable pub digitsTo : ℕ → Bytes → Bool
-digitsTo most t = leb 1 (length t) && (leb (length t) most && all digit t)
+digitsTo most t = leb 1 (length t) && (leb (length t) most && allOf digit t)
 
 -- the number that digits spell, read after digits that spelled n
 unfoldable pub spelled : ℕ → Bytes → ℕ
@@ -29,7 +29,7 @@ spelled n (b ∷ t) = spelled (n * 10 + (b - 48)) t
 
 -- "1 to 9 digits, optionally a point and 1 to 6 digits"
 unfoldable pub plainForm : Bytes → Bool
-plainForm t = digitsTo 9 (before (is ".") t) && (not (any (is ".") t) || digitsTo 6 (behind (is ".") t))
+plainForm t = digitsTo 9 (before (is ".") t) && (not (anyOf (is ".") t) || digitsTo 6 (behind (is ".") t))
 
 -- its exact value: whole, and the fraction in millionths
 unfoldable pub plain : Bool → Bytes → Number

@@ -6,14 +6,14 @@ use mathlib.Core.List.{List, [], _∷_}
 
 module _ {A : Type 0} where
   -- does one of them pass the test?
-  unfoldable pub any : (A → Bool) → List A → Bool
-  any test [] = false
-  any test (x ∷ l) = test x || any test l
+  unfoldable pub anyOf : (A → Bool) → List A → Bool
+  anyOf test [] = false
+  anyOf test (x ∷ l) = test x || anyOf test l
 
   -- do all of them?
-  unfoldable pub all : (A → Bool) → List A → Bool
-  all test [] = true
-  all test (x ∷ l) = test x && all test l
+  unfoldable pub allOf : (A → Bool) → List A → Bool
+  allOf test [] = true
+  allOf test (x ∷ l) = test x && allOf test l
 
   -- those that do, in their order
   unfoldable pub kept : (A → Bool) → List A → List A

@@ -13,7 +13,7 @@ use Rattle.rules.specs.Coordinate.{number, put, turn, swapFrom, unswapFr
 use Rattle.rules.specs.Decimal.{digit, digitsTo, spelled, plainForm, plain, decimal, pieces, numberThen, allNumbers, series, isWhole, signed, minus, wholeOf}
 use Rattle.rules.specs.Examples.{on, refusal, records, ran, verdictOn, floats, examples, deep, also, Holds, AllHold}
 use Rattle.rules.specs.Keys.{nameOf, flag, numbered, worded, everyKey, ownKeys, kindIn, kindOf, unknown, misspelt, tooLong}
-use Rattle.rules.specs.Lists.{any, all, kept, placeOf, nonEmpty, isNone}
+use Rattle.rules.specs.Lists.{anyOf, allOf, kept, placeOf, nonEmpty, isNone}
 use Rattle.rules.specs.Normal.{run, becomes, subscriptBecomes, replacements, squeezed, continued, normal, normalise}
 use Rattle.rules.specs.OwnRules.{valueOf, isGiven, mark, recordOf, recorded, flagged, axes, wholes, actions, actionThen, actionsGiven, exactlyOne, order, wordGiven, between, ownRule}
 use Rattle.rules.specs.Parameters.{parameter, name, elements, precedes, entered, enteredAll, tableOf, stepTable, textTable, parametersOf, parameterLine, parameters}
@@ -36,15 +36,15 @@ unfolding xor flatMap neg mul div eq ofInt ofFields ofBits places rolling unroll
     put turn swapFrom unswapFrom reordered swapped angle factor post mult output sets stays noop adaptedIf adapted
     digit digitsTo spelled plainForm plain decimal pieces numberThen allNumbers series isWhole signed minus wholeOf
     on refusal records ran verdictOn floats examples deep also Holds AllHold nameOf flag numbered worded everyKey
-    ownKeys kindIn kindOf unknown misspelt tooLong any all kept placeOf nonEmpty isNone run becomes subscriptBecomes
-    replacements squeezed continued normal normalise valueOf isGiven mark recordOf recorded flagged axes wholes
-    actions actionThen actionsGiven exactlyOne order wordGiven between ownRule parameter name elements precedes
-    entered enteredAll tableOf stepTable textTable parametersOf parameterLine parameters judged14 judged11 named
-    judged10 judged atStep prepareStep prepareSteps prepare unplussed isStep cutAtStep withoutNoise projSteps isProj
-    firstProj inItsPlace exchanged hasKey lastOf withoutLast composed ellipsoid scale tidied found next walked
-    numberOf operatorOf arg isPlace isRising isPlaces isRoll isDistinct isOrder isCode isAdapt isArgs operator args
-    unused isSet nineDigits made firstBad refusal18 blank listed andThen tested lent outcome written prepared
-    countFrom count passes64 badList storeAfter refused finished unless16 unless15 unless18 runs modifier
+    ownKeys kindIn kindOf unknown misspelt tooLong anyOf allOf kept placeOf nonEmpty isNone run becomes
+    subscriptBecomes replacements squeezed continued normal normalise valueOf isGiven mark recordOf recorded flagged
+    axes wholes actions actionThen actionsGiven exactlyOne order wordGiven between ownRule parameter name elements
+    precedes entered enteredAll tableOf stepTable textTable parametersOf parameterLine parameters judged14 judged11
+    named judged10 judged atStep prepareStep prepareSteps prepare unplussed isStep cutAtStep withoutNoise projSteps
+    isProj firstProj inItsPlace exchanged hasKey lastOf withoutLast composed ellipsoid scale tidied found next
+    walked numberOf operatorOf arg isPlace isRising isPlaces isRoll isDistinct isOrder isCode isAdapt isArgs
+    operator args unused isSet nineDigits made firstBad refusal18 blank listed andThen tested lent outcome written
+    prepared countFrom count passes64 badList storeAfter refused finished unless16 unless15 unless18 runs modifier
     onlyModifiers leading following turned stepsOf steps stepText splitSteps line split white subscript inDomain
     same starts contains replaceFrom replace trimStart trimEnd trimmed before behind onto cut words afterEach
     joinedBy joined isInv notInv isPipeline pipelineWords pipeline initFirst onlyInv firstFault atPosition1

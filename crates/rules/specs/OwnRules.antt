@@ -7,7 +7,7 @@ use mathlib.Core.List.{List, [], _∷_, _++_, map}
 use lib.ListN.{length, replicate}
 use lib.IntN.{ℤ, pos}
 use Rattle.rules.specs.Ascii.{ascii}
-use Rattle.rules.specs.Lists.{all, isNone}
+use Rattle.rules.specs.Lists.{allOf, isNone}
 use Rattle.rules.specs.Text.{Bytes, same}
 use Rattle.rules.specs.Parameters.{Parameter}
 use Rattle.rules.specs.Decimal.{series, isWhole, wholeOf}
@@ -59,7 +59,7 @@ axes ps = flagged "v_1" 1 ps ++ (flagged "v_2" 2 ps ++ (flagged "v_3" 3 ps ++ fl
 -- the numbers of a series, if they are whole and keep the rule
 unfoldable pub wholes : (List ℤ → Bool) → Option (List Decimal) → Option (List ℤ)
 wholes rule none = none
-wholes rule (some ds) = cond (all isWhole ds && rule (map wholeOf ds)) (some (map wholeOf ds)) none
+wholes rule (some ds) = cond (allOf isWhole ds && rule (map wholeOf ds)) (some (map wholeOf ds)) none
 
 -- an action of `stack`: its key, its operator, and the arguments that its value gives
 pub record Action : Type 0 where

@@ -4,7 +4,7 @@ use mathlib.Core.List.{List, [], _∷_, _++_, map, flatMap}
 use lib.ListN.{length}
 use lib.Dec.{eqb, ltb}
 use Rattle.rules.specs.Ascii.{ascii, is}
-use Rattle.rules.specs.Lists.{any}
+use Rattle.rules.specs.Lists.{anyOf}
 use Rattle.rules.specs.Text.{Bytes, Words, same, before, behind, words}
 use Rattle.rules.specs.Refusal.{Reply, answers, refuses, andThen}
 use Rattle.rules.specs.Normal.{normal}
@@ -18,7 +18,7 @@ pub record Parameter : Type 0 where
 -- "`a=b=c` gives `a` the value `b`"; an element without `=` has the value `true`
 unfoldable pub parameter : Bytes → Parameter
 parameter w =
-    cond (any (is "=") w)
+    cond (anyOf (is "=") w)
     (record { key = before (is "=") w; value = before (is "=") (behind (is "=") w) })
     (record { key = w; value = ascii "true" })
 
@@ -29,7 +29,7 @@ name t = record { key = ascii "_name"; value = t }
 -- "The first element, if it has no `=`, is the name"
 unfoldable pub elements : Words → List Parameter
 elements [] = []
-elements (w ∷ ws) = cond (any (is "=") w) (parameter w) (name w) ∷ map parameter ws
+elements (w ∷ ws) = cond (anyOf (is "=") w) (parameter w) (name w) ∷ map parameter ws
 
 -- does the text come before the other, "in byte order"?
 unfoldable pub precedes : Bytes → Bytes → Bool
@@ -64,7 +64,7 @@ stepTable ws =
 
 -- "A text with a separator gives only `_name`, its whole normalised form." (Normalising leaves no separator but `|`.)
 unfoldable pub textTable : Bytes → Reply (List Parameter)
-textTable normalised = cond (any (is "|") normalised) (answers (name normalised ∷ [])) (stepTable (words normalised))
+textTable normalised = cond (anyOf (is "|") normalised) (answers (name normalised ∷ [])) (stepTable (words normalised))
 
 -- "Each step is normalised again when cut into parameters."
 unfoldable pub parametersOf : Bytes → Reply (List Parameter)

@@ -6,7 +6,7 @@ use mathlib.Core.List.{List, [], _∷_}
 use lib.ListN.{length}
 use lib.Dec.{ltb}
 use Rattle.rules.specs.Ascii.{ascii}
-use Rattle.rules.specs.Lists.{any}
+use Rattle.rules.specs.Lists.{anyOf}
 use Rattle.rules.specs.Text.{Bytes}
 use Rattle.rules.specs.Refusal.{Reply, answers, refuses, andThen, prepared, Promised}
 use Rattle.rules.specs.Split.{steps, splitSteps}
@@ -26,9 +26,9 @@ judged14 (some s) = answers s
 -- "its lowest number of .. 9 to 14": 11, 12, 13, then 14
 unfoldable pub judged11 : Name → List Parameter → Reply Step
 judged11 n ps =
-    cond (any (unknown n) ps) (refuses 11 0)
-    (cond (any (λ (p : Parameter). misspelt (kindOf n p) (p .value)) ps) (refuses 12 0)
-    (cond (any (λ (p : Parameter). tooLong (kindOf n p) (p .value)) ps) (refuses 13 0)
+    cond (anyOf (unknown n) ps) (refuses 11 0)
+    (cond (anyOf (λ (p : Parameter). misspelt (kindOf n p) (p .value)) ps) (refuses 12 0)
+    (cond (anyOf (λ (p : Parameter). tooLong (kindOf n p) (p .value)) ps) (refuses 13 0)
     (judged14 (ownRule n ps))))
 
 -- 10: "no operator name, or not one of the five"

@@ -3,7 +3,7 @@ use mathlib.Core.Bool.{Bool, true, false, cond, _&&_, not}
 use mathlib.Core.List.{[], _∷_, _++_, map}
 use lib.ListN.{drop}
 use Rattle.rules.specs.Ascii.{ascii, is}
-use Rattle.rules.specs.Lists.{any, kept, nonEmpty}
+use Rattle.rules.specs.Lists.{anyOf, kept, nonEmpty}
 use Rattle.rules.specs.Text.{Bytes, Words, Steps, white, same, starts, replace, trimStart, trimmed, onto, words}
 use Rattle.rules.specs.Normal.{normal}
 use Rattle.rules.specs.Comments.{newlines, lined}
@@ -56,14 +56,14 @@ unfoldable pub exchanged : Words → Words
 exchanged [] = []
 exchanged (w ∷ ws) =
     cond (isProj w) (drop 5 w ∷ ws)
-    (cond (any isProj ws) (drop 5 (firstProj ws) ∷ inItsPlace w ws)
+    (cond (anyOf isProj ws) (drop 5 (firstProj ws) ∷ inItsPlace w ws)
     (w ∷ ws))
 
 -- ---- the ellipsoid and the scale
 
 -- does a word begin with the key?
 unfoldable pub hasKey : Bytes → Words → Bool
-hasKey key ws = any (starts key) ws
+hasKey key ws = anyOf (starts key) ws
 
 -- of words one of which begins with the key, the last that does
 unfoldable pub lastOf : Bytes → Words → Bytes

@@ -7,7 +7,7 @@ use mathlib.Core.List.{List, [], _∷_, _++_}
 use lib.ListN.{length, getD, take, drop, replicate}
 use lib.Dec.{leb, ltb, eqb}
 use lib.IntN.{ℤ, pos, natAbs}
-use Rattle.rules.specs.Lists.{all, any}
+use Rattle.rules.specs.Lists.{allOf, anyOf}
 use Rattle.rules.specs.Decimal.{minus}
 use Rattle.rules.specs.declared.Step.{Step}
 use Rattle.rules.specs.declared.Table.{Table}
@@ -67,7 +67,7 @@ isRising last (x ∷ l) = isPlace x && (ltb last (size x) && isRising (size x) l
 
 -- stack: "push, pop and flip take places 1 to 4, repeats allowed"
 unfoldable pub isPlaces : List ℤ → Bool
-isPlaces l = leb 1 (length l) && all isPlace l
+isPlaces l = leb 1 (length l) && allOf isPlace l
 
 -- "roll m,n: whole numbers, m > |n|"
 unfoldable pub isRoll : List ℤ → Bool
@@ -76,13 +76,13 @@ isRoll l = eqb (length l) 2 && (not (minus (arg 1 l)) && ltb (size (arg 2 l)) (s
 -- no size "repeated"
 unfoldable pub isDistinct : List ℤ → Bool
 isDistinct [] = true
-isDistinct (x ∷ l) = not (any (λ (y : ℤ). eqb (size x) (size y)) l) && isDistinct l
+isDistinct (x ∷ l) = not (anyOf (λ (y : ℤ). eqb (size x) (size y)) l) && isDistinct l
 
 -- "`axisswap`: at most four; whole, nonzero, no size above the length or repeated"
 unfoldable pub isOrder : List ℤ → Bool
 isOrder l =
     leb 1 (length l)
-    && (leb (length l) 4 && (all (λ (x : ℤ). leb 1 (size x) && leb (size x) (length l)) l && isDistinct l))
+    && (leb (length l) 4 && (allOf (λ (x : ℤ). leb 1 (size x) && leb (size x) (length l)) l && isDistinct l))
 
 -- the code of a factor's size: 0, or that of two angles of which neither is the other (4 and 8 would be 1 again)
 unfoldable pub isCode : ℤ → Bool
@@ -94,7 +94,7 @@ unfoldable pub isAdapt : List ℤ → Bool
 isAdapt l =
     eqb (length l) 8
     && (isOrder (take 4 l)
-    && (all isCode (drop 4 l)
+    && (allOf isCode (drop 4 l)
     && (eqb (size (arg 6 l)) (size (arg 5 l)) && (eqb (size (arg 7 l)) 0 && eqb (size (arg 8 l)) 0))))
 
 -- the arguments that a preparation gives each operator
@@ -139,8 +139,8 @@ made s =
     && (leb (s .inv) 1
     && (leb (s .«omit_fwd») 1
     && (leb (s .«omit_inv») 1
-    && (all (λ (x : ℤ). eqb (size x) 0) (unused s)
-    && (all nineDigits (args s) && isArgs (operator s) (args s)))))))
+    && (allOf (λ (x : ℤ). eqb (size x) 0) (unused s)
+    && (allOf nineDigits (args s) && isArgs (operator s) (args s)))))))
 
 -- the first record, counted from k, that no preparation makes
 unfoldable pub firstBad : ℕ → List Step → Option ℕ

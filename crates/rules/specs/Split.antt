@@ -4,7 +4,7 @@ use mathlib.Core.List.{List, [], _∷_, _++_, map, flatMap}
 use lib.ListN.{length}
 use lib.Dec.{ltb}
 use Rattle.rules.specs.Ascii.{ascii, is}
-use Rattle.rules.specs.Lists.{any, all, kept, placeOf, nonEmpty}
+use Rattle.rules.specs.Lists.{anyOf, allOf, kept, placeOf, nonEmpty}
 use Rattle.rules.specs.Text.{Bytes, Words, Steps, same, cut, words, joined}
 use Rattle.rules.specs.Refusal.{Reply, answers, refuses, andThen}
 use Rattle.rules.specs.Normal.{normal}
@@ -18,7 +18,7 @@ modifier w = same w (ascii "inv") || (same w (ascii "omit_fwd") || same w (ascii
 
 -- "a step's words, at least one, are all `inv`, `omit_fwd` or `omit_inv`"
 unfoldable pub onlyModifiers : Words → Bool
-onlyModifiers ws = nonEmpty ws && all modifier ws
+onlyModifiers ws = nonEmpty ws && allOf modifier ws
 
 -- the modifiers in front, and the words after them
 unfoldable pub leading : Words → Words
@@ -50,7 +50,7 @@ stepText ws = joined (turned ws)
 -- "Splitting tries 6, then 8": the first step of modifiers alone; "more than 64 steps"
 unfoldable pub splitSteps : Steps → Reply (List Bytes)
 splitSteps ss =
-    cond (any onlyModifiers ss) (refuses 6 (placeOf onlyModifiers ss))
+    cond (anyOf onlyModifiers ss) (refuses 6 (placeOf onlyModifiers ss))
     (cond (ltb 64 (length ss)) (refuses 8 0)
     (answers (map stepText ss)))
 

@@ -4,7 +4,7 @@ use mathlib.Core.Bool.{Bool, true, false, cond, _&&_, _||_}
 use mathlib.Core.List.{List, [], _∷_, _++_}
 use lib.ListN.{length}
 use lib.Dec.{eqb, leb, ltb}
-use Rattle.rules.specs.Lists.{all, kept, nonEmpty}
+use Rattle.rules.specs.Lists.{allOf, kept, nonEmpty}
 
 -- a text is the list of its bytes; a word is a text, and a step is the list of its words
 abbrev pub Bytes : Type 0
@@ -75,7 +75,7 @@ trimStart test (x ∷ t) = cond (test x) (trimStart test t) (x ∷ t)
 -- without those at its end: nothing is left of a text of such bytes alone, else its first byte stays
 unfoldable pub trimEnd : (ℕ → Bool) → Bytes → Bytes
 trimEnd test [] = []
-trimEnd test (x ∷ t) = cond (all test (x ∷ t)) [] (x ∷ trimEnd test t)
+trimEnd test (x ∷ t) = cond (allOf test (x ∷ t)) [] (x ∷ trimEnd test t)
 
 -- without either
 unfoldable pub trimmed : (ℕ → Bool) → Bytes → Bytes

@@ -5,7 +5,7 @@ use mathlib.Core.List.{List, [], _∷_, map, reverse}
 use lib.ListN.{drop}
 use lib.Dec.{ltb}
 use Rattle.rules.specs.Ascii.{ascii, is}
-use Rattle.rules.specs.Lists.{any, all, kept, nonEmpty}
+use Rattle.rules.specs.Lists.{anyOf, allOf, kept, nonEmpty}
 use Rattle.rules.specs.Text.{Bytes, Words, Steps, white, same, starts, contains, trimmed, joinedBy, joined}
 use Rattle.rules.specs.Refusal.{Reply, answers, refuses}
 use Rattle.rules.specs.Proj.{projSteps, isProj, firstProj, exchanged, tidied}
@@ -35,7 +35,7 @@ pub record Pipeline : Type 0 where
 
 -- "Globals go in as one element": these words but `inv`, which inverts the pipeline
 unfoldable pub pipeline : Steps → Pipeline
-pipeline ss = record { globals = joined (kept notInv (pipelineWords ss)); inverted = any isInv (pipelineWords ss) }
+pipeline ss = record { globals = joined (kept notInv (pipelineWords ss)); inverted = anyOf isInv (pipelineWords ss) }
 
 -- ---- refusals
 
@@ -46,7 +46,7 @@ initFirst (w ∷ ws) = starts (ascii "init=") w || (not (isProj w) && initFirst 
 
 -- 5: "with `proj=` cut off (an emptied word counts), a step's words are all `inv`, no globals, pipeline not inverted"
 unfoldable pub onlyInv : Pipeline → Words → Bool
-onlyInv p ws = all isInv (exchanged ws) && (not (nonEmpty (p .globals)) && not (p .inverted))
+onlyInv p ws = allOf isInv (exchanged ws) && (not (nonEmpty (p .globals)) && not (p .inverted))
 
 -- "Translation takes the first faulty step, trying 3, 4, 5." 4: "in a step after the first, the first `proj=` is
 -- `proj=pipeline`". The steps from a place on; where none is at fault, the reply is `otherwise`.
@@ -83,7 +83,7 @@ withoutInv ws = map exchangedMark (kept notInv ws)
 -- "turns each `inv`": it stands, at position 1, where the step or the pipeline is inverted, and not both
 unfoldable pub marked : Pipeline → Words → Words
 unfolding xor
-marked p ws = cond (xor (any isInv ws) (p .inverted)) (atPosition1 (ascii "inv") (withoutInv ws)) (withoutInv ws)
+marked p ws = cond (xor (anyOf isInv ws) (p .inverted)) (atPosition1 (ascii "inv") (withoutInv ws)) (withoutInv ws)
 
 -- a step of the answer
 unfoldable pub stepOf : Pipeline → Words → Bytes
@@ -93,7 +93,7 @@ stepOf p ws = trimmed white (joined (marked p (withGlobals p (tidied ws))))
 
 -- the pipeline's own step is not written, nor one that is an emptied word alone
 unfoldable pub isWritten : Words → Bool
-isWritten ws = not (isPipeline ws) && any nonEmpty (exchanged ws)
+isWritten ws = not (isPipeline ws) && anyOf nonEmpty (exchanged ws)
 
 -- "An inverted pipeline reverses the steps"
 unfoldable pub inOrder : Pipeline → List Bytes → List Bytes
@@ -111,4 +111,4 @@ translated p ss = firstFault p 1 ss (answers (translation p ss))
 unfoldable pub translate : Bytes → Reply Bytes
 translate t =
     let ss = projSteps t in
-    cond (any (is "|") t || not (contains (ascii "proj") t)) (answers t) (translated (pipeline ss) ss)
+    cond (anyOf (is "|") t || not (contains (ascii "proj") t)) (answers t) (translated (pipeline ss) ss)

@@ -6,7 +6,7 @@ use mathlib.Core.List.{List, map}
 use borrow.Author.Tests.{ltb-false}
 use lib.ListN.{length, length-map}
 use lib.Dec.{ltb}
-use Rattle.rules.specs.Lists.{any, placeOf}
+use Rattle.rules.specs.Lists.{anyOf, placeOf}
 use Rattle.rules.specs.Text.{Bytes, Steps, inDomain}
 use Rattle.rules.specs.Refusal.{Reply, answers, refuses, andThen, tested}
 use Rattle.rules.specs.Split.{onlyModifiers, stepText, splitSteps}
@@ -51,7 +51,7 @@ pub record Made (ss : Steps) (texts : List Bytes) : Type 0 where
 
 pub split-made : (ss : Steps) → Of (Made ss) (splitSteps ss)
 unfolding splitSteps Of
-split-made ss = go (any onlyModifiers ss) (ltb 64 (length ss)) refl
+split-made ss = go (anyOf onlyModifiers ss) (ltb 64 (length ss)) refl
   where
     go : (a b : Bool) → ltb 64 (length ss) ≡ b → Of (Made ss) (cond a (refuses 6 (placeOf onlyModifiers ss)) (cond b (refuses 8 0) (answers (map stepText ss))))
     go true b e = zero-le

@@ -7,14 +7,14 @@ use borrow.Author.Tests.{eqb-true}
 use lib.Seq.{append-snoc}
 use lib.Dec.{eqb}
 use Rattle.rules.specs.Ascii.{ascii, is}
-use Rattle.rules.specs.Lists.{all, kept, nonEmpty}
+use Rattle.rules.specs.Lists.{allOf, kept, nonEmpty}
 use Rattle.rules.specs.Text.{Bytes, Words, Steps, white, onto, cut, words, afterEach, joinedBy, joined}
 use Rattle.rules.specs.Split.{modifier, leading, following, turned, stepsOf, stepText, line}
 use Rattle.numbered.specs.Numbers.{heading, headed}
 
 -- no newline
 unfoldable pub free : Bytes → Bool
-free t = all (λ (b : ℕ). not (eqb b 10)) t
+free t = allOf (λ (b : ℕ). not (eqb b 10)) t
 
 -- ---- all of a list
 
@@ -31,18 +31,18 @@ and-right true b e = e
 and-right false b e = absurd (false≢true e)
 
 module _ {A : Type 0} (test : A → Bool) where
-  all-append : (l m : List A) → all test l ≡ true → all test m ≡ true → all test (l ++ m) ≡ true
-  unfolding all
+  all-append : (l m : List A) → allOf test l ≡ true → allOf test m ≡ true → allOf test (l ++ m) ≡ true
+  unfolding allOf
   all-append [] m e f = f
-  all-append (x ∷ l) m e f = both (test x) (all test (l ++ m)) (and-left (test x) (all test l) e) (all-append l m (and-right (test x) (all test l) e) f)
+  all-append (x ∷ l) m e f = both (test x) (allOf test (l ++ m)) (and-left (test x) (allOf test l) e) (all-append l m (and-right (test x) (allOf test l) e) f)
 
-  all-kept : (keep : A → Bool) (l : List A) → all test l ≡ true → all test (kept keep l) ≡ true
-  unfolding all kept
+  all-kept : (keep : A → Bool) (l : List A) → allOf test l ≡ true → allOf test (kept keep l) ≡ true
+  unfolding allOf kept
   all-kept keep [] e = refl
-  all-kept keep (x ∷ l) e = go (keep x) (all-kept keep l (and-right (test x) (all test l) e))
+  all-kept keep (x ∷ l) e = go (keep x) (all-kept keep l (and-right (test x) (allOf test l) e))
     where
-      go : (b : Bool) → all test (kept keep l) ≡ true → all test (cond b (x ∷ kept keep l) (kept keep l)) ≡ true
-      go true h = both (test x) (all test (kept keep l)) (and-left (test x) (all test l) e) h
+      go : (b : Bool) → allOf test (kept keep l) ≡ true → allOf test (cond b (x ∷ kept keep l) (kept keep l)) ≡ true
+      go true h = both (test x) (allOf test (kept keep l)) (and-left (test x) (allOf test l) e) h
       go false h = h
 
 -- ---- words
@@ -58,80 +58,80 @@ not-newline x e = go (eqb x 10) refl
     go true f = absurd (true≢false (sym (ten (eqb-true x 10 f)) ∙ e))
     go false f = refl
 
-onto-free : (x : ℕ) (ps : List Bytes) → not (eqb x 10) ≡ true → all free ps ≡ true → all free (onto x ps) ≡ true
-unfolding all free onto
+onto-free : (x : ℕ) (ps : List Bytes) → not (eqb x 10) ≡ true → allOf free ps ≡ true → allOf free (onto x ps) ≡ true
+unfolding allOf free onto
 onto-free x [] n e = rw n
 onto-free x (p ∷ ps) n e =
-    both (not (eqb x 10) && free p) (all free ps) (both (not (eqb x 10)) (free p) n (and-left (free p) (all free ps) e)) (and-right (free p) (all free ps) e)
+    both (not (eqb x 10) && free p) (allOf free ps) (both (not (eqb x 10)) (free p) n (and-left (free p) (allOf free ps) e)) (and-right (free p) (allOf free ps) e)
 
-cut-free : (t : Bytes) → all free (cut white t) ≡ true
-unfolding all free cut
+cut-free : (t : Bytes) → allOf free (cut white t) ≡ true
+unfolding allOf free cut
 cut-free [] = refl
 cut-free (x ∷ t) = go (white x) refl (cut-free t)
   where
-    go : (b : Bool) → white x ≡ b → all free (cut white t) ≡ true → all free (cond b ([] ∷ cut white t) (onto x (cut white t))) ≡ true
+    go : (b : Bool) → white x ≡ b → allOf free (cut white t) ≡ true → allOf free (cond b ([] ∷ cut white t) (onto x (cut white t))) ≡ true
     go true e h = h
     go false e h = onto-free x (cut white t) (not-newline x e) h
 
-words-free : (t : Bytes) → all free (words t) ≡ true
+words-free : (t : Bytes) → allOf free (words t) ≡ true
 unfolding words
 words-free t = all-kept free nonEmpty (cut white t) (cut-free t)
 
 -- ---- a step's text
 
-leading-free : (ws : Words) → all free ws ≡ true → all free (leading ws) ≡ true
-unfolding all leading
+leading-free : (ws : Words) → allOf free ws ≡ true → allOf free (leading ws) ≡ true
+unfolding allOf leading
 leading-free [] e = refl
-leading-free (w ∷ ws) e = go (modifier w) (leading-free ws (and-right (free w) (all free ws) e))
+leading-free (w ∷ ws) e = go (modifier w) (leading-free ws (and-right (free w) (allOf free ws) e))
   where
-    go : (b : Bool) → all free (leading ws) ≡ true → all free (cond b (w ∷ leading ws) []) ≡ true
-    go true h = both (free w) (all free (leading ws)) (and-left (free w) (all free ws) e) h
+    go : (b : Bool) → allOf free (leading ws) ≡ true → allOf free (cond b (w ∷ leading ws) []) ≡ true
+    go true h = both (free w) (allOf free (leading ws)) (and-left (free w) (allOf free ws) e) h
     go false h = refl
 
-following-free : (ws : Words) → all free ws ≡ true → all free (following ws) ≡ true
-unfolding all following
+following-free : (ws : Words) → allOf free ws ≡ true → allOf free (following ws) ≡ true
+unfolding allOf following
 following-free [] e = refl
-following-free (w ∷ ws) e = go (modifier w) (following-free ws (and-right (free w) (all free ws) e))
+following-free (w ∷ ws) e = go (modifier w) (following-free ws (and-right (free w) (allOf free ws) e))
   where
-    go : (b : Bool) → all free (following ws) ≡ true → all free (cond b (following ws) (w ∷ ws)) ≡ true
+    go : (b : Bool) → allOf free (following ws) ≡ true → allOf free (cond b (following ws) (w ∷ ws)) ≡ true
     go true h = h
     go false h = e
 
-spaced-free : (ws : Words) → all free ws ≡ true → free (afterEach (32 ∷ []) ws) ≡ true
-unfolding all free afterEach
+spaced-free : (ws : Words) → allOf free ws ≡ true → free (afterEach (32 ∷ []) ws) ≡ true
+unfolding allOf free afterEach
 spaced-free [] e = refl
 spaced-free (w ∷ ws) e =
-    all-append (λ (b : ℕ). not (eqb b 10)) w (afterEach (32 ∷ []) ws) (and-left (free w) (all free ws) e) (spaced-free ws (and-right (free w) (all free ws) e))
+    all-append (λ (b : ℕ). not (eqb b 10)) w (afterEach (32 ∷ []) ws) (and-left (free w) (allOf free ws) e) (spaced-free ws (and-right (free w) (allOf free ws) e))
 
-joined-free : (ws : Words) → all free ws ≡ true → free (joined ws) ≡ true
-unfolding all free joined joinedBy
+joined-free : (ws : Words) → allOf free ws ≡ true → free (joined ws) ≡ true
+unfolding allOf free joined joinedBy
 joined-free [] e = refl
 joined-free (w ∷ ws) e =
-    all-append (λ (b : ℕ). not (eqb b 10)) w (afterEach (32 ∷ []) ws) (and-left (free w) (all free ws) e) (spaced-free ws (and-right (free w) (all free ws) e))
+    all-append (λ (b : ℕ). not (eqb b 10)) w (afterEach (32 ∷ []) ws) (and-left (free w) (allOf free ws) e) (spaced-free ws (and-right (free w) (allOf free ws) e))
 
-text-free : (ws : Words) → all free ws ≡ true → free (stepText ws) ≡ true
+text-free : (ws : Words) → allOf free ws ≡ true → free (stepText ws) ≡ true
 unfolding stepText turned
 text-free ws e = joined-free (following ws ++ leading ws) (all-append free (following ws) (leading ws) (following-free ws e) (leading-free ws e))
 
 -- ---- all steps' texts
 
-all-words : (ps : List Bytes) → all (λ (ws : Words). all free ws) (map words ps) ≡ true
-unfolding all
+all-words : (ps : List Bytes) → allOf (λ (ws : Words). allOf free ws) (map words ps) ≡ true
+unfolding allOf
 all-words [] = refl
-all-words (p ∷ ps) = both (all free (words p)) (all (λ (ws : Words). all free ws) (map words ps)) (words-free p) (all-words ps)
+all-words (p ∷ ps) = both (allOf free (words p)) (allOf (λ (ws : Words). allOf free ws) (map words ps)) (words-free p) (all-words ps)
 
-all-texts : (ss : Steps) → all (λ (ws : Words). all free ws) ss ≡ true → all free (map stepText ss) ≡ true
-unfolding all
+all-texts : (ss : Steps) → allOf (λ (ws : Words). allOf free ws) ss ≡ true → allOf free (map stepText ss) ≡ true
+unfolding allOf
 all-texts [] e = refl
 all-texts (s ∷ ss) e =
-    both (free (stepText s)) (all free (map stepText ss)) (text-free s (and-left (all free s) (all (λ (ws : Words). all free ws) ss) e))
-    (all-texts ss (and-right (all free s) (all (λ (ws : Words). all free ws) ss) e))
+    both (free (stepText s)) (allOf free (map stepText ss)) (text-free s (and-left (allOf free s) (allOf (λ (ws : Words). allOf free ws) ss) e))
+    (all-texts ss (and-right (allOf free s) (allOf (λ (ws : Words). allOf free ws) ss) e))
 
-pub texts-free : (n : Bytes) → all free (map stepText (stepsOf n)) ≡ true
+pub texts-free : (n : Bytes) → allOf free (map stepText (stepsOf n)) ≡ true
 unfolding stepsOf
 texts-free n =
     all-texts (kept nonEmpty (map words (cut (is "|") n)))
-    (all-kept (λ (ws : Words). all free ws) nonEmpty (map words (cut (is "|") n)) (all-words (cut (is "|") n)))
+    (all-kept (λ (ws : Words). allOf free ws) nonEmpty (map words (cut (is "|") n)) (all-words (cut (is "|") n)))
 
 -- ---- the lines, one after the other
 
@@ -142,7 +142,7 @@ numbered k (t ∷ ts) = (heading k ++ line t) ++ numbered (suc k) ts
 
 -- a line that has begun goes on to its newline
 in-line : (k : ℕ) (t rest : Bytes) → free t ≡ true → headed k true (t ++ (10 ∷ rest)) ≡ t ++ (10 ∷ headed (suc k) false rest)
-unfolding headed free all
+unfolding headed free allOf
 in-line k [] rest e = refl
 in-line k (x ∷ t) rest e = go (eqb x 10) refl (in-line k t rest (and-right (not (eqb x 10)) (free t) e))
   where
@@ -161,17 +161,17 @@ line-front : (t rest : Bytes) → line t ++ rest ≡ t ++ (10 ∷ rest)
 unfolding line ascii
 line-front t rest = append-snoc t 10 rest
 
-pub lines-numbered : (k : ℕ) (ts : List Bytes) → all free ts ≡ true → headed k false (flatMap line ts) ≡ numbered k ts
-unfolding flatMap all numbered
+pub lines-numbered : (k : ℕ) (ts : List Bytes) → allOf free ts ≡ true → headed k false (flatMap line ts) ≡ numbered k ts
+unfolding flatMap allOf numbered
 lines-numbered k [] e = unfold headed in refl
 lines-numbered k (t ∷ ts) e =
     let rest = flatMap line ts in
     let next : Bytes = headed (suc k) false rest in
     ap (headed k false) (line-front t rest)
     ∙ (at-line k t rest
-    ∙ (ap (λ (u : Bytes). heading k ++ u) (in-line k t rest (and-left (free t) (all free ts) e) ∙ sym (line-front t next))
+    ∙ (ap (λ (u : Bytes). heading k ++ u) (in-line k t rest (and-left (free t) (allOf free ts) e) ∙ sym (line-front t next))
     ∙ (sym (append-assoc (heading k) (line t) next)
-    ∙ ap (λ (u : Bytes). (heading k ++ line t) ++ u) (lines-numbered (suc k) ts (and-right (free t) (all free ts) e)))))
+    ∙ ap (λ (u : Bytes). (heading k ++ line t) ++ u) (lines-numbered (suc k) ts (and-right (free t) (allOf free ts) e)))))
 
 -- so for the lines that splitting writes of a normalised text
 pub steps-numbered : (n : Bytes) → headed 1 false (flatMap line (map stepText (stepsOf n))) ≡ numbered 1 (map stepText (stepsOf n))

@@ -5,7 +5,7 @@ use mathlib.Core.List.{List}
 use mathlib.Core.Option.{Option, none, some}
 use lib.Dec.{leb}
 use lib.IntN.{ℤ}
-use Rattle.rules.specs.Lists.{all}
+use Rattle.rules.specs.Lists.{allOf}
 use Rattle.rules.specs.Record.{nineDigits, isArgs, operatorOf}
 use Rattle.rules.specs.declared.Step.{Step}
 use Rattle.sound.specs.declared.Bad.{Bad}
@@ -17,7 +17,7 @@ unfoldable pub isMarked : Step → Bool
 isMarked s = leb (s .inv) 1 && (leb (s .«omit_fwd») 1 && leb (s .«omit_inv») 1)
 
 unfoldable pub isWritten : ℕ → List ℤ → List ℤ → Bool
-isWritten operator l unused = all (isOf Zero) unused && (all nineDigits l && isArgs (operatorOf operator) l)
+isWritten operator l unused = allOf (isOf Zero) unused && (allOf nineDigits l && isArgs (operatorOf operator) l)
 
 -- the place of refusal 18, in the words of the code
 unfoldable pub badOf : Option ℕ → Bad

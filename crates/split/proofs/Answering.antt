@@ -6,7 +6,7 @@ use Prim.Native.Nat.{ℕ, _*_, _≤_, _<_}
 use native.Mathlib.Omega.{arith}
 use lib.ListN.{length, take}
 use lib.Dec.{ltb}
-use Rattle.rules.specs.Lists.{any, placeOf}
+use Rattle.rules.specs.Lists.{anyOf, placeOf}
 use Rattle.rules.specs.Text.{Bytes, Steps, inDomain}
 use Rattle.rules.specs.Refusal.{Reply, answers, refuses, andThen, Writes}
 use Rattle.rules.specs.Normal.{normal}
@@ -62,19 +62,19 @@ module _ (ss : Steps) where
 module _ (n : Bytes) where
   pub fault-modifiers : (place : ℕ) → Modifiers place ≡ faultOf (stepsOf n) → splitNormal n ≡ refuses 6 place
   unfolding faultOf splitSteps
-  fault-modifiers place e = modifiers-by (stepsOf n) (any onlyModifiers (stepsOf n)) (ltb 64 (length (stepsOf n))) place e
+  fault-modifiers place e = modifiers-by (stepsOf n) (anyOf onlyModifiers (stepsOf n)) (ltb 64 (length (stepsOf n))) place e
 
   pub fault-many : TooMany ≡ faultOf (stepsOf n) → splitNormal n ≡ refuses 8 0
   unfolding faultOf splitSteps
-  fault-many e = many-by (stepsOf n) (any onlyModifiers (stepsOf n)) (ltb 64 (length (stepsOf n))) e
+  fault-many e = many-by (stepsOf n) (anyOf onlyModifiers (stepsOf n)) (ltb 64 (length (stepsOf n))) e
 
   pub fault-none : Nothing ≡ faultOf (stepsOf n) → splitNormal n ≡ answers (linesOf (stepsOf n))
   unfolding faultOf splitSteps
-  fault-none e = well-by (stepsOf n) (any onlyModifiers (stepsOf n)) (ltb 64 (length (stepsOf n))) e
+  fault-none e = well-by (stepsOf n) (anyOf onlyModifiers (stepsOf n)) (ltb 64 (length (stepsOf n))) e
 
-  pub none-only : Nothing ≡ faultOf (stepsOf n) → any onlyModifiers (stepsOf n) ≡ false
+  pub none-only : Nothing ≡ faultOf (stepsOf n) → anyOf onlyModifiers (stepsOf n) ≡ false
   unfolding faultOf
-  none-only e = none-by (stepsOf n) (any onlyModifiers (stepsOf n)) (ltb 64 (length (stepsOf n))) e
+  none-only e = none-by (stepsOf n) (anyOf onlyModifiers (stepsOf n)) (ltb 64 (length (stepsOf n))) e
 
 -- ---- the answer
 

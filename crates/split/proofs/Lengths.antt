@@ -6,7 +6,7 @@ use Prim.Native.Nat.{ℕ, suc, _+_, _≤_}
 use native.Mathlib.Omega.{arith}
 use lib.ListN.{length, drop, length-append}
 use Rattle.rules.specs.Ascii.{is, ascii}
-use Rattle.rules.specs.Lists.{any, all, kept, nonEmpty}
+use Rattle.rules.specs.Lists.{anyOf, allOf, kept, nonEmpty}
 use Rattle.rules.specs.Text.{Bytes, Words, Steps, white, onto, cut, words, afterEach, joinedBy, joined}
 use Rattle.rules.specs.Split.{modifier, onlyModifiers, leading, following, turned, stepsOf, stepText, line}
 use Rattle.rules.specs.Reader.{next, part}
@@ -131,10 +131,10 @@ lines-length t = omega (arith, pieces-lines (cut (is "|") t), cut-sizes (is "|")
 
 pub record Lines (s dst₀ : Bytes) (at o : ℕ) (dst : Bytes) : Type 0 where
   pub within : at ≤ length s
-  pub well : any onlyModifiers (stepsOf (drop at s)) ≡ false
+  pub well : anyOf onlyModifiers (stepsOf (drop at s)) ≡ false
   pub sofar : Sofar (linesOf (stepsOf s)) (linesOf (stepsOf (drop at s))) dst₀ o dst
 
-pub lines-start : (s dst : Bytes) → any onlyModifiers (stepsOf s) ≡ false → length (linesOf (stepsOf s)) ≤ length dst → Lines s dst 0 0 dst
+pub lines-start : (s dst : Bytes) → anyOf onlyModifiers (stepsOf s) ≡ false → length (linesOf (stepsOf s)) ≤ length dst → Lines s dst 0 0 dst
 lines-start s dst e h = record { within = omega arith; well = e; sofar = sofar-start (linesOf (stepsOf s)) dst h }
 
 or-left : (a b : Bool) → (a || b) ≡ false → a ≡ false
@@ -154,19 +154,19 @@ module _ {s dst₀ : Bytes} {at o : ℕ} {dst : Bytes} (m : Lines s dst₀ at o 
   lines-done f = sofar-end (subst (λ (ss : Steps). Sofar (linesOf (stepsOf s)) (linesOf ss) dst₀ o dst) (walk-end s at f) (m .sofar))
 
   module _ (from to : ℕ) (then : Cursor) (f : next s at ≡ Step from to then) where
-    here-well : (onlyModifiers (words (part from to s)) || any onlyModifiers (stepsOf (drop (then .at) s))) ≡ false
-    unfolding any
-    here-well = sym (ap (any onlyModifiers) (walk-step s at from to then f)) ∙ m .well
+    here-well : (onlyModifiers (words (part from to s)) || anyOf onlyModifiers (stepsOf (drop (then .at) s))) ≡ false
+    unfolding anyOf
+    here-well = sym (ap (anyOf onlyModifiers) (walk-step s at from to then f)) ∙ m .well
 
     here-sofar : Sofar (linesOf (stepsOf s)) (line (stepText (words (part from to s))) ++ linesOf (stepsOf (drop (then .at) s))) dst₀ o dst
     unfolding flatMap
     here-sofar = subst (λ (ss : Steps). Sofar (linesOf (stepsOf s)) (linesOf ss) dst₀ o dst) (walk-step s at from to then f) (m .sofar)
 
     -- a step is not modifiers alone, and its line has room
-    pub lines-other : all modifier (words (part from to s)) ≡ false
+    pub lines-other : allOf modifier (words (part from to s)) ≡ false
     unfolding onlyModifiers
     lines-other =
-        let e = or-left (onlyModifiers (words (part from to s))) (any onlyModifiers (stepsOf (drop (then .at) s))) here-well in
+        let e = or-left (onlyModifiers (words (part from to s))) (anyOf onlyModifiers (stepsOf (drop (then .at) s))) here-well in
         sym (rw (walk-ahead s at from to then f .worded)) ∙ e
 
     pub lines-room : o + length (line (stepText (words (part from to s)))) ≤ length dst
@@ -177,6 +177,6 @@ module _ {s dst₀ : Bytes} {at o : ℕ} {dst : Bytes} (m : Lines s dst₀ at o 
         let h = walk-ahead s at from to then f in
         record {
           within = omega (arith, h .within, h .goes-on);
-          well = or-right (onlyModifiers (words (part from to s))) (any onlyModifiers (stepsOf (drop (then .at) s))) here-well;
+          well = or-right (onlyModifiers (words (part from to s))) (anyOf onlyModifiers (stepsOf (drop (then .at) s))) here-well;
           sofar = sofar-part (line (stepText (words (part from to s)))) here-sofar (w .wrote);
         }

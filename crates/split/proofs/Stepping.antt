@@ -5,7 +5,7 @@ use mathlib.Core.List.{[], _∷_, _++_, append-assoc}
 use Prim.Native.Nat.{ℕ, _+_, _-_, _≤_, _<_}
 use native.Mathlib.Omega.{arith}
 use lib.ListN.{length, take, drop, set, length-append, length-set}
-use Rattle.rules.specs.Lists.{all, nonEmpty}
+use Rattle.rules.specs.Lists.{allOf, nonEmpty}
 use Rattle.rules.specs.Text.{Bytes, Words, white, words, afterEach, joinedBy, joined}
 use Rattle.rules.specs.Split.{modifier, leading, following, turned, stepText}
 use Rattle.text.specs.Writing.{WroteAt}
@@ -17,11 +17,11 @@ use Rattle.walk.proofs.Leading.{part-from, following-some}
 
 -- ---- words, each after a space
 
-pub spaced-none : (t : Bytes) → all white t ≡ true → spaced (words t) ≡ []
+pub spaced-none : (t : Bytes) → allOf white t ≡ true → spaced (words t) ≡ []
 unfolding afterEach
 spaced-none t e = ap spaced (words-none t e)
 
-pub spaced-some : (t : Bytes) → all white t ≡ false → spaced (words t) ≡ (32 ∷ []) ++ joined (words t)
+pub spaced-some : (t : Bytes) → allOf white t ≡ false → spaced (words t) ≡ (32 ∷ []) ++ joined (words t)
 spaced-some t e = go (words t) (words-blank t ∙ ap not e)
   where
     go : (ws : Words) → nonEmpty ws ≡ true → spaced ws ≡ (32 ∷ []) ++ joined ws
@@ -41,17 +41,17 @@ joined-append [] us e = absurd (false≢true e)
 joined-append (w ∷ ws) us e = ap (λ (r : Bytes). w ++ r) (spaced-append ws us) ∙ sym (append-assoc w (spaced ws) (spaced us))
 
 -- by the place where the modifiers in front end
-pub step-is : {s : Bytes} {k : ℕ} → Lead s k → all modifier (words s) ≡ false → stepText (words s) ≡ joined (words (drop k s)) ++ spaced (words (take k s))
+pub step-is : {s : Bytes} {k : ℕ} → Lead s k → allOf modifier (words s) ≡ false → stepText (words s) ≡ joined (words (drop k s)) ++ spaced (words (take k s))
 unfolding stepText turned
 step-is {s} {k} m e = joined-append (following (words s)) (leading (words s)) (following-some (words s) e) ∙ rw (m .front, m .rest)
 
 -- ---- for the functions, need by need
 
 -- words, each after a space
-pub more-none : (t dst : Bytes) (at : ℕ) → all white t ≡ true → at + length (spaced (words t)) ≤ length dst → WroteAt (spaced (words t)) dst at at dst
+pub more-none : (t dst : Bytes) (at : ℕ) → allOf white t ≡ true → at + length (spaced (words t)) ≤ length dst → WroteAt (spaced (words t)) dst at at dst
 more-none t dst at e h = rw (spaced-none t e) (wrote-nothing dst at (omega arith))
 
-module _ (t dst : Bytes) (at : ℕ) (e : all white t ≡ false) (h : at + length (spaced (words t)) ≤ length dst) where
+module _ (t dst : Bytes) (at : ℕ) (e : allOf white t ≡ false) (h : at + length (spaced (words t)) ≤ length dst) where
   some-room : at + length ((32 ∷ []) ++ joined (words t)) ≤ length dst
   some-room = subst (λ (x : Bytes). at + length x ≤ length dst) (spaced-some t e) h
 
@@ -65,7 +65,7 @@ module _ (t dst : Bytes) (at : ℕ) (e : all white t ≡ false) (h : at + length
   more-some w = rw (spaced-some t e) (wrote-both (32 ∷ []) (joined (words t)) some-room (wrote-byte 32 dst at more-place) w)
 
 -- a step's text
-module _ {s : Bytes} {k : ℕ} (m : Lead s k) (e : all modifier (words s) ≡ false) (dst : Bytes) (at : ℕ) (h : at + length (stepText (words s)) ≤ length dst) where
+module _ {s : Bytes} {k : ℕ} (m : Lead s k) (e : allOf modifier (words s) ≡ false) (dst : Bytes) (at : ℕ) (h : at + length (stepText (words s)) ≤ length dst) where
   from-k : joined (words (take (length s - k) (drop k s))) ≡ joined (words (drop k s))
   from-k = ap (λ (u : Bytes). joined (words u)) (part-from s k)
 

@@ -14,7 +14,7 @@ ghost use mathlib.Core.Path.{_≡_};
 ghost use mathlib.Core.Bool.{true, false};
 ghost use Prim.Native.Nat.{_+_, _*_, _<_, _≤_};
 ghost use lib.ListN.{length};
-ghost use Rattle.rules.specs.Lists.{any, all};
+ghost use Rattle.rules.specs.Lists.{anyOf, allOf};
 ghost use Rattle.rules.specs.Text.{words, joined, inDomain};
 ghost use Rattle.rules.specs.Split.{modifier, onlyModifiers, stepsOf, stepText, line, split};
 ghost use Rattle.rules.specs.Refusal.{Writes};
@@ -88,7 +88,7 @@ fn more_words_at(src: &[u8], dst: &mut [u8], at: usize) -> usize
 
 // Writes a step's text: the modifiers in front of its words stand behind them.
 pub fn step_at(step: &[u8], dst: &mut [u8], at: usize) -> usize
-    requires { ⌜ all modifier (words (now step)) ≡ false ⌝ }
+    requires { ⌜ allOf modifier (words (now step)) ≡ false ⌝ }
     requires { ⌜ at + length (stepText (words (now step))) ≤ length (now dst) ⌝ }
     ensures { λ r. ⌜ WroteAt (stepText (words (now (step .entry)))) (now (dst .entry)) at r (now (dst .exit)) ⌝ }
 {
@@ -99,7 +99,7 @@ pub fn step_at(step: &[u8], dst: &mut [u8], at: usize) -> usize
 
 // Writes a step's line.
 fn line_at(step: &[u8], dst: &mut [u8], at: usize) -> usize
-    requires { ⌜ all modifier (words (now step)) ≡ false ⌝ }
+    requires { ⌜ allOf modifier (words (now step)) ≡ false ⌝ }
     requires { ⌜ at + length (line (stepText (words (now step)))) ≤ length (now dst) ⌝ }
     ensures { λ r. ⌜ WroteAt (line (stepText (words (now (step .entry))))) (now (dst .entry)) at r (now (dst .exit)) ⌝ }
 {
@@ -110,7 +110,7 @@ fn line_at(step: &[u8], dst: &mut [u8], at: usize) -> usize
 
 // Writes the lines of all steps of a normalised text.
 fn lines_of(normal: &[u8], dst: &mut [u8]) -> usize
-    requires { ⌜ any onlyModifiers (stepsOf (now normal)) ≡ false ⌝ }
+    requires { ⌜ anyOf onlyModifiers (stepsOf (now normal)) ≡ false ⌝ }
     requires { ⌜ length (linesOf (stepsOf (now normal))) ≤ length (now dst) ⌝ }
     ensures { λ r. ⌜ Wrote (linesOf (stepsOf (now (normal .entry)))) (now (dst .entry)) r (now (dst .exit)) ⌝ }
 {

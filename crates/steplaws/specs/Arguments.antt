@@ -10,7 +10,7 @@ use lib.ListN.{length, length-map}
 use lib.Dec.{leb, lit≤}
 use lib.IntN.{ℤ, pos}
 use Rattle.rules.specs.Ascii.{ascii}
-use Rattle.rules.specs.Lists.{any, all}
+use Rattle.rules.specs.Lists.{anyOf, allOf}
 use Rattle.rules.specs.Text.{Bytes, same}
 use Rattle.rules.specs.Parameters.{Parameter}
 use Rattle.rules.specs.Decimal.{pieces, series, isWhole, wholeOf, minus}
@@ -28,13 +28,13 @@ use Rattle.steplaws.specs.Words.{between-kept}
 -- ---- push and pop: places that rise, whichever flags are given
 
 keeps : List ℤ → Bool
-keeps l = leb (length l) 8 && (all nineDigits l && isRising 0 l)
+keeps l = leb (length l) 8 && (allOf nineDigits l && isRising 0 l)
 
 axesOn : Bool → Bool → Bool → Bool → List ℤ
 axesOn a b c d = cond a (pos 1 ∷ []) [] ++ (cond b (pos 2 ∷ []) [] ++ (cond c (pos 3 ∷ []) [] ++ cond d (pos 4 ∷ []) []))
 
 every-axes : both (λ a. both (λ b. both (λ c. both (λ d. keeps (axesOn a b c d))))) ≡ true
-unfolding both axesOn keeps all nineDigits isRising isPlace minus
+unfolding both axesOn keeps allOf nineDigits isRising isPlace minus
 every-axes = refl
 
 axes-kept : (o : Operator) (ps : List Parameter) → ((l : List ℤ) → isArgs o l ≡ isRising 0 l) → Kept o (axes ps)
@@ -44,26 +44,26 @@ axes-kept o ps e =
     let r = and-right (leb (length (axes ps)) 8) _ k in
     record {
       fit = leb-true (length (axes ps)) 8 (and-left (leb (length (axes ps)) 8) _ k);
-      nines = and-left (all nineDigits (axes ps)) _ r;
-      rule = rw (e (axes ps)) (and-right (all nineDigits (axes ps)) (isRising 0 (axes ps)) r);
+      nines = and-left (allOf nineDigits (axes ps)) _ r;
+      rule = rw (e (axes ps)) (and-right (allOf nineDigits (axes ps)) (isRising 0 (axes ps)) r);
     }
 
 -- ---- a series that keeps a rule
 
 -- the value of a key has passed what every parameter has passed
-value-passed : (test : Parameter → Bool) (k v : Bytes) (ps : List Parameter) → valueOf k ps ≡ some v → any test ps ≡ false → test (record { key = k; value = v }) ≡ false
-unfolding valueOf any
+value-passed : (test : Parameter → Bool) (k v : Bytes) (ps : List Parameter) → valueOf k ps ≡ some v → anyOf test ps ≡ false → test (record { key = k; value = v }) ≡ false
+unfolding valueOf anyOf
 value-passed test k v [] h e = absurd (never (cc h))
 value-passed test k v (p ∷ ps) h e = go (same k (p .key)) refl (value-passed test k v ps) h
   where
-    go : (b : Bool) → same k (p .key) ≡ b → (valueOf k ps ≡ some v → any test ps ≡ false → test (record { key = k; value = v }) ≡ false)
+    go : (b : Bool) → same k (p .key) ≡ b → (valueOf k ps ≡ some v → anyOf test ps ≡ false → test (record { key = k; value = v }) ≡ false)
         → cond b (some (p .value)) (valueOf k ps) ≡ some v → test (record { key = k; value = v }) ≡ false
-    go true f ih h = let w : p .value ≡ v = cc h in rw (same-is k (p .key) f, ← w) (or-left (test p) (any test ps) e)
-    go false f ih h = ih h (or-right (test p) (any test ps) e)
+    go true f ih h = let w : p .value ≡ v = cc h in rw (same-is k (p .key) f, ← w) (or-left (test p) (anyOf test ps) e)
+    go false f ih h = ih h (or-right (test p) (anyOf test ps) e)
 
 -- no series is too long
 abbrev pub Short : Name → List Parameter → Type 0
-Short n ps = any (λ (p : Parameter). tooLong (kindOf n p) (p .value)) ps ≡ false
+Short n ps = anyOf (λ (p : Parameter). tooLong (kindOf n p) (p .value)) ps ≡ false
 
 module _ (n : Name) (ps : List Parameter) (short : Short n ps) where
   wholes-kept : (o : Operator) (rule : List ℤ → Bool) → ((l : List ℤ) → rule l ≡ true → isArgs o l ≡ true)
@@ -77,9 +77,9 @@ module _ (n : Name) (ps : List Parameter) (short : Short n ps) where
 
       go : (r : Option (List Decimal)) → series v ≡ r → wholes rule r ≡ some l → Kept o l
       go none f h = absurd (never (cc h))
-      go (some ds) f h = ok (all isWhole ds && rule (map wholeOf ds)) refl h
+      go (some ds) f h = ok (allOf isWhole ds && rule (map wholeOf ds)) refl h
         where
-          ok : (b : Bool) → (all isWhole ds && rule (map wholeOf ds)) ≡ b → cond b (some (map wholeOf ds)) none ≡ some l → Kept o l
+          ok : (b : Bool) → (allOf isWhole ds && rule (map wholeOf ds)) ≡ b → cond b (some (map wholeOf ds)) none ≡ some l → Kept o l
           ok false g h = absurd (never (cc h))
           ok true g h =
               let r = series-read v ds f in
@@ -88,7 +88,7 @@ module _ (n : Name) (ps : List Parameter) (short : Short n ps) where
               (record {
                 fit = omega (arith, length-map ds wholeOf, r .many, few);
                 nines = r .nines;
-                rule = fits (map wholeOf ds) (and-right (all isWhole ds) (rule (map wholeOf ds)) g);
+                rule = fits (map wholeOf ds) (and-right (allOf isWhole ds) (rule (map wholeOf ds)) g);
               })
 
 -- ---- stack
@@ -111,7 +111,7 @@ action-made ps a none l h r = r
 action-made ps a (some v) l h r = (recorded-made (a .operator) ps (a .arguments v) (h v refl), r)
 
 none-kept : (o : Operator) → isArgs o [] ≡ true → (l : List ℤ) → some [] ≡ some l → Kept o l
-unfolding all
+unfolding allOf
 none-kept o r l h = let e : [] ≡ l = cc h in rw (← e) (record { fit = lit≤ tt; nines = refl; rule = r })
 
 module _ (ps : List Parameter) (short : Short stack ps) where
@@ -129,7 +129,7 @@ module _ (ps : List Parameter) (short : Short stack ps) where
 -- ---- axisswap
 
 default-kept : Kept Axisswap (pos 1 ∷ pos 2 ∷ pos 3 ∷ pos 4 ∷ [])
-unfolding isArgs isOrder isDistinct nineDigits all any
+unfolding isArgs isOrder isDistinct nineDigits allOf anyOf
 default-kept = record { fit = lit≤ tt; nines = refl; rule = refl }
 
 order-kept : (ps : List Parameter) → Short axisswap ps → (o : Option Bytes) → valueOf (ascii "order") ps ≡ o → (l : List ℤ) → order o ≡ some l → Kept Axisswap l

@@ -8,7 +8,7 @@ use borrow.Author.Tests.{not-true}
 use lib.ListN.{length, take, replicate, length-map}
 use lib.Seq.{take-at}
 use lib.Ieee.{Float}
-use Rattle.rules.specs.Lists.{any}
+use Rattle.rules.specs.Lists.{anyOf}
 use Rattle.rules.specs.Record.{refusal18}
 use Rattle.rules.specs.Coordinate.{number, turn}
 use Rattle.rules.specs.Act.{Numbered, running}
@@ -38,7 +38,7 @@ told-depth ts p = length-map (p .columns) _
 -- After a pass without `adapt`, the run leaves what the check's places tell of: its tuples and its columns.
 pub after-told : (ts : List Coord) (l : List Numbered) (p : Traced) → verdict l p ≡ Passes → anyAdapt l ≡ false
     → after acted l (told ts p) ≡ told ts (after (moved onPlaces) l p)
-unfolding after anyAdapt any
+unfolding after anyAdapt anyOf
 after-told ts [] p h e = refl
 after-told ts (s ∷ l) p h e =
     let f = first-of s l p h in

@@ -12,7 +12,7 @@ use lib.Seq.{take-append-seam}
 use lib.Dec.{ltb}
 use lib.Ieee.{Float}
 use Rattle.rules.specs.Ascii.{ascii}
-use Rattle.rules.specs.Lists.{any, all, placeOf}
+use Rattle.rules.specs.Lists.{anyOf, allOf, placeOf}
 use Rattle.rules.specs.Text.{Bytes, Steps, inDomain}
 use Rattle.rules.specs.Refusal.{Reply, answers, refuses, andThen, tested, lent, outcome, prepared}
 use Rattle.rules.specs.Split.{onlyModifiers, stepText, steps, splitSteps}
@@ -56,7 +56,7 @@ prepared-made ps s h = by10 (named (valueOf (ascii "_name") ps)) h
     by10 : (o : Option Name) → judged10 o ps ≡ answers s → made s ≡ true
     by10 none h = absurd (never (cc h))
     by10 (some n) h =
-        by13 n (any (unknown n) ps) (any (λ (p : Parameter). misspelt (kindOf n p) (p .value)) ps) (any (λ (p : Parameter). tooLong (kindOf n p) (p .value)) ps) (λ e. e) h
+        by13 n (anyOf (unknown n) ps) (anyOf (λ (p : Parameter). misspelt (kindOf n p) (p .value)) ps) (anyOf (λ (p : Parameter). tooLong (kindOf n p) (p .value)) ps) (λ e. e) h
 
 -- what an answer of two calls, one after the other, is made of
 pub then-answers : {A B : Type 0} (r : Reply A) (next : A → Reply B) (y : B) → andThen r next ≡ answers y → (x : A) × (r ≡ answers x) × (next x ≡ answers y)
@@ -81,11 +81,11 @@ step-made place t s h = go (ltb 4096 (length t)) h
 
 -- the records of an answer: one for each step's text, and each is `made`
 pub record AllMade (n : ℕ) (l : List Step) : Type 0 where
-  pub each : all made l ≡ true
+  pub each : allOf made l ≡ true
   pub many : length l ≡ n
 
 pub steps-made : (place : ℕ) (ts : List Bytes) (l : List Step) → prepareSteps place ts ≡ answers l → AllMade (length ts) l
-unfolding prepareSteps all
+unfolding prepareSteps allOf
 steps-made place [] l h = let e : [] ≡ l = cc h in rw (← e) (record { each = refl; many = refl })
 steps-made place (t ∷ ts) l h =
     let f = then-answers (prepareStep place t) _ l h in
@@ -97,20 +97,20 @@ steps-made place (t ∷ ts) l h =
 -- splitting gives 64 steps at most
 split-few : (ss : Steps) (ts : List Bytes) → splitSteps ss ≡ answers ts → length ts ≤ 64
 unfolding splitSteps
-split-few ss ts h = go (any onlyModifiers ss) (ltb 64 (length ss)) refl h
+split-few ss ts h = go (anyOf onlyModifiers ss) (ltb 64 (length ss)) refl h
   where
     go : (a b : Bool) → ltb 64 (length ss) ≡ b → cond a (refuses 6 (placeOf onlyModifiers ss)) (cond b (refuses 8 0) (answers (map stepText ss))) ≡ answers ts → length ts ≤ 64
     go true b e h = absurd (never (cc h))
     go false true e h = absurd (never (cc h))
     go false false e h = let same : map stepText ss ≡ ts = cc h in rw (← same, length-map ss stepText) (ltb-false 64 (length ss) e)
 
-none-bad : (k : ℕ) (l : List Step) → all made l ≡ true → firstBad k l ≡ none
-unfolding firstBad all
+none-bad : (k : ℕ) (l : List Step) → allOf made l ≡ true → firstBad k l ≡ none
+unfolding firstBad allOf
 none-bad k [] h = refl
-none-bad k (s ∷ l) h = rw (and-left (made s) (all made l) h) (none-bad (suc k) l (and-right (made s) (all made l) h))
+none-bad k (s ∷ l) h = rw (and-left (made s) (allOf made l) h) (none-bad (suc k) l (and-right (made s) (allOf made l) h))
 
 -- Every record of a prepared text is `made`, and they are 64 at most.
-pub prepare-made : (t : Bytes) (l : List Step) → prepare t ≡ answers l → (all made l ≡ true) × (length l ≤ 64)
+pub prepare-made : (t : Bytes) (l : List Step) → prepare t ≡ answers l → (allOf made l ≡ true) × (length l ≤ 64)
 unfolding prepare
 prepare-made t l h =
     let f = then-answers (splitSteps (steps t)) (prepareSteps 1) l h in

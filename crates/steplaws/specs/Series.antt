@@ -10,7 +10,7 @@ use borrow.Author.Tests.{leb-true, le-leb}
 use lib.ListN.{length}
 use lib.Dec.{leb}
 use Rattle.rules.specs.Ascii.{is}
-use Rattle.rules.specs.Lists.{all}
+use Rattle.rules.specs.Lists.{allOf}
 use Rattle.rules.specs.Text.{Bytes, before, behind}
 use Rattle.rules.specs.Decimal.{digit, digitsTo, spelled, plainForm, plain, decimal, pieces, numberThen, allNumbers, series, signed, wholeOf}
 use Rattle.rules.specs.Record.{size, nineDigits}
@@ -32,22 +32,22 @@ unfolding most
 most-more n zero = le-refl n
 most-more n (suc k) = omega (arith, most-more (n * 10 + 9) k)
 
-spelled-most : (n m k : ℕ) (t : Bytes) → n ≤ m → length t ≤ k → all digit t ≡ true → spelled n t ≤ most m k
-unfolding spelled most all digit
+spelled-most : (n m k : ℕ) (t : Bytes) → n ≤ m → length t ≤ k → allOf digit t ≡ true → spelled n t ≤ most m k
+unfolding spelled most allOf digit
 spelled-most n m k [] h l d = le-trans h (most-more m k)
 spelled-most n m zero (b ∷ t) h l d = absurd (none l)
   where
     none : {i : ℕ} → suc i ≤ 0 → ⊥
     none h = omega arith
 spelled-most n m (suc k) (b ∷ t) h l d =
-    let g = leb-true b 57 (and-right (leb 48 b) (leb b 57) (and-left (digit b) (all digit t) d)) in
-    spelled-most (n * 10 + (b - 48)) (m * 10 + 9) k t (omega arith) (omega arith) (and-right (digit b) (all digit t) d)
+    let g = leb-true b 57 (and-right (leb 48 b) (leb b 57) (and-left (digit b) (allOf digit t) d)) in
+    spelled-most (n * 10 + (b - 48)) (m * 10 + 9) k t (omega arith) (omega arith) (and-right (digit b) (allOf digit t) d)
 
 nine : (t : Bytes) → digitsTo 9 t ≡ true → spelled 0 t ≤ 999999999
 unfolding digitsTo most
 nine t h =
-    let r = and-right (leb 1 (length t)) (leb (length t) 9 && all digit t) h in
-    spelled-most 0 0 9 t (le-refl 0) (leb-true (length t) 9 (and-left (leb (length t) 9) (all digit t) r)) (and-right (leb (length t) 9) (all digit t) r)
+    let r = and-right (leb 1 (length t)) (leb (length t) 9 && allOf digit t) h in
+    spelled-most 0 0 9 t (le-refl 0) (leb-true (length t) 9 (and-left (leb (length t) 9) (allOf digit t) r)) (and-right (leb (length t) 9) (allOf digit t) r)
 
 -- ---- numbers
 
@@ -86,11 +86,11 @@ decimal-nine (b ∷ t) d h = go (is "-" b) h
 
 -- what a series of n pieces has that is read
 pub record Read (n : ℕ) (ds : List Decimal) : Type 0 where
-  pub nines : all nineDigits (map wholeOf ds) ≡ true
+  pub nines : allOf nineDigits (map wholeOf ds) ≡ true
   pub many : length ds ≡ n
 
 all-read : (ps : List Bytes) (ds : List Decimal) → allNumbers ps ≡ some ds → Read (length ps) ds
-unfolding allNumbers numberThen all
+unfolding allNumbers numberThen allOf
 all-read [] ds h = let e : [] ≡ ds = cc h in rw (← e) (record { nines = refl; many = refl })
 all-read (p ∷ ps) ds h = go (decimal p) (allNumbers ps) refl (all-read ps) h
   where

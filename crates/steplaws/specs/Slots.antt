@@ -10,7 +10,7 @@ use lib.ListN.{length, replicate}
 use lib.Seq.{take-append-seam, drop-append-seam}
 use lib.Dec.{eqb, leb}
 use lib.IntN.{ℤ, pos}
-use Rattle.rules.specs.Lists.{all}
+use Rattle.rules.specs.Lists.{allOf}
 use Rattle.rules.specs.Parameters.{Parameter}
 use Rattle.rules.specs.Record.{Operator, numberOf, size, operator, args, unused, isArgs, nineDigits, made}
 use Rattle.rules.specs.OwnRules.{isGiven, mark, recordOf, recorded}
@@ -18,8 +18,8 @@ use Rattle.rules.specs.declared.Step.{Step}
 use Rattle.steplaws.specs.Tests.{never}
 use Rattle.steplaws.specs.Operators.{operator-number, number-small}
 
-all-zero : (k : ℕ) → all (λ (x : ℤ). eqb (size x) 0) (replicate k (pos 0)) ≡ true
-unfolding all
+all-zero : (k : ℕ) → allOf (λ (x : ℤ). eqb (size x) 0) (replicate k (pos 0)) ≡ true
+unfolding allOf
 all-zero zero = refl
 all-zero (suc k) = all-zero k
 
@@ -34,7 +34,7 @@ mark-small key ps = go (isGiven key ps)
 -- what a record's arguments must keep
 pub record Kept (o : Operator) (l : List ℤ) : Type 0 where
   pub fit : length l ≤ 8
-  pub nines : all nineDigits l ≡ true
+  pub nines : allOf nineDigits l ≡ true
   pub rule : isArgs o l ≡ true
 
 pub record-made : (o : Operator) (ps : List Parameter) (l : List ℤ) → Kept o l → made (recordOf o ps l) ≡ true

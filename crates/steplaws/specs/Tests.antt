@@ -6,7 +6,7 @@ use mathlib.Core.List.{List, [], _∷_, _++_}
 use native.Mathlib.Omega.{arith}
 use borrow.Author.Tests.{eqb-true, eqb-false}
 use lib.Dec.{eqb}
-use Rattle.rules.specs.Lists.{all}
+use Rattle.rules.specs.Lists.{allOf}
 use Rattle.laws.specs.Separators.{and-left, and-right}
 
 -- Two constructors are never equal: from such an equation `cc` proves this one.
@@ -19,15 +19,15 @@ Every P [] = Unit {0}
 Every P (x ∷ l) = P x × Every P l
 
 -- a test that follows from another
-pub all-so : {A : Type 0} (p q : A → Bool) → ((x : A) → p x ≡ true → q x ≡ true) → (l : List A) → all p l ≡ true → all q l ≡ true
-unfolding all
+pub all-so : {A : Type 0} (p q : A → Bool) → ((x : A) → p x ≡ true → q x ≡ true) → (l : List A) → allOf p l ≡ true → allOf q l ≡ true
+unfolding allOf
 all-so p q f [] h = refl
-all-so p q f (x ∷ l) h = rw (f x (and-left (p x) (all p l) h)) (all-so p q f l (and-right (p x) (all p l) h))
+all-so p q f (x ∷ l) h = rw (f x (and-left (p x) (allOf p l) h)) (all-so p q f l (and-right (p x) (allOf p l) h))
 
-pub all-append : {A : Type 0} (p : A → Bool) (l m : List A) → all p l ≡ true → all p m ≡ true → all p (l ++ m) ≡ true
-unfolding all
+pub all-append : {A : Type 0} (p : A → Bool) (l m : List A) → allOf p l ≡ true → allOf p m ≡ true → allOf p (l ++ m) ≡ true
+unfolding allOf
 all-append p [] m h k = k
-all-append p (x ∷ l) m h k = rw (and-left (p x) (all p l) h) (all-append p l m (and-right (p x) (all p l) h) k)
+all-append p (x ∷ l) m h k = rw (and-left (p x) (allOf p l) h) (all-append p l m (and-right (p x) (allOf p l) h) k)
 
 -- the test of every number below n, which is computed
 unfoldable pub below : ℕ → (ℕ → Bool) → Bool

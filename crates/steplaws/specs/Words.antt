@@ -11,7 +11,7 @@ use lib.ListN.{length}
 use lib.Dec.{leb, eqb, lit≤}
 use lib.IntN.{ℤ, pos}
 use Rattle.rules.specs.Ascii.{ascii}
-use Rattle.rules.specs.Lists.{all, any}
+use Rattle.rules.specs.Lists.{allOf, anyOf}
 use Rattle.rules.specs.Text.{Bytes, same}
 use Rattle.rules.specs.Decimal.{signed, minus}
 use Rattle.rules.specs.Record.{Adapt, size, arg, isDistinct, isOrder, isCode, isAdapt, isArgs, nineDigits}
@@ -56,22 +56,22 @@ row : (a b c d : ℕ) → Bool
 row a b c d = below4 (λ e f g h. so (order4 e f g h) (places4 a b c d e f g h))
 
 table : below4 (λ a b c d. let r = row a b c d in so (order4 a b c d) r) ≡ true
-unfolding below below4 order4 places4 so row position isOrder isDistinct all any
+unfolding below below4 order4 places4 so row position isOrder isDistinct allOf anyOf
 table = refl
 
 -- ---- orders
 
 -- each size of an order is from 1 to its length, and that is at most 4
-order-each : (l : List ℤ) → isOrder l ≡ true → (length l ≤ 4) × (all (λ (x : ℤ). leb 1 (size x) && leb (size x) (length l)) l ≡ true)
+order-each : (l : List ℤ) → isOrder l ≡ true → (length l ≤ 4) × (allOf (λ (x : ℤ). leb 1 (size x) && leb (size x) (length l)) l ≡ true)
 unfolding isOrder
 order-each l h =
     let B = leb (length l) 4 in
-    let C = all (λ (x : ℤ). leb 1 (size x) && leb (size x) (length l)) l in
+    let C = allOf (λ (x : ℤ). leb 1 (size x) && leb (size x) (length l)) l in
     let r = and-right (leb 1 (length l)) (B && (C && isDistinct l)) h in
     (leb-true (length l) 4 (and-left B (C && isDistinct l) r), and-left C (isDistinct l) (and-right B (C && isDistinct l) r))
 
 -- so it has nine digits at most
-order-nines : (l : List ℤ) → isOrder l ≡ true → all nineDigits l ≡ true
+order-nines : (l : List ℤ) → isOrder l ≡ true → allOf nineDigits l ≡ true
 unfolding nineDigits
 order-nines l h =
     let e = order-each l h in
@@ -94,12 +94,12 @@ sized x k =
 module _ (a b c d : ℤ) (h : isOrder (a ∷ b ∷ c ∷ d ∷ []) ≡ true) where
   -- an order is a matter of sizes alone
   order-sizes : order4 (size a) (size b) (size c) (size d) ≡ true
-  unfolding order4 isOrder isDistinct all any
+  unfolding order4 isOrder isDistinct allOf anyOf
   order-sizes = h
 
   -- its four sizes are from 1 to 4
   pub order-sized : Sized a × Sized b × Sized c × Sized d
-  unfolding all
+  unfolding allOf
   order-sized =
       let w : ℤ → Bool = λ x. leb 1 (size x) && leb (size x) 4 in
       let h1 = order-each (a ∷ b ∷ c ∷ d ∷ []) h .1 in
@@ -110,7 +110,7 @@ module _ (a b c d : ℤ) (h : isOrder (a ∷ b ∷ c ∷ d ∷ []) ≡ true) whe
 
 -- the sign does not matter
 signed-order : (s t u v : Bool) (a b c d : ℕ) → order4 a b c d ≡ true → isOrder (signed s a ∷ signed t b ∷ signed u c ∷ signed v d ∷ []) ≡ true
-unfolding order4 isOrder isDistinct all any
+unfolding order4 isOrder isDistinct allOf anyOf
 signed-order s t u v a b c d h = rw (size-signed s a, size-signed t b, size-signed u c, size-signed v d) h
 
 -- the places of one order in another are an order
@@ -178,7 +178,7 @@ code-nine x h =
 
 -- with it twice, and two noughts, the outputs keep the rule of `adapt`
 adapt-kept : (a b c d x : ℤ) → isOrder (a ∷ b ∷ c ∷ d ∷ []) ≡ true → isCode x ≡ true → Kept Adapt (a ∷ b ∷ c ∷ d ∷ x ∷ x ∷ pos 0 ∷ pos 0 ∷ [])
-unfolding isArgs isAdapt arg all
+unfolding isArgs isAdapt arg allOf
 adapt-kept a b c d x h k =
     record {
       fit = lit≤ tt;

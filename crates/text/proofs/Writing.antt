@@ -30,15 +30,15 @@ pub holds-front : (buf : Bytes) (r : ℕ) → r ≤ length buf → Holds (take r
 holds-front buf r h = record { count = sym (length-take-le r buf h); whole = sym (take-append-drop r buf) }
 
 -- `all` is to be written into `dst₀`, which has room; `dst` has all of it but `rest`, and `o` is the place to go on
-pub record Sofar (all rest dst₀ : Bytes) (o : ℕ) (dst : Bytes) : Type 0 where
+pub record Sofar (allOf rest dst₀ : Bytes) (o : ℕ) (dst : Bytes) : Type 0 where
   pub done : Bytes
   pub wrote : Wrote done dst₀ o dst
-  pub right : done ++ rest ≡ all
-  pub room : length all ≤ length dst₀
+  pub right : done ++ rest ≡ allOf
+  pub room : length allOf ≤ length dst₀
 
-module _ {all rest dst₀ : Bytes} {o : ℕ} {dst : Bytes} (s : Sofar all rest dst₀ o dst) where
+module _ {allOf rest dst₀ : Bytes} {o : ℕ} {dst : Bytes} (s : Sofar allOf rest dst₀ o dst) where
   -- what is written and what is left are the whole
-  pub sofar-count : o + length rest ≡ length all
+  pub sofar-count : o + length rest ≡ length allOf
   sofar-count = rw (← s .right, length-append, s .wrote .count)
 
   pub sofar-length : length dst ≡ length dst₀
@@ -53,8 +53,8 @@ pub drop-next : (l : Bytes) (j : ℕ) → j < length l → drop j l ≡ getD l j
 drop-next l j h = rw (add-one, drop-cons l j 0 h)
 
 -- nothing is written yet
-pub sofar-start : (all d : Bytes) → length all ≤ length d → Sofar all all d 0 d
-sofar-start all d h = record { done = []; wrote = record { count = refl; whole = refl }; right = refl; room = h }
+pub sofar-start : (allOf d : Bytes) → length allOf ≤ length d → Sofar allOf allOf d 0 d
+sofar-start allOf d h = record { done = []; wrote = record { count = refl; whole = refl }; right = refl; room = h }
 
 -- a list's first bytes stay, and t is to be written after them
 pub sofar-at : (t d : Bytes) (at : ℕ) → at + length t ≤ length d → Sofar (take at d ++ t) t d at d
@@ -68,13 +68,13 @@ sofar-at t d at h =
     }
 
 -- all is written
-pub sofar-end : {all dst₀ : Bytes} {o : ℕ} {dst : Bytes} → Sofar all [] dst₀ o dst → Wrote all dst₀ o dst
+pub sofar-end : {allOf dst₀ : Bytes} {o : ℕ} {dst : Bytes} → Sofar allOf [] dst₀ o dst → Wrote allOf dst₀ o dst
 sofar-end s = let e = sym (append-nil (s .done)) ∙ s .right in rw (← e) (s .wrote)
 
 -- a byte is written
-pub sofar-byte : {all rest dst₀ : Bytes} {o v : ℕ} {dst : Bytes} → Sofar all (v ∷ rest) dst₀ o dst → Sofar all rest dst₀ (o + 1) (set dst o v)
-sofar-byte {all} {rest} {dst₀} {o} {v} {dst} s =
-    let n : o + suc (length rest) ≡ length all = sofar-count s in
+pub sofar-byte : {allOf rest dst₀ : Bytes} {o v : ℕ} {dst : Bytes} → Sofar allOf (v ∷ rest) dst₀ o dst → Sofar allOf rest dst₀ (o + 1) (set dst o v)
+sofar-byte {allOf} {rest} {dst₀} {o} {v} {dst} s =
+    let n : o + suc (length rest) ≡ length allOf = sofar-count s in
     let m = s .room in
     let h : o < length dst₀ = omega arith in
     let p = s .wrote .count in
@@ -89,16 +89,16 @@ sofar-byte {all} {rest} {dst₀} {o} {v} {dst} s =
     }
 
 -- there is room for what comes next
-pub sofar-byte-room : {all rest dst₀ : Bytes} {o v : ℕ} {dst : Bytes} → Sofar all (v ∷ rest) dst₀ o dst → (o < length dst) × (o < length dst₀)
+pub sofar-byte-room : {allOf rest dst₀ : Bytes} {o v : ℕ} {dst : Bytes} → Sofar allOf (v ∷ rest) dst₀ o dst → (o < length dst) × (o < length dst₀)
 sofar-byte-room s = (omega (arith, sofar-room s, sofar-length s), omega (arith, sofar-room s))
 
-pub sofar-part-room : (part rest : Bytes) {all dst₀ : Bytes} {o : ℕ} {dst : Bytes} → Sofar all (part ++ rest) dst₀ o dst → o + length part ≤ length dst
+pub sofar-part-room : (part rest : Bytes) {allOf dst₀ : Bytes} {o : ℕ} {dst : Bytes} → Sofar allOf (part ++ rest) dst₀ o dst → o + length part ≤ length dst
 sofar-part-room part rest s = omega (arith, simp length-append at (sofar-room s), sofar-length s)
 
 -- a part is written, by one that was lent `dst` and kept what it had
-pub sofar-part : (part : Bytes) {all rest dst₀ : Bytes} {o r : ℕ} {dst last : Bytes} → Sofar all (part ++ rest) dst₀ o dst
-    → Wrote (take o dst ++ part) dst r last → Sofar all rest dst₀ r last
-sofar-part part {all} {rest} {dst₀} {o} {r} {dst} {last} s w =
+pub sofar-part : (part : Bytes) {allOf rest dst₀ : Bytes} {o r : ℕ} {dst last : Bytes} → Sofar allOf (part ++ rest) dst₀ o dst
+    → Wrote (take o dst ++ part) dst r last → Sofar allOf rest dst₀ r last
+sofar-part part {allOf} {rest} {dst₀} {o} {r} {dst} {last} s w =
     let p = s .wrote .count in
     let t : take o dst ≡ s .done = rw (s .wrote .whole) (take-at (s .done) (drop o dst₀) o (sym p)) in
     let n : r ≡ o + length part = w .count ∙ rw t (simp length-append (omega arith)) in

@@ -81,9 +81,9 @@ pastes-all into from r {at} {start} {n} {i} p h a b room source =
       same = e;
     }
 
-pub rolls-all : (c others all : List ℕ) {top m n k : ℕ} → length c ≡ 64 → top + m ≤ 64 → Turns m n k → Pasted c top c (top + k) (m - k) others
-    → Pasted others (top + (m - k)) c top k all → Turned (rolled m n) top c all
-rolls-all c others all {top} {m} {n} {k} most room t p q =
+pub rolls-all : (c others allOf : List ℕ) {top m n k : ℕ} → length c ≡ 64 → top + m ≤ 64 → Turns m n k → Pasted c top c (top + k) (m - k) others
+    → Pasted others (top + (m - k)) c top k allOf → Turned (rolled m n) top c allOf
+rolls-all c others allOf {top} {m} {n} {k} most room t p q =
     let places-most : length (placesOf c) ≡ 64 = many c ∙ most in
     record {
       most = q .most;

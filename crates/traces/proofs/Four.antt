@@ -8,7 +8,7 @@ use lib.Dec.{leb, T, leb→le}
 use lib.IntN.{ℤ, pos}
 use lib.ListN.{length, getD, set}
 use Rattle.laws.specs.Separators.{and-left, and-right}
-use Rattle.rules.specs.Lists.{all}
+use Rattle.rules.specs.Lists.{allOf}
 use Rattle.rules.specs.Record.{size}
 use Rattle.rules.specs.Check.{noPlace, place, putPlace}
 use Rattle.rules.specs.declared.Place.{Place}
@@ -55,8 +55,8 @@ pub record Sized (x : ℤ) : Type 0 where
   pub low : 1 ≤ size x
   pub high : size x ≤ 4
 
-pub axis-at : (l : List ℤ) (i : ℕ) → all isAxis l ≡ true → i < length l → Sized (getD l i (pos 0))
-unfolding all isAxis
+pub axis-at : (l : List ℤ) (i : ℕ) → allOf isAxis l ≡ true → i < length l → Sized (getD l i (pos 0))
+unfolding allOf isAxis
 axis-at [] i e h = absurd (omega (arith, h))
 axis-at (x ∷ l) zero e h =
     let own = and-left (isAxis x) _ e in

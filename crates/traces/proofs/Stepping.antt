@@ -10,7 +10,7 @@ use lib.Dec.{leb, ltb, T, leb→le, ltb→lt}
 use lib.IntN.{ℤ}
 use lib.ListN.{length}
 use Rattle.laws.specs.Separators.{and-left, and-right}
-use Rattle.rules.specs.Lists.{all}
+use Rattle.rules.specs.Lists.{allOf}
 use Rattle.rules.specs.Decimal.{minus}
 use Rattle.rules.specs.Record.{size, isPlace, isOrder}
 use Rattle.rules.specs.Act.{places, pops, popsAll, drops, adapts}
@@ -25,16 +25,16 @@ use Rattle.traces.specs.Traces.{Traced, machine, depth, isAxis, Whole, M
 so : {b : Bool} → b ≡ true → T b
 so e = subst T (sym e) tt
 
-places-axes : (l : List ℤ) → all isPlace l ≡ true → all isAxis l ≡ true
+places-axes : (l : List ℤ) → allOf isPlace l ≡ true → allOf isAxis l ≡ true
 unfolding isPlace isAxis
 places-axes l e = all-so isPlace isAxis (λ x h. and-right (not (minus x)) _ h) l e
 
-order-axes : (l : List ℤ) → isOrder l ≡ true → (all isAxis l ≡ true) × (length l ≤ 4)
+order-axes : (l : List ℤ) → isOrder l ≡ true → (allOf isAxis l ≡ true) × (length l ≤ 4)
 unfolding isOrder isAxis
 order-axes l e =
     let rest = and-right (leb 1 (length l)) _ e in
     let few : length l ≤ 4 = leb→le (length l) 4 (so (and-left (leb (length l) 4) _ rest)) in
-    let sizes = and-left (all _ l) _ (and-right (leb (length l) 4) _ rest) in (
+    let sizes = and-left (allOf _ l) _ (and-right (leb (length l) 4) _ rest) in (
       all-so (λ (x : ℤ). leb 1 (size x) && leb (size x) (length l)) isAxis
           (λ x h. rw (and-left (leb 1 (size x)) _ h) (le-leb (size x) 4 (le-trans (leb→le (size x) (length l) (so (and-right (leb 1 (size x)) _ h))) few)))
           l
@@ -43,23 +43,23 @@ order-axes l e =
     )
 
 -- a column for each place
-taking : (t : Traced) (l : List ℤ) → Whole t → all isPlace l ≡ true → length (places l) ≤ 64 - t .top → Whole t × ((all isAxis l ≡ true) × (t .top + length l ≤ 64))
+taking : (t : Traced) (l : List ℤ) → Whole t → allOf isPlace l ≡ true → length (places l) ≤ 64 - t .top → Whole t × ((allOf isAxis l ≡ true) × (t .top + length l ≤ 64))
 taking t l w e h = (w, (places-axes l e, omega (arith, h, w .within, places-length l)))
 
 module _ {t : Traced} {l : List ℤ} where
-  pub ready-push : Ready t Pushes l → Whole t × ((all isAxis l ≡ true) × (length l ≤ t .top))
+  pub ready-push : Ready t Pushes l → Whole t × ((allOf isAxis l ≡ true) × (length l ≤ t .top))
   unfolding able does grown depth
   ready-push r = (r .whole, (places-axes l (r .rule), omega (arith, r .room, r .whole .within, places-length l)))
 
-  pub ready-pop : Ready t Pops l → Whole t × ((all isAxis l ≡ true) × (t .top + length l ≤ 64))
+  pub ready-pop : Ready t Pops l → Whole t × ((allOf isAxis l ≡ true) × (t .top + length l ≤ 64))
   unfolding able does takes depth
   ready-pop r = taking t l (r .whole) (r .rule) (r .enough)
 
-  pub ready-pop-all : Ready t PopsAll l → Whole t × ((all isAxis l ≡ true) × (t .top + length l ≤ 64))
+  pub ready-pop-all : Ready t PopsAll l → Whole t × ((allOf isAxis l ≡ true) × (t .top + length l ≤ 64))
   unfolding able does takes depth
   ready-pop-all r = taking t l (r .whole) (r .rule) (r .enough)
 
-  pub ready-flip : Ready t Flips l → Whole t × ((all isAxis l ≡ true) × (t .top + length l ≤ 64))
+  pub ready-flip : Ready t Flips l → Whole t × ((allOf isAxis l ≡ true) × (t .top + length l ≤ 64))
   unfolding able does takes depth
   ready-flip r = taking t l (r .whole) (r .rule) (r .enough)
 
@@ -67,7 +67,7 @@ module _ {t : Traced} {l : List ℤ} where
   unfolding able does takes depth
   ready-roll {m} {n} r = (r .whole, (omega (arith, r .enough, r .whole .within), ltb→lt n (2 * m) (so (r .rule))))
 
-  pub ready-order : {back : Bool} → Ready t (Orders back) l → Whole t × ((all isAxis l ≡ true) × (length l ≤ 4))
+  pub ready-order : {back : Bool} → Ready t (Orders back) l → Whole t × ((allOf isAxis l ≡ true) × (length l ≤ 4))
   unfolding able
   ready-order r = (r .whole, order-axes l (r .rule))
 

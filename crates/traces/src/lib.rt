@@ -7,7 +7,7 @@ ghost use mathlib.Core.Path.{_≡_};
 ghost use mathlib.Core.Bool.{true, false};
 ghost use Prim.Native.Nat.{_+_, _*_, _≤_, _<_};
 ghost use lib.ListN.{length, take};
-ghost use Rattle.rules.specs.Lists.{all};
+ghost use Rattle.rules.specs.Lists.{allOf};
 ghost use Rattle.rules.specs.Act.{places, pushes, pops, flips};
 ghost use Rattle.rules.specs.Check.{turnPlace};
 ghost use Rattle.traces.specs.Traces.{placeOf, placesOf, traced, isAxis, AxisAt, Whole, Moved, Turned, Turns, Pasted, Ordered, Ready};
@@ -19,7 +19,7 @@ ghost use Rattle.acts.specs.Doings.{doing};
 
 // The place, counted from 0, that argument i names.
 fn axis_at(l: &[i32], i: usize) -> usize
-    requires { ⌜ all isAxis (now l) ≡ true ⌝ }
+    requires { ⌜ allOf isAxis (now l) ≡ true ⌝ }
     requires { ⌜ i < length (now l) ⌝ }
     ensures { λ r. ⌜ AxisAt (now (l .entry)) i r ⌝ }
 {
@@ -29,7 +29,7 @@ fn axis_at(l: &[i32], i: usize) -> usize
 // A column for each place, in their order.
 fn push(tuple: &[u32; 4], columns: &mut [u32; 64], top: usize, l: &[i32]) -> usize
     requires { ⌜ Whole (traced (now tuple) (now columns) top) ⌝ }
-    requires { ⌜ all isAxis (now l) ≡ true ⌝ }
+    requires { ⌜ allOf isAxis (now l) ≡ true ⌝ }
     requires { ⌜ length (now l) ≤ top ⌝ }
     ensures { λ r. ⌜ Moved (pushes (places (now (l .entry)))) (traced (now (tuple .entry)) (now (columns .entry)) top) (traced (now (tuple .entry)) (now (columns .exit)) r) ⌝ }
 {
@@ -47,7 +47,7 @@ fn push(tuple: &[u32; 4], columns: &mut [u32; 64], top: usize, l: &[i32]) -> usi
 // A column into each place, in their order.
 fn pop(tuple: &mut [u32; 4], columns: &[u32; 64], top: usize, l: &[i32]) -> usize
     requires { ⌜ Whole (traced (now tuple) (now columns) top) ⌝ }
-    requires { ⌜ all isAxis (now l) ≡ true ⌝ }
+    requires { ⌜ allOf isAxis (now l) ≡ true ⌝ }
     requires { ⌜ top + length (now l) ≤ 64 ⌝ }
     ensures { λ r. ⌜ Moved (pops (places (now (l .entry)))) (traced (now (tuple .entry)) (now (columns .entry)) top) (traced (now (tuple .exit)) (now (columns .entry)) r) ⌝ }
 {
@@ -65,7 +65,7 @@ fn pop(tuple: &mut [u32; 4], columns: &[u32; 64], top: usize, l: &[i32]) -> usiz
 // Each place exchanged with its column, the top one first.
 fn flip(tuple: &mut [u32; 4], columns: &mut [u32; 64], top: usize, l: &[i32])
     requires { ⌜ Whole (traced (now tuple) (now columns) top) ⌝ }
-    requires { ⌜ all isAxis (now l) ≡ true ⌝ }
+    requires { ⌜ allOf isAxis (now l) ≡ true ⌝ }
     requires { ⌜ top + length (now l) ≤ 64 ⌝ }
     ensures { λ _. ⌜ Moved (flips (places (now (l .entry)))) (traced (now (tuple .entry)) (now (columns .entry)) top) (traced (now (tuple .exit)) (now (columns .exit)) top) ⌝ }
 {
@@ -151,7 +151,7 @@ fn turned(minus: bool, p: u32) -> u32
 // axisswap forward: output i is the place that the order names, with its sign.
 fn ordered(tuple: &mut [u32; 4], l: &[i32])
     requires { ⌜ length (now tuple) ≡ 4 ⌝ }
-    requires { ⌜ all isAxis (now l) ≡ true ⌝ }
+    requires { ⌜ allOf isAxis (now l) ≡ true ⌝ }
     requires { ⌜ length (now l) ≤ 4 ⌝ }
     ensures { λ _. ⌜ Ordered false (now (l .entry)) (placesOf (now (tuple .entry))) (placesOf (now (tuple .exit))) ⌝ }
 {
@@ -168,7 +168,7 @@ fn ordered(tuple: &mut [u32; 4], l: &[i32])
 // axisswap back: input i goes to the place that the order names, with its sign.
 fn unordered(tuple: &mut [u32; 4], l: &[i32])
     requires { ⌜ length (now tuple) ≡ 4 ⌝ }
-    requires { ⌜ all isAxis (now l) ≡ true ⌝ }
+    requires { ⌜ allOf isAxis (now l) ≡ true ⌝ }
     requires { ⌜ length (now l) ≤ 4 ⌝ }
     ensures { λ _. ⌜ Ordered true (now (l .entry)) (placesOf (now (tuple .entry))) (placesOf (now (tuple .exit))) ⌝ }
 {
@@ -185,7 +185,7 @@ fn unordered(tuple: &mut [u32; 4], l: &[i32])
 // axisswap, forward or back.
 fn order(tuple: &mut [u32; 4], back: bool, l: &[i32])
     requires { ⌜ length (now tuple) ≡ 4 ⌝ }
-    requires { ⌜ all isAxis (now l) ≡ true ⌝ }
+    requires { ⌜ allOf isAxis (now l) ≡ true ⌝ }
     requires { ⌜ length (now l) ≤ 4 ⌝ }
     ensures { λ _. ⌜ Ordered back (now (l .entry)) (placesOf (now (tuple .entry))) (placesOf (now (tuple .exit))) ⌝ }
 {

@@ -10,7 +10,7 @@ use lib.ListN.{length, take, drop, getD, length-drop, drop-of-length-le, take-ap
 use lib.Seq.{drop-drop, take-add, take-all}
 use lib.Dec.{eqb}
 use Rattle.rules.specs.Ascii.{ascii}
-use Rattle.rules.specs.Lists.{all, kept, nonEmpty}
+use Rattle.rules.specs.Lists.{allOf, kept, nonEmpty}
 use Rattle.rules.specs.Text.{Bytes, Words, white, same, cut, words}
 use Rattle.rules.specs.Split.{modifier, leading, following}
 use Rattle.rules.specs.Reader.{part}
@@ -94,17 +94,17 @@ words-append (x ∷ y ∷ t) u e = rw (words-cons x (y ∷ t ++ u), words-cons x
     go true h = h
     go false h = rw h (unfold inWord in grow-append x (inWord (y ∷ t)) (words (y ∷ t)) (words u) (inWord-words (y ∷ t)))
 
-pub words-white : (t u : Bytes) → all white t ≡ true → words (t ++ u) ≡ words u
-unfolding all
+pub words-white : (t u : Bytes) → allOf white t ≡ true → words (t ++ u) ≡ words u
+unfolding allOf
 words-white [] u e = refl
 words-white (x ∷ t) u e = rw (words-cons x (t ++ u)) (go (white x) e (words-white t u))
   where
-    go : (b : Bool) → (b && all white t) ≡ true → (all white t ≡ true → words (t ++ u) ≡ words u) → cond b (words (t ++ u)) (grow x (inWord (t ++ u)) (words (t ++ u))) ≡ words u
+    go : (b : Bool) → (b && allOf white t) ≡ true → (allOf white t ≡ true → words (t ++ u) ≡ words u) → cond b (words (t ++ u)) (grow x (inWord (t ++ u)) (words (t ++ u))) ≡ words u
     go true f h = h f
     go false f h = absurd (false≢true f)
 
-pub words-word : (x : ℕ) (w : Bytes) → all (other white) (x ∷ w) ≡ true → words (x ∷ w) ≡ (x ∷ w) ∷ []
-unfolding all inWord grow
+pub words-word : (x : ℕ) (w : Bytes) → allOf (other white) (x ∷ w) ≡ true → words (x ∷ w) ≡ (x ∷ w) ∷ []
+unfolding allOf inWord grow
 words-word x [] e = rw (words-cons x []) (go (white x) e)
   where
     go : (b : Bool) → (not b && true) ≡ true → cond b (words []) (grow x (inWord []) (words [])) ≡ (x ∷ []) ∷ []
@@ -112,7 +112,7 @@ words-word x [] e = rw (words-cons x []) (go (white x) e)
     go false f = unfold words kept cut nonEmpty in refl
 words-word x (y ∷ w) e = rw (words-cons x (y ∷ w)) (go (white x) (white y) e (words-word y w))
   where
-    go : (b d : Bool) → (not b && (not d && all (other white) w)) ≡ true → ((not d && all (other white) w) ≡ true → words (y ∷ w) ≡ (y ∷ w) ∷ [])
+    go : (b d : Bool) → (not b && (not d && allOf (other white) w)) ≡ true → ((not d && allOf (other white) w) ≡ true → words (y ∷ w) ≡ (y ∷ w) ∷ [])
         → cond b (words (y ∷ w)) (grow x (not d) (words (y ∷ w))) ≡ (x ∷ y ∷ w) ∷ []
     go true d f h = absurd (false≢true f)
     go false true f h = absurd (false≢true f)
@@ -121,42 +121,42 @@ words-word x (y ∷ w) e = rw (words-cons x (y ∷ w)) (go (white x) (white y) e
 -- ---- the modifiers in front
 
 -- modifiers in front of words
-leading-past : (m ws : Words) → all modifier m ≡ true → leading (m ++ ws) ≡ m ++ leading ws
-unfolding leading all
+leading-past : (m ws : Words) → allOf modifier m ≡ true → leading (m ++ ws) ≡ m ++ leading ws
+unfolding leading allOf
 leading-past [] ws e = refl
 leading-past (w ∷ m) ws e = go (modifier w) e (leading-past m ws)
   where
-    go : (b : Bool) → (b && all modifier m) ≡ true → (all modifier m ≡ true → leading (m ++ ws) ≡ m ++ leading ws) → cond b (w ∷ leading (m ++ ws)) [] ≡ w ∷ (m ++ leading ws)
+    go : (b : Bool) → (b && allOf modifier m) ≡ true → (allOf modifier m ≡ true → leading (m ++ ws) ≡ m ++ leading ws) → cond b (w ∷ leading (m ++ ws)) [] ≡ w ∷ (m ++ leading ws)
     go true f h = ap (λ (r : Words). w ∷ r) (h f)
     go false f h = absurd (false≢true f)
 
-following-past : (m ws : Words) → all modifier m ≡ true → following (m ++ ws) ≡ following ws
-unfolding following all
+following-past : (m ws : Words) → allOf modifier m ≡ true → following (m ++ ws) ≡ following ws
+unfolding following allOf
 following-past [] ws e = refl
 following-past (w ∷ m) ws e = go (modifier w) e (following-past m ws)
   where
-    go : (b : Bool) → (b && all modifier m) ≡ true → (all modifier m ≡ true → following (m ++ ws) ≡ following ws) → cond b (following (m ++ ws)) (w ∷ (m ++ ws)) ≡ following ws
+    go : (b : Bool) → (b && allOf modifier m) ≡ true → (allOf modifier m ≡ true → following (m ++ ws) ≡ following ws) → cond b (following (m ++ ws)) (w ∷ (m ++ ws)) ≡ following ws
     go true f h = h f
     go false f h = absurd (false≢true f)
 
-all-more : (m : Words) (w : Bytes) → all modifier m ≡ true → modifier w ≡ true → all modifier (m ++ (w ∷ [])) ≡ true
-unfolding all
+all-more : (m : Words) (w : Bytes) → allOf modifier m ≡ true → modifier w ≡ true → allOf modifier (m ++ (w ∷ [])) ≡ true
+unfolding allOf
 all-more [] w e f = rw f
 all-more (v ∷ m) w e f = go (modifier v) e (λ g. all-more m w g f)
   where
-    go : (b : Bool) → (b && all modifier m) ≡ true → (all modifier m ≡ true → all modifier (m ++ (w ∷ [])) ≡ true) → (b && all modifier (m ++ (w ∷ []))) ≡ true
+    go : (b : Bool) → (b && allOf modifier m) ≡ true → (allOf modifier m ≡ true → allOf modifier (m ++ (w ∷ [])) ≡ true) → (b && allOf modifier (m ++ (w ∷ []))) ≡ true
     go true g h = h g
     go false g h = absurd (false≢true g)
 
 -- up to k stand modifiers alone, and a word ends there
 pub record Leads (s : Bytes) (k : ℕ) : Type 0 where
   pub within : k ≤ length s
-  pub modifiers : all modifier (words (take k s)) ≡ true
+  pub modifiers : allOf modifier (words (take k s)) ≡ true
   pub whole : words s ≡ words (take k s) ++ words (drop k s)
   pub edge : (nonEmpty (take k s) && inWord (drop k s)) ≡ false
 
 pub leads-none : (s : Bytes) → Leads s 0
-unfolding all nonEmpty
+unfolding allOf nonEmpty
 leads-none s = record { within = omega arith; modifiers = rw words-nil; whole = rw words-nil; edge = refl }
 
 -- the end of a word
@@ -198,7 +198,7 @@ module _ {s : Bytes} {k a e : ℕ} (p : Run white s k a) (q : Run (other white) 
   pub one-word : a < e → words (part a e s) ≡ part a e s ∷ []
   one-word h =
       let z = part-some s a e h (q .within) in
-      ap words z ∙ words-word (getD s a 0) (part (a + 1) e s) (ap (all (other white)) (sym z) ∙ q .whole) ∙ ap (λ (w : Bytes). w ∷ []) (sym z)
+      ap words z ∙ words-word (getD s a 0) (part (a + 1) e s) (ap (allOf (other white)) (sym z) ∙ q .whole) ∙ ap (λ (w : Bytes). w ∷ []) (sym z)
 
   behind-k : words (drop k s) ≡ words (part a e s) ++ words (drop e s)
   behind-k =
@@ -211,7 +211,7 @@ module _ {s : Bytes} {k a e : ℕ} (p : Run white s k a) (q : Run (other white) 
 
   -- or none
   pub none-left : e ≤ a → words (drop k s) ≡ []
-  unfolding all
+  unfolding allOf
   none-left h =
       let z : e ≡ a = omega (arith, q .ahead) in
       let n : part a e s ≡ [] = let j : e - a ≡ 0 = omega arith in ap (λ (j : ℕ). take j (drop a s)) j in
@@ -248,7 +248,7 @@ module _ {s : Bytes} {k a e : ℕ} (m : Leads s k) (p : Run white s k a) (q : Ru
       ap words (take-part s k e k≤e) ∙ edge-words (take k s) (part k e s) (drop e s) g _ _ z ∙ ap (λ (u : Words). words (take k s) ++ u) w in
       record {
         within = q .within;
-        modifiers = ap (all modifier) t ∙ all-more (words (take k s)) (part a e s) (m .modifiers) f;
+        modifiers = ap (allOf modifier) t ∙ all-more (words (take k s)) (part a e s) (m .modifiers) f;
         whole = ap words (sym (take-append-drop e s)) ∙ words-append (take e s) (drop e s) (word-edge q);
         edge = ap (λ (b : Bool). nonEmpty (take e s) && b) (word-edge q) ∙ and-false (nonEmpty (take e s));
       }
@@ -285,12 +285,12 @@ leads-end {s} {k} m h =
 
 -- ---- modifiers alone
 
-following-all : (ws : Words) → not (nonEmpty (following ws)) ≡ all modifier ws
-unfolding following all nonEmpty
+following-all : (ws : Words) → not (nonEmpty (following ws)) ≡ allOf modifier ws
+unfolding following allOf nonEmpty
 following-all [] = refl
 following-all (w ∷ ws) = go (modifier w) (following-all ws)
   where
-    go : (b : Bool) → not (nonEmpty (following ws)) ≡ all modifier ws → not (nonEmpty (cond b (following ws) (w ∷ ws))) ≡ (b && all modifier ws)
+    go : (b : Bool) → not (nonEmpty (following ws)) ≡ allOf modifier ws → not (nonEmpty (cond b (following ws) (w ∷ ws))) ≡ (b && allOf modifier ws)
     go true h = h
     go false h = refl
 
@@ -299,12 +299,12 @@ not-not true = refl
 not-not false = refl
 
 -- where not all words are modifiers, there is a word after those in front
-pub following-some : (ws : Words) → all modifier ws ≡ false → nonEmpty (following ws) ≡ true
+pub following-some : (ws : Words) → allOf modifier ws ≡ false → nonEmpty (following ws) ≡ true
 following-some ws e = sym (not-not (nonEmpty (following ws))) ∙ ap not (following-all ws ∙ e)
 
 -- the part of a text from a place on
 pub part-from : (s : Bytes) (k : ℕ) → take (length s - k) (drop k s) ≡ drop k s
 part-from s k = take-all (length s - k) (drop k s) (omega (arith, length-drop k s))
 
-pub lead-all : {s : Bytes} {k : ℕ} {r : Bool} → Lead s k → r ≡ all white (take (length s - k) (drop k s)) → r ≡ all modifier (words s)
-lead-all {s} {k} {r} m e = e ∙ ap (all white) (part-from s k) ∙ sym (not-not (all white (drop k s))) ∙ ap not (sym (words-blank (drop k s)) ∙ ap nonEmpty (m .rest)) ∙ following-all (words s)
+pub lead-all : {s : Bytes} {k : ℕ} {r : Bool} → Lead s k → r ≡ allOf white (take (length s - k) (drop k s)) → r ≡ allOf modifier (words s)
+lead-all {s} {k} {r} m e = e ∙ ap (allOf white) (part-from s k) ∙ sym (not-not (allOf white (drop k s))) ∙ ap not (sym (words-blank (drop k s)) ∙ ap nonEmpty (m .rest)) ∙ following-all (words s)

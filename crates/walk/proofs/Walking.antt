@@ -11,7 +11,7 @@ use lib.ListN.{length, take, drop, getD, length-drop, drop-of-length-le, take-ap
 use lib.Seq.{drop-cons, take-suc, getD-drop, drop-drop, length-take-le}
 use lib.Dec.{leb}
 use Rattle.rules.specs.Ascii.{is}
-use Rattle.rules.specs.Lists.{all, kept, nonEmpty}
+use Rattle.rules.specs.Lists.{allOf, kept, nonEmpty}
 use Rattle.rules.specs.Text.{Bytes, Words, white, onto, cut, words}
 use Rattle.rules.specs.Reader.{step, found, next, part}
 use Rattle.rules.specs.declared.Found.the-variants.{End}
@@ -22,7 +22,7 @@ use Rattle.walk.specs.Runs.{Run}
 
 pub record Blank (s : Bytes) (i : ℕ) : Type 0 where
   pub within : i ≤ length s
-  pub same : all white s ≡ all white (drop i s)
+  pub same : allOf white s ≡ allOf white (drop i s)
 
 pub drop-next : (s : Bytes) (i : ℕ) → i < length s → drop i s ≡ getD s i 0 ∷ drop (i + 1) s
 drop-next s i h = drop-cons s i 0 h ∙ rw (sym (add-one i))
@@ -32,16 +32,16 @@ blank-none s = record { within = omega arith; same = refl }
 
 module _ {s : Bytes} {i : ℕ} (m : Blank s i) where
   pub blank-white : i < length s → white (getD s i 0) ≡ true → Blank s (i + 1)
-  unfolding all
-  blank-white h e = record { within = omega arith; same = m .same ∙ ap (all white) (drop-next s i h) ∙ rw e }
+  unfolding allOf
+  blank-white h e = record { within = omega arith; same = m .same ∙ ap (allOf white) (drop-next s i h) ∙ rw e }
 
-  pub blank-not : i < length s → white (getD s i 0) ≡ false → false ≡ all white s
-  unfolding all
-  blank-not h e = sym (m .same ∙ ap (all white) (drop-next s i h) ∙ rw e)
+  pub blank-not : i < length s → white (getD s i 0) ≡ false → false ≡ allOf white s
+  unfolding allOf
+  blank-not h e = sym (m .same ∙ ap (allOf white) (drop-next s i h) ∙ rw e)
 
-  pub blank-end : length s ≤ i → true ≡ all white s
-  unfolding all
-  blank-end h = sym (m .same ∙ ap (all white) (drop-of-length-le s h))
+  pub blank-end : length s ≤ i → true ≡ allOf white s
+  unfolding allOf
+  blank-end h = sym (m .same ∙ ap (allOf white) (drop-of-length-le s h))
 
 -- a text has a word exactly where it is not all white space
 grow-nonEmpty : (x : ℕ) (b : Bool) (ws : Words) → nonEmpty (grow x b ws) ≡ true
@@ -50,16 +50,16 @@ grow-nonEmpty x true [] = refl
 grow-nonEmpty x true (w ∷ ws) = refl
 grow-nonEmpty x false ws = refl
 
-pub words-blank : (t : Bytes) → nonEmpty (words t) ≡ not (all white t)
-unfolding all
+pub words-blank : (t : Bytes) → nonEmpty (words t) ≡ not (allOf white t)
+unfolding allOf
 words-blank [] = unfold words kept cut nonEmpty in refl
 words-blank (x ∷ t) = rw (words-cons x t) (go (white x) (words-blank t))
   where
-    go : (b : Bool) → nonEmpty (words t) ≡ not (all white t) → nonEmpty (cond b (words t) (grow x (inWord t) (words t))) ≡ not (b && all white t)
+    go : (b : Bool) → nonEmpty (words t) ≡ not (allOf white t) → nonEmpty (cond b (words t) (grow x (inWord t) (words t))) ≡ not (b && allOf white t)
     go true h = h
     go false h = grow-nonEmpty x (inWord t) (words t)
 
-pub words-none : (t : Bytes) → all white t ≡ true → words t ≡ []
+pub words-none : (t : Bytes) → allOf white t ≡ true → words t ≡ []
 words-none t e = go (words t) (words-blank t ∙ ap not e)
   where
     go : (ws : Words) → nonEmpty ws ≡ false → ws ≡ []
@@ -71,14 +71,14 @@ words-none t e = go (words t) (words-blank t ∙ ap not e)
 pub record Scan (test : ℕ → Bool) (s : Bytes) (from i : ℕ) : Type 0 where
   pub ahead : from ≤ i
   pub within : i ≤ length s
-  pub whole : all test (part from i s) ≡ true
+  pub whole : allOf test (part from i s) ≡ true
 
-all-append : (test : ℕ → Bool) (t u : Bytes) → all test t ≡ true → all test u ≡ true → all test (t ++ u) ≡ true
-unfolding all
+all-append : (test : ℕ → Bool) (t u : Bytes) → allOf test t ≡ true → allOf test u ≡ true → allOf test (t ++ u) ≡ true
+unfolding allOf
 all-append test [] u e f = f
 all-append test (x ∷ t) u e f = go (test x) e (λ g. all-append test t u g f)
   where
-    go : (b : Bool) → (b && all test t) ≡ true → (all test t ≡ true → all test (t ++ u) ≡ true) → (b && all test (t ++ u)) ≡ true
+    go : (b : Bool) → (b && allOf test t) ≡ true → (allOf test t ≡ true → allOf test (t ++ u) ≡ true) → (b && allOf test (t ++ u)) ≡ true
     go true g h = h g
     go false g h = absurd (false≢true g)
 
@@ -90,12 +90,12 @@ part-next s from i f h =
     rw k (take-suc (drop from s) (i - from) 0 (omega (arith, length-drop from s)) ∙ rw (getD-drop from s (i - from) 0, j))
 
 pub scan-none : (test : ℕ → Bool) (s : Bytes) (from : ℕ) → from ≤ length s → Scan test s from from
-unfolding all
+unfolding allOf
 scan-none test s from h = record { ahead = omega arith; within = h; whole = let k : from - from ≡ 0 = omega arith in rw k }
 
 module _ {test : ℕ → Bool} {s : Bytes} {from i : ℕ} (m : Scan test s from i) where
   pub scan-next : i < length s → test (getD s i 0) ≡ true → Scan test s from (i + 1)
-  unfolding all
+  unfolding allOf
   scan-next h e = record {
     ahead = omega (arith, m .ahead);
     within = omega arith;
@@ -115,22 +115,22 @@ abbrev pub other : (ℕ → Bool) → ℕ → Bool
 other test b = not (test b)
 
 -- a text without a byte that passes the test is one piece
-cut-free : (test : ℕ → Bool) (t : Bytes) → all (other test) t ≡ true → cut test t ≡ t ∷ []
-unfolding all cut onto
+cut-free : (test : ℕ → Bool) (t : Bytes) → allOf (other test) t ≡ true → cut test t ≡ t ∷ []
+unfolding allOf cut onto
 cut-free test [] e = refl
 cut-free test (x ∷ t) e = go (test x) e (cut-free test t)
   where
-    go : (b : Bool) → (not b && all (other test) t) ≡ true → (all (other test) t ≡ true → cut test t ≡ t ∷ []) → cond b ([] ∷ cut test t) (onto x (cut test t)) ≡ (x ∷ t) ∷ []
+    go : (b : Bool) → (not b && allOf (other test) t) ≡ true → (allOf (other test) t ≡ true → cut test t ≡ t ∷ []) → cond b ([] ∷ cut test t) (onto x (cut test t)) ≡ (x ∷ t) ∷ []
     go true g h = absurd (false≢true g)
     go false g h = ap (onto x) (h g)
 
 -- at such a byte, the first piece ends
-cut-here : (test : ℕ → Bool) (t : Bytes) (y : ℕ) (u : Bytes) → all (other test) t ≡ true → test y ≡ true → cut test (t ++ y ∷ u) ≡ t ∷ cut test u
-unfolding all cut onto
+cut-here : (test : ℕ → Bool) (t : Bytes) (y : ℕ) (u : Bytes) → allOf (other test) t ≡ true → test y ≡ true → cut test (t ++ y ∷ u) ≡ t ∷ cut test u
+unfolding allOf cut onto
 cut-here test [] y u e f = rw f
 cut-here test (x ∷ t) y u e f = go (test x) e (λ g. cut-here test t y u g f)
   where
-    go : (b : Bool) → (not b && all (other test) t) ≡ true → (all (other test) t ≡ true → cut test (t ++ y ∷ u) ≡ t ∷ cut test u)
+    go : (b : Bool) → (not b && allOf (other test) t) ≡ true → (allOf (other test) t ≡ true → cut test (t ++ y ∷ u) ≡ t ∷ cut test u)
         → cond b ([] ∷ cut test (t ++ y ∷ u)) (onto x (cut test (t ++ y ∷ u))) ≡ (x ∷ t) ∷ cut test u
     go true g h = absurd (false≢true g)
     go false g h = ap (onto x) (h g)
@@ -170,27 +170,27 @@ module _ {s : Bytes} {i e : ℕ} (m : Run (other (is "|")) s i e) where
       let y : is "|" (getD s e 0) ≡ true = not-not (is "|" (getD s e 0)) (run-stops m h) in
       ap (cut (is "|")) (part-rest s i e (m .ahead) ∙ rw (drop-next s e h)) ∙ cut-here (is "|") (part i e s) (getD s e 0) (drop (e + 1) s) (m .whole) y
 
-  blank-words : all white (part i e s) ≡ true → nonEmpty (words (part i e s)) ≡ false
+  blank-words : allOf white (part i e s) ≡ true → nonEmpty (words (part i e s)) ≡ false
   blank-words w = words-blank (part i e s) ∙ rw w
 
-  some-words : all white (part i e s) ≡ false → nonEmpty (words (part i e s)) ≡ true
+  some-words : allOf white (part i e s) ≡ false → nonEmpty (words (part i e s)) ≡ true
   some-words w = words-blank (part i e s) ∙ rw w
 
   -- an empty piece is passed over
-  pub next-over : e < length s → all white (part i e s) ≡ true → next s i ≡ next s (e + 1)
+  pub next-over : e < length s → allOf white (part i e s) ≡ true → next s i ≡ next s (e + 1)
   unfolding next found
   next-over h w =
       let k : i + suc (length (part i e s)) ≡ e + 1 = omega (arith, length-part s i e (m .ahead) (m .within), m .ahead) in
       rw (piece-more h, blank-words w, k)
 
-  pub next-none : length s ≤ e → all white (part i e s) ≡ true → End ≡ next s i
+  pub next-none : length s ≤ e → allOf white (part i e s) ≡ true → End ≡ next s i
   unfolding next found
   next-none h w =
       let z : e ≡ length s = omega (arith, m .within) in
       sym (rw (piece-last z, blank-words w))
 
   -- another is the step
-  pub next-here : all white (part i e s) ≡ false → step i e ≡ next s i
+  pub next-here : allOf white (part i e s) ≡ false → step i e ≡ next s i
   next-here w = elim (decLt e (length s)) [ yes h ↦ more h | no h ↦ last (omega (arith, m .within)) ]
     where
       k : i + length (part i e s) ≡ e
@@ -215,13 +215,13 @@ pub walks-none : (s : Bytes) (start : ℕ) → Walks s start start
 walks-none s start = record { same = refl }
 
 module _ {s : Bytes} {start i e : ℕ} (m : Walks s start i) (p : Run (other (is "|")) s i e) where
-  pub walks-over : e < length s → all white (part i e s) ≡ true → Walks s start (e + 1)
+  pub walks-over : e < length s → allOf white (part i e s) ≡ true → Walks s start (e + 1)
   walks-over h w = record { same = sym (next-over p h w) ∙ m .same }
 
-  pub walks-none-left : length s ≤ e → all white (part i e s) ≡ true → End ≡ next s start
+  pub walks-none-left : length s ≤ e → allOf white (part i e s) ≡ true → End ≡ next s start
   walks-none-left h w = next-none p h w ∙ m .same
 
-  pub walks-here : all white (part i e s) ≡ false → step i e ≡ next s start
+  pub walks-here : allOf white (part i e s) ≡ false → step i e ≡ next s start
   walks-here w = next-here p w ∙ m .same
 
 pub walks-end : {s : Bytes} {start i : ℕ} → Walks s start i → length s ≤ i → End ≡ next s start

@@ -5,7 +5,7 @@ use Prim.Native.Nat.{ℕ, _≤_}
 use lib.ListN.{length, getD, take, drop}
 use lib.Dec.{leb}
 use Rattle.rules.specs.Ascii.{is}
-use Rattle.rules.specs.Lists.{all}
+use Rattle.rules.specs.Lists.{allOf}
 use Rattle.rules.specs.Text.{Bytes, white, words}
 use Rattle.rules.specs.Split.{leading, following}
 use Rattle.rules.specs.Reader.{part}
@@ -23,7 +23,7 @@ isOf Key b = not (is "=" b)
 pub record Run (test : ℕ → Bool) (s : Bytes) (from to : ℕ) : Type 0 where
   pub ahead : from ≤ to
   pub within : to ≤ length s
-  pub whole : all test (part from to s) ≡ true
+  pub whole : allOf test (part from to s) ≡ true
   pub ends : (leb (length s) to || not (test (getD s to 0))) ≡ true
 
 -- up to k stand the modifiers in front, and behind it the words after them

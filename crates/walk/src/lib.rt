@@ -3,14 +3,14 @@ use text::is_white;
 ghost use mathlib.Core.Path.{_≡_};
 ghost use Prim.Native.Nat.{_≤_};
 ghost use lib.ListN.{length};
-ghost use Rattle.rules.specs.Lists.{all};
+ghost use Rattle.rules.specs.Lists.{allOf};
 ghost use Rattle.rules.specs.Text.{white, same};
 ghost use Rattle.rules.specs.Split.{modifier};
 ghost use Rattle.walk.specs.Runs.{Run, isOf};
 
 // Is there nothing but white space in s?
 pub fn is_blank(s: &[u8]) -> bool
-    ensures { λ r. ⌜ r ≡ all white (now (s .entry)) ⌝ }
+    ensures { λ r. ⌜ r ≡ allOf white (now (s .entry)) ⌝ }
 {
     let mut i = 0;
     while i < s.len() {

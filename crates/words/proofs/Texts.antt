@@ -10,7 +10,7 @@ use lib.Seq.{length-take-le}
 use lib.Dec.{leb, eqb}
 use lib.IntN.{ℤ, pos}
 use Rattle.rules.specs.Ascii.{ascii}
-use Rattle.rules.specs.Lists.{all}
+use Rattle.rules.specs.Lists.{allOf}
 use Rattle.rules.specs.Text.{Bytes, Words, afterEach, joinedBy, joined}
 use Rattle.rules.specs.Record.{Operator, Adapt, operatorOf, operator, args, arg, size, isSet, isPlace, isRising, isOrder, isAdapt, isArgs}
 use Rattle.rules.specs.declared.Step.{Step}
@@ -37,7 +37,7 @@ flags-text {k} l h = go k h
         none : suc (suc k) ≤ 1 → ⊥
         none h = omega arith
 
-pub flags-rule : {k : ℕ} (l : List ℤ) → k ≤ 1 → isArgs (operatorOf k) l ≡ true → all isPlace l ≡ true
+pub flags-rule : {k : ℕ} (l : List ℤ) → k ≤ 1 → isArgs (operatorOf k) l ≡ true → allOf isPlace l ≡ true
 unfolding isArgs operatorOf
 flags-rule {k} l h r = rising-places 0 l (go k h r)
   where
@@ -67,12 +67,12 @@ pub adapt-long : (l : List ℤ) → isAdapt l ≡ true → length l ≡ 8
 unfolding isAdapt
 adapt-long l h = eqb-true (length l) 8 (and-left (eqb (length l) 8) _ h)
 
-pub adapt-axes : (l : List ℤ) → isAdapt l ≡ true → all isAxis (take 4 l) ≡ true
+pub adapt-axes : (l : List ℤ) → isAdapt l ≡ true → allOf isAxis (take 4 l) ≡ true
 unfolding isAxis
 adapt-axes l h = order-axes (take 4 l) (length-take-le 4 l (omega (arith, adapt-long l h))) (unfold isAdapt in and-left (isOrder (take 4 l)) _ (and-right (eqb (length l) 8) _ h))
   where
-    order-axes : (l : List ℤ) → length l ≡ 4 → isOrder l ≡ true → all (λ (x : ℤ). leb 1 (size x) && leb (size x) 4) l ≡ true
-    order-axes l e o = unfold isOrder in rw e at (and-left (all (λ (x : ℤ). leb 1 (size x) && leb (size x) (length l)) l) _ (and-right (leb (length l) 4) _ (and-right (leb 1 (length l)) _ o)))
+    order-axes : (l : List ℤ) → length l ≡ 4 → isOrder l ≡ true → allOf (λ (x : ℤ). leb 1 (size x) && leb (size x) 4) l ≡ true
+    order-axes l e o = unfold isOrder in rw e at (and-left (allOf (λ (x : ℤ). leb 1 (size x) && leb (size x) (length l)) l) _ (and-right (leb (length l) 4) _ (and-right (leb 1 (length l)) _ o)))
 
 -- ---- marks
 

@@ -11,7 +11,7 @@ ghost use mathlib.Core.List.{[], _∷_, map};
 ghost use Prim.Native.Nat.{_≤_, _<_};
 ghost use lib.ListN.{length, getD};
 ghost use lib.IntN.{pos};
-ghost use Rattle.rules.specs.Lists.{all};
+ghost use Rattle.rules.specs.Lists.{allOf};
 ghost use Rattle.rules.specs.Text.{afterEach};
 ghost use Rattle.rules.specs.Record.{Adapt, operatorOf, isPlace, isAdapt, isArgs, nineDigits};
 ghost use Rattle.text.specs.Writing.{WroteAt};
@@ -21,7 +21,7 @@ ghost use Rattle.words.specs.Parts.{isCut, piece, argText, marked, markT
 
 // The flags of the axes in l, each after a space.
 pub fn flags(l: &[i32], out: &mut [u8], o: usize) -> usize
-    requires { ⌜ all isPlace (now l) ≡ true ⌝ }
+    requires { ⌜ allOf isPlace (now l) ≡ true ⌝ }
     requires { ⌜ Room (afterEach (32 ∷ []) (map flagOf (now l))) o (now out) ⌝ }
     ensures { λ r. ⌜ WroteAt (afterEach (32 ∷ []) (map flagOf (now (l .entry)))) (now (out .entry)) o r (now (out .exit)) ⌝ }
 {
@@ -37,7 +37,7 @@ pub fn flags(l: &[i32], out: &mut [u8], o: usize) -> usize
 // One flag, after a space.
 fn flag(l: &[i32], i: usize, out: &mut [u8], o: usize) -> usize
     requires { ⌜ i < length (now l) ⌝ }
-    requires { ⌜ all isPlace (now l) ≡ true ⌝ }
+    requires { ⌜ allOf isPlace (now l) ≡ true ⌝ }
     requires { ⌜ Room (32 ∷ flagOf (getD (now l) i (pos 0))) o (now out) ⌝ }
     ensures { λ r. ⌜ WroteAt (32 ∷ flagOf (getD (now (l .entry)) i (pos 0))) (now (out .entry)) o r (now (out .exit)) ⌝ }
 {
@@ -81,7 +81,7 @@ pub fn name(operator: u8, out: &mut [u8], o: usize) -> usize
 // The arguments' words, each after a space: flags, the words of `adapt`, or a key and the numbers.
 pub fn arguments(operator: u8, l: &[i32], out: &mut [u8], o: usize) -> usize
     requires { ⌜ operator ≤ 10 ⌝ }
-    requires { ⌜ all nineDigits (now l) ≡ true ⌝ }
+    requires { ⌜ allOf nineDigits (now l) ≡ true ⌝ }
     requires { ⌜ isArgs (operatorOf operator) (now l) ≡ true ⌝ }
     requires { ⌜ Room (argText (operatorOf operator) (now l)) o (now out) ⌝ }
     ensures { λ r. ⌜ WroteAt (argText (operatorOf operator) (now (l .entry))) (now (out .entry)) o r (now (out .exit)) ⌝ }

@@ -10,7 +10,7 @@ use borrow.Author.Tests.{leb-true, ltb-true, lt-ltb, eqb-true, eqb-false}
 use lib.Dec.{leb, ltb, eqb}
 use lib.IntN.{ℤ, pos, negsuc}
 use Rattle.rules.specs.Ascii.{ascii}
-use Rattle.rules.specs.Lists.{any, all, isNone}
+use Rattle.rules.specs.Lists.{anyOf, allOf, isNone}
 use Rattle.rules.specs.Text.{Bytes, Words, same}
 use Rattle.rules.specs.Decimal.{minus}
 use Rattle.rules.specs.Refusal.{answers}
@@ -119,7 +119,7 @@ flags-chosen a b c d =
     ∙ ap (λ (w : Words). cond a (flagOf (pos 1) ∷ w) w) (map-before b (pos 2) _ ∙ ap (λ (w : Words). cond b (flagOf (pos 2) ∷ w) w) (map-before c (pos 3) _ ∙ ap (λ (w : Words). cond c (flagOf (pos 3) ∷ w) w) (map-before d (pos 4) [])))
 
 axis-bare : (a b c d : Bool) → bareFlags (axisFlags a b c d) ≡ true
-unfolding bareFlags axisFlags axisFlag all lacks any ascii
+unfolding bareFlags axisFlags axisFlag allOf lacks anyOf ascii
 axis-bare a b c d = refl
 
 -- ---- the judgement
@@ -167,21 +167,21 @@ module _ (s : Step) (m : IsMade s) (ch : Chosen (args s)) where
       go : (a b c d : Bool) → cond a (pos 1 ∷ []) [] ++ (cond b (pos 2 ∷ []) [] ++ (cond c (pos 3 ∷ []) [] ++ cond d (pos 4 ∷ []) [])) ≡ axesOn a b c d
       go a b c d = unfold axesOn in one a (pos 1) _ ∙ ap (before a (pos 1)) (one b (pos 2) _ ∙ ap (before b (pos 2)) (one c (pos 3) _ ∙ ap (before c (pos 3)) (unfold before in refl)))
 
-  axes-judged : (n : Name) (o : Operator) (w : Bytes) → nameOf w ≡ some n → faulty n (name w) ≡ false → any (λ (f : Flag). faulty n (bare (f .word))) flags ≡ false
-      → any (λ (f : Flag). faulty n (bare (f .word))) (marksOf s) ≡ false → ((ps : List Parameter) → ownRule n ps ≡ some (recordOf o ps (axes ps)))
+  axes-judged : (n : Name) (o : Operator) (w : Bytes) → nameOf w ≡ some n → faulty n (name w) ≡ false → anyOf (λ (f : Flag). faulty n (bare (f .word))) flags ≡ false
+      → anyOf (λ (f : Flag). faulty n (bare (f .word))) (marksOf s) ≡ false → ((ps : List Parameter) → ownRule n ps ≡ some (recordOf o ps (axes ps)))
       → operator s ≡ o → judged (tableFrom w own (marksOf s)) ≡ answers s
   unfolding named
   axes-judged n o w i f g k r e =
       table-judged w own (marksOf s) (marks-bare s) n s
       (rw (look-name w) i)
-      (unfold any in rw f (any-chosen (faulty n) flags (axis-bare (ch .a) (ch .b) (ch .c) (ch .d)) g))
+      (unfold anyOf in rw f (any-chosen (faulty n) flags (axis-bare (ch .a) (ch .b) (ch .c) (ch .d)) g))
       k
       (rw (r (tableFrom w own (marksOf s)), axes-again w, ← e) (ap some (record-again s w own unmarked m)))
 
   pub push-judged : operator s ≡ Push → judged (tableFrom (ascii "push") own (marksOf s)) ≡ answers s
-  unfolding nameOf any faulty unknown misspelt tooLong kindOf kindIn everyKey ownKeys flag numbered worded name bare marksOf axisFlags axisFlag same ascii isNone ownRule
+  unfolding nameOf anyOf faulty unknown misspelt tooLong kindOf kindIn everyKey ownKeys flag numbered worded name bare marksOf axisFlags axisFlag same ascii isNone ownRule
   push-judged e = axes-judged push Push (ascii "push") refl refl refl refl (λ ps. refl) e
 
   pub pop-judged : operator s ≡ Pop → judged (tableFrom (ascii "pop") own (marksOf s)) ≡ answers s
-  unfolding nameOf any faulty unknown misspelt tooLong kindOf kindIn everyKey ownKeys flag numbered worded name bare marksOf axisFlags axisFlag same ascii isNone ownRule
+  unfolding nameOf anyOf faulty unknown misspelt tooLong kindOf kindIn everyKey ownKeys flag numbered worded name bare marksOf axisFlags axisFlag same ascii isNone ownRule
   pop-judged e = axes-judged pop Pop (ascii "pop") refl refl refl refl (λ ps. refl) e

@@ -6,7 +6,7 @@ use mathlib.Core.List.{List, [], _∷_, _++_, append-nil}
 use lib.ListN.{take, drop}
 use lib.Dec.{eqb}
 use Rattle.rules.specs.Ascii.{ascii, is}
-use Rattle.rules.specs.Lists.{any, all}
+use Rattle.rules.specs.Lists.{anyOf, allOf}
 use Rattle.rules.specs.Text.{Bytes, white, starts, replaceFrom, replace, trimStart, trimmed, afterEach, joinedBy}
 use Rattle.rules.specs.Normal.{Replacement, run, becomes, subscriptBecomes, replacements, normal}
 use Rattle.rules.specs.Comments.{stripped}
@@ -17,14 +17,14 @@ use Rattle.writelaws.specs.Settled.{trim-calm, lacks, lacking, squeezed-
 
 -- ---- a bar and the space after it
 
-past-first : (new t r : Bytes) → any (is "|") t ≡ false → replaceFrom zero (124 ∷ 32 ∷ []) new (t ++ r) ≡ t ++ replaceFrom zero (124 ∷ 32 ∷ []) new r
-unfolding any replaceFrom starts
+past-first : (new t r : Bytes) → anyOf (is "|") t ≡ false → replaceFrom zero (124 ∷ 32 ∷ []) new (t ++ r) ≡ t ++ replaceFrom zero (124 ∷ 32 ∷ []) new r
+unfolding anyOf replaceFrom starts
 past-first new [] r h = refl
 past-first new (x ∷ t) r h =
-    rw (or-left (is "|" x) (any (is "|") t) h) (ap (λ (u : Bytes). x ∷ u) (past-first new t r (or-right (is "|" x) (any (is "|") t) h)))
+    rw (or-left (is "|" x) (anyOf (is "|") t) h) (ap (λ (u : Bytes). x ∷ u) (past-first new t r (or-right (is "|" x) (anyOf (is "|") t) h)))
 
-first-after : (ts : List Bytes) → all (lacks (is "|")) ts ≡ true → replaceFrom zero (124 ∷ 32 ∷ []) (124 ∷ []) (afterEach (32 ∷ 124 ∷ 32 ∷ []) ts) ≡ afterEach (32 ∷ 124 ∷ []) ts
-unfolding all afterEach replaceFrom starts
+first-after : (ts : List Bytes) → allOf (lacks (is "|")) ts ≡ true → replaceFrom zero (124 ∷ 32 ∷ []) (124 ∷ []) (afterEach (32 ∷ 124 ∷ 32 ∷ []) ts) ≡ afterEach (32 ∷ 124 ∷ []) ts
+unfolding allOf afterEach replaceFrom starts
 first-after [] h = refl
 first-after (t ∷ ts) h =
     ap (λ (u : Bytes). 32 ∷ 124 ∷ u)
@@ -50,16 +50,16 @@ no-bar x (y ∷ u) h = rw h (go (eqb x 32))
     go true = refl
     go false = refl
 
-barred-append : (t r : Bytes) → any (is "|") t ≡ false → barred r ≡ false → barred (t ++ r) ≡ false
-unfolding any barred
+barred-append : (t r : Bytes) → anyOf (is "|") t ≡ false → barred r ≡ false → barred (t ++ r) ≡ false
+unfolding anyOf barred
 barred-append [] r h k = k
-barred-append (x ∷ t) r h k = or-left (is "|" x) (any (is "|") t) h
+barred-append (x ∷ t) r h k = or-left (is "|" x) (anyOf (is "|") t) h
 
-past-second : (new t r : Bytes) → any (is "|") t ≡ false → barred r ≡ false → replaceFrom zero (32 ∷ 124 ∷ []) new (t ++ r) ≡ t ++ replaceFrom zero (32 ∷ 124 ∷ []) new r
-unfolding any replaceFrom
+past-second : (new t r : Bytes) → anyOf (is "|") t ≡ false → barred r ≡ false → replaceFrom zero (32 ∷ 124 ∷ []) new (t ++ r) ≡ t ++ replaceFrom zero (32 ∷ 124 ∷ []) new r
+unfolding anyOf replaceFrom
 past-second new [] r h k = refl
 past-second new (x ∷ t) r h k =
-    let g = or-right (is "|" x) (any (is "|") t) h in
+    let g = or-right (is "|" x) (anyOf (is "|") t) h in
     rw (no-bar x (t ++ r) (barred-append t r g k)) (ap (λ (u : Bytes). x ∷ u) (past-second new t r g k))
 
 after-barred : (ts : List Bytes) → barred (afterEach (32 ∷ 124 ∷ []) ts) ≡ false
@@ -67,8 +67,8 @@ unfolding barred afterEach
 after-barred [] = refl
 after-barred (t ∷ ts) = refl
 
-second-after : (ts : List Bytes) → all (lacks (is "|")) ts ≡ true → replaceFrom zero (32 ∷ 124 ∷ []) (124 ∷ []) (afterEach (32 ∷ 124 ∷ []) ts) ≡ afterEach (124 ∷ []) ts
-unfolding all afterEach replaceFrom starts
+second-after : (ts : List Bytes) → allOf (lacks (is "|")) ts ≡ true → replaceFrom zero (32 ∷ 124 ∷ []) (124 ∷ []) (afterEach (32 ∷ 124 ∷ []) ts) ≡ afterEach (124 ∷ []) ts
+unfolding allOf afterEach replaceFrom starts
 second-after [] h = refl
 second-after (t ∷ ts) h =
     ap (λ (u : Bytes). 124 ∷ u)
@@ -78,23 +78,23 @@ second-after (t ∷ ts) h =
 -- ---- the whole
 
 abbrev shutAll : List Replacement → Bool
-shutAll rs = all (λ (r : Replacement). shut (r .old)) rs
+shutAll rs = allOf (λ (r : Replacement). shut (r .old)) rs
 
-module _ (t : Bytes) (ts : List Bytes) (c : all calm (t ∷ ts) ≡ true) (b : all (lacks (is "|")) (t ∷ ts) ≡ true) where
+module _ (t : Bytes) (ts : List Bytes) (c : allOf calm (t ∷ ts) ≡ true) (b : allOf (lacks (is "|")) (t ∷ ts) ≡ true) where
   first-calm : calm t ≡ true
-  unfolding all
+  unfolding allOf
   first-calm = and-left (calm t) _ c
 
-  rest-calm : all calm ts ≡ true
-  unfolding all
+  rest-calm : allOf calm ts ≡ true
+  unfolding allOf
   rest-calm = and-right (calm t) _ c
 
-  bare : any (is "|") t ≡ false
-  unfolding all
+  bare : anyOf (is "|") t ≡ false
+  unfolding allOf
   bare = lacking (is "|") t (and-left (lacks (is "|") t) _ b)
 
-  bares : all (lacks (is "|")) ts ≡ true
-  unfolding all
+  bares : allOf (lacks (is "|")) ts ≡ true
+  unfolding allOf
   bares = and-right (lacks (is "|") t) _ b
 
   -- with a gap between
@@ -103,13 +103,13 @@ module _ (t : Bytes) (ts : List Bytes) (c : all calm (t ∷ ts) ≡ true) (b : a
   calm-by sep g = joined-calm sep g t ts first-calm rest-calm
 
   pub spaced-calm : calm (joinedBy (32 ∷ 124 ∷ 32 ∷ []) (t ∷ ts)) ≡ true
-  spaced-calm = calm-by (32 ∷ 124 ∷ 32 ∷ []) (unfold gap below so firm known follows middle quiet any ascii in refl)
+  spaced-calm = calm-by (32 ∷ 124 ∷ 32 ∷ []) (unfold gap below so firm known follows middle quiet anyOf ascii in refl)
 
   half-calm : calm (joinedBy (32 ∷ 124 ∷ []) (t ∷ ts)) ≡ true
-  half-calm = calm-by (32 ∷ 124 ∷ []) (unfold gap below so firm known follows middle quiet any ascii in refl)
+  half-calm = calm-by (32 ∷ 124 ∷ []) (unfold gap below so firm known follows middle quiet anyOf ascii in refl)
 
   pub barred-calm : calm (joinedBy (124 ∷ []) (t ∷ ts)) ≡ true
-  barred-calm = calm-by (124 ∷ []) (unfold gap below so firm known follows middle quiet any ascii in refl)
+  barred-calm = calm-by (124 ∷ []) (unfold gap below so firm known follows middle quiet anyOf ascii in refl)
 
   first-bars : replace (124 ∷ 32 ∷ []) (124 ∷ []) (joinedBy (32 ∷ 124 ∷ 32 ∷ []) (t ∷ ts)) ≡ joinedBy (32 ∷ 124 ∷ []) (t ∷ ts)
   unfolding replace joinedBy
@@ -122,17 +122,17 @@ module _ (t : Bytes) (ts : List Bytes) (c : all calm (t ∷ ts) ≡ true) (b : a
   run-bars : run replacements (joinedBy (32 ∷ 124 ∷ 32 ∷ []) (t ∷ ts)) ≡ joinedBy (124 ∷ []) (t ∷ ts)
   unfolding replacements becomes subscriptBecomes run ascii
   run-bars =
-      run-calm (take 3 replacements) (drop 3 replacements) _ (unfold all shut known follows middle any in refl) spaced-calm
+      run-calm (take 3 replacements) (drop 3 replacements) _ (unfold allOf shut known follows middle anyOf in refl) spaced-calm
       ∙ ap (run (drop 4 replacements)) first-bars
-      ∙ run-calm (take 5 (drop 4 replacements)) (drop 9 replacements) _ (unfold all shut known follows middle any in refl) half-calm
+      ∙ run-calm (take 5 (drop 4 replacements)) (drop 9 replacements) _ (unfold allOf shut known follows middle anyOf in refl) half-calm
       ∙ ap (run (drop 10 replacements)) second-bars
-      ∙ run-calm (drop 10 replacements) [] _ (unfold all shut known follows middle any in refl) barred-calm
+      ∙ run-calm (drop 10 replacements) [] _ (unfold allOf shut known follows middle anyOf in refl) barred-calm
 
   -- a text that trims to it
   normal-of : (u : Bytes) → trimmed white u ≡ joinedBy (32 ∷ 124 ∷ 32 ∷ []) (t ∷ ts) → normal u ≡ joinedBy (124 ∷ []) (t ∷ ts)
   unfolding normal
   normal-of u e =
-      rw (e, trim-calm (is ":") (unfold below so firm known any ascii in refl) _ spaced-calm, continued-calm _ spaced-calm, squeezed-calm _ spaced-calm, run-bars)
+      rw (e, trim-calm (is ":") (unfold below so firm known anyOf ascii in refl) _ spaced-calm, continued-calm _ spaced-calm, squeezed-calm _ spaced-calm, run-bars)
       (squeezed-calm _ barred-calm)
 
   pub normal-stripped : normal (stripped (joinedBy (32 ∷ 124 ∷ 32 ∷ []) (t ∷ ts))) ≡ joinedBy (124 ∷ []) (t ∷ ts)
@@ -141,10 +141,10 @@ module _ (t : Bytes) (ts : List Bytes) (c : all calm (t ∷ ts) ≡ true) (b : a
       ∙ normal-of (32 ∷ joinedBy (32 ∷ 124 ∷ 32 ∷ []) (t ∷ ts)) (space (joinedBy (32 ∷ 124 ∷ 32 ∷ []) (t ∷ ts)) spaced-calm)
     where
       space : (u : Bytes) → calm u ≡ true → trimmed white (32 ∷ u) ≡ u
-      space u h = unfold trimmed trimStart white in trim-calm white (unfold below so firm known white any ascii in refl) u h
+      space u h = unfold trimmed trimStart white in trim-calm white (unfold below so firm known white anyOf ascii in refl) u h
 
 -- one calm text is its own normal form
-pub normal-calm : (t : Bytes) → calm t ≡ true → any (is "|") t ≡ false → normal t ≡ t
+pub normal-calm : (t : Bytes) → calm t ≡ true → anyOf (is "|") t ≡ false → normal t ≡ t
 normal-calm t c b =
-    normal-of t [] (unfold all in rw c) (unfold all lacks in rw b) t (trim-calm white (unfold below so firm known white any ascii in refl) t c ∙ unfold joinedBy afterEach in rw (append-nil t))
+    normal-of t [] (unfold allOf in rw c) (unfold allOf lacks in rw b) t (trim-calm white (unfold below so firm known white anyOf ascii in refl) t c ∙ unfold joinedBy afterEach in rw (append-nil t))
     ∙ unfold joinedBy afterEach in append-nil t

@@ -6,7 +6,7 @@ use mathlib.Core.List.{List, [], _∷_, _++_}
 use borrow.Author.Tests.{eqb-true, ltb-true, not-true}
 use lib.Dec.{eqb, leb, ltb}
 use Rattle.rules.specs.Ascii.{ascii, is}
-use Rattle.rules.specs.Lists.{any, all}
+use Rattle.rules.specs.Lists.{anyOf, allOf}
 use Rattle.rules.specs.Text.{Bytes, starts, replaceFrom, replace, afterEach}
 use Rattle.rules.specs.Normal.{Replacement, run}
 use Rattle.laws.specs.Separators.{and-left, and-right}
@@ -16,11 +16,11 @@ use Rattle.steplaws.specs.Tests.{below, below-at}
 
 -- a byte of a calm text
 unfoldable pub known : ℕ → Bool
-known b = ltb b 127 && (leb 32 b && not (any (eqb b) (ascii ":<>$#")))
+known b = ltb b 127 && (leb 32 b && not (anyOf (eqb b) (ascii ":<>$#")))
 
 -- one that may stand at either end of a word
 unfoldable pub firm : ℕ → Bool
-firm b = known b && not (any (eqb b) (ascii ",=| "))
+firm b = known b && not (anyOf (eqb b) (ascii ",=| "))
 
 unfoldable pub middle : ℕ → Bool
 middle b = is "=" b || is "," b
@@ -43,14 +43,14 @@ pub both : (a b : Bool) → a ≡ true → b ≡ true → a && b ≡ true
 both true b e f = f
 both false b e f = e
 
-module _ {A : Type 0} (test : A → Bool) (x : A) (l : List A) (h : all test (x ∷ l) ≡ true) where
+module _ {A : Type 0} (test : A → Bool) (x : A) (l : List A) (h : allOf test (x ∷ l) ≡ true) where
   pub all-first : test x ≡ true
-  unfolding all
-  all-first = and-left (test x) (all test l) h
+  unfolding allOf
+  all-first = and-left (test x) (allOf test l) h
 
-  pub all-rest : all test l ≡ true
-  unfolding all
-  all-rest = and-right (test x) (all test l) h
+  pub all-rest : allOf test l ≡ true
+  unfolding allOf
+  all-rest = and-right (test x) (allOf test l) h
 
 -- what is so of every known byte, or of every firm one, is computed
 pub known-so : (q : ℕ → Bool) → below 127 (λ b. so (known b) (q b)) ≡ true → (b : ℕ) → known b ≡ true → q b ≡ true
@@ -68,10 +68,10 @@ firm-so q h b k =
     so-at (firm b) (q b) (below-at 127 (λ b. so (firm b) (q b)) h b (ltb-true b 127 (and-left (ltb b 127) _ (firm-known b k)))) k
 
 firm-not-middle : (b : ℕ) → firm b ≡ true → middle b ≡ false
-firm-not-middle b h = not-true (middle b) (unfold below so firm known middle any ascii in firm-so (λ b. not (middle b)) refl b h)
+firm-not-middle b h = not-true (middle b) (unfold below so firm known middle anyOf ascii in firm-so (λ b. not (middle b)) refl b h)
 
 firm-not-space : (b : ℕ) → firm b ≡ true → eqb b 32 ≡ false
-firm-not-space b h = not-true (eqb b 32) (unfold below so firm known any ascii in firm-so (λ b. not (eqb b 32)) refl b h)
+firm-not-space b h = not-true (eqb b 32) (unfold below so firm known anyOf ascii in firm-so (λ b. not (eqb b 32)) refl b h)
 
 -- a firm byte may stand after any
 pub firm-follows : (p x : ℕ) → firm x ≡ true → follows p x ≡ true
@@ -135,16 +135,16 @@ unfoldable pub gap : Bytes → Bool
 gap sep = below 127 (λ p. so (firm p) (quiet p sep))
 
 module _ (sep : Bytes) (g : gap sep ≡ true) where
-  pub after-stands : (p : ℕ) (ws : List Bytes) → firm p ≡ true → all calm ws ≡ true → Stands p (afterEach sep ws)
-  unfolding gap all afterEach
+  pub after-stands : (p : ℕ) (ws : List Bytes) → firm p ≡ true → allOf calm ws ≡ true → Stands p (afterEach sep ws)
+  unfolding gap allOf afterEach
   after-stands p [] h a = record { quietly = unfold quiet in refl; ends = unfold endOf in h }
   after-stands p (w ∷ ws) h a =
-      let s = calm-stands (endOf p sep) w (and-left (calm w) (all calm ws) a) in
+      let s = calm-stands (endOf p sep) w (and-left (calm w) (allOf calm ws) a) in
       stands-append p sep (w ++ afterEach sep ws) (firm-so (λ p. quiet p sep) g p h)
-      (stands-append (endOf p sep) w (afterEach sep ws) (s .quietly) (after-stands (endOf (endOf p sep) w) ws (s .ends) (and-right (calm w) (all calm ws) a)))
+      (stands-append (endOf p sep) w (afterEach sep ws) (s .quietly) (after-stands (endOf (endOf p sep) w) ws (s .ends) (and-right (calm w) (allOf calm ws) a)))
 
   -- calm texts with it between are a calm text
-  pub joined-calm : (w : Bytes) (ws : List Bytes) → calm w ≡ true → all calm ws ≡ true → calm (w ++ afterEach sep ws) ≡ true
+  pub joined-calm : (w : Bytes) (ws : List Bytes) → calm w ≡ true → allOf calm ws ≡ true → calm (w ++ afterEach sep ws) ≡ true
   unfolding calm
   joined-calm [] ws h a = absurd (false≢true h)
   joined-calm (x ∷ t) ws h a =
@@ -213,8 +213,8 @@ replace-calm old new [] s h = absurd (false≢true h)
 replace-calm old new (x ∷ t) s h =
     replace-from old new s x t (firm-known x (and-left (firm x) _ h)) (and-left (quiet x t) _ (and-right (firm x) _ h))
 
-pub run-calm : (rs rest : List Replacement) (t : Bytes) → all (λ (r : Replacement). shut (r .old)) rs ≡ true → calm t ≡ true → run (rs ++ rest) t ≡ run rest t
-unfolding run all
+pub run-calm : (rs rest : List Replacement) (t : Bytes) → allOf (λ (r : Replacement). shut (r .old)) rs ≡ true → calm t ≡ true → run (rs ++ rest) t ≡ run rest t
+unfolding run allOf
 run-calm [] rest t s h = refl
 run-calm (r ∷ rs) rest t s h =
     let e = replace-calm (r .old) (r .new) t (and-left (shut (r .old)) _ s) h in

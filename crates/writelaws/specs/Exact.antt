@@ -11,7 +11,7 @@ use lib.ListN.{length, drop, replicate, length-append, length-replicate}
 use lib.Dec.{leb, ltb, lit≤}
 use lib.IntN.{ℤ, pos}
 use Rattle.rules.specs.Ascii.{ascii}
-use Rattle.rules.specs.Lists.{any, all}
+use Rattle.rules.specs.Lists.{anyOf, allOf}
 use Rattle.rules.specs.Text.{Bytes, afterEach, joinedBy}
 use Rattle.rules.specs.Refusal.{Reply, answers, refuses, andThen, tested, prepared}
 use Rattle.rules.specs.Split.{steps, splitSteps}
@@ -32,7 +32,7 @@ use Rattle.writelaws.specs.Faithful.{Slots, AllMade, made-each, prepare-
 -- ---- one record
 
 alone : (s : Step) → Slots s → made s ≡ true → AllMade (s ∷ [])
-unfolding all Every
+unfolding allOf Every
 alone s e h = record { each = rw h; slots = (e, tt) }
 
 one-text : (s : Step) → tableWriting (s ∷ []) ≡ writing s
@@ -114,7 +114,7 @@ judged-slotted ps s h = by10 (named (valueOf (ascii "_name") ps)) h
     by10 : (o : Option Name) → judged10 o ps ≡ answers s → Slotted s
     by10 none h = absurd (never (cc h))
     by10 (some n) h =
-        by13 n (any (unknown n) ps) (any (λ (p : Parameter). misspelt (kindOf n p) (p .value)) ps) (any (λ (p : Parameter). tooLong (kindOf n p) (p .value)) ps) h
+        by13 n (anyOf (unknown n) ps) (anyOf (λ (p : Parameter). misspelt (kindOf n p) (p .value)) ps) (anyOf (λ (p : Parameter). tooLong (kindOf n p) (p .value)) ps) h
 
 step-slotted : (place : ℕ) (t : Bytes) (s : Step) → prepareStep place t ≡ answers s → Slotted s
 unfolding prepareStep atStep
@@ -150,12 +150,12 @@ slotted-eight s h m = go (h .slotted-by) (h .given) (h .listed) (h .same-as)
         let a : length (l ++ replicate (8 - length l) (pos 0)) ≡ length (s .args) = unfold recordOf in ap (λ (r : Step). length (r .args)) e in
         omega (arith, length-append l (replicate (8 - length l) (pos 0)), length-replicate {A = ℤ} (8 - length l) (pos 0), leb-true (s .n) 8 few)
 
-eight-each : (l : List Step) → all made l ≡ true → Every Slotted l → AllMade l
-unfolding all Every
+eight-each : (l : List Step) → allOf made l ≡ true → Every Slotted l → AllMade l
+unfolding allOf Every
 eight-each [] h k = record { each = refl; slots = tt }
 eight-each (s ∷ l) h k =
-    let m = and-left (made s) (all made l) h in
-    let r = eight-each l (and-right (made s) (all made l) h) (k .1) in
+    let m = and-left (made s) (allOf made l) h in
+    let r = eight-each l (and-right (made s) (allOf made l) h) (k .1) in
     record { each = h; slots = (slotted-eight s (k .0) m, r .slots) }
 
 -- The records of every prepared text pass `made`, have their slots, and are at most 64.
@@ -188,5 +188,5 @@ made-exactly s e = (
   λ t. first (prepared-all (t .text) (s ∷ []) (t .prepares) .0 .each),
 )
   where
-    first : all made (s ∷ []) ≡ true → made s ≡ true
-    first h = unfold all in and-left (made s) true h
+    first : allOf made (s ∷ []) ≡ true → made s ≡ true
+    first h = unfold allOf in and-left (made s) true h

@@ -12,7 +12,7 @@ use lib.ListN.{length, length-append, length-map}
 use lib.Dec.{eqb, leb}
 use lib.IntN.{ℤ}
 use Rattle.rules.specs.Ascii.{ascii, is}
-use Rattle.rules.specs.Lists.{any, all}
+use Rattle.rules.specs.Lists.{anyOf, allOf}
 use Rattle.rules.specs.Text.{Bytes, Words, inDomain, afterEach, joinedBy, joined}
 use Rattle.rules.specs.Refusal.{Reply, answers, tested}
 use Rattle.rules.specs.Parameters.{Parameter, parameter, name, enteredAll}
@@ -53,8 +53,8 @@ module _ (s : Step) where
 
     adapt-own : (l : List ℤ) (p : Adapts l) → map parameter (argWords Adapt l) ≡ keyed "from" (fromWord (p .code)) ∷ keyed "to" (toWord (p .code) (p .a ∷ p .b ∷ p .c ∷ p .d ∷ [])) ∷ []
     adapt-own l p =
-        let f = parameter-pair "from" (fromWord (p .code)) (unfold lacks any ascii in refl) (firm-lacks (is "=") (unfold below so firm known any ascii in refl) _ (from-firm (p .code) .firmly)) in
-        let t = parameter-pair "to" (toWord (p .code) (p .a ∷ p .b ∷ p .c ∷ p .d ∷ [])) (unfold lacks any ascii in refl) (firm-lacks (is "=") (unfold below so firm known any ascii in refl) _ (to-firm (p .code) (p .a) (p .b) (p .c) (p .d) (p .ordered) .firmly)) in
+        let f = parameter-pair "from" (fromWord (p .code)) (unfold lacks anyOf ascii in refl) (firm-lacks (is "=") (unfold below so firm known anyOf ascii in refl) _ (from-firm (p .code) .firmly)) in
+        let t = parameter-pair "to" (toWord (p .code) (p .a ∷ p .b ∷ p .c ∷ p .d ∷ [])) (unfold lacks anyOf ascii in refl) (firm-lacks (is "=") (unfold below so firm known anyOf ascii in refl) _ (to-firm (p .code) (p .a) (p .b) (p .c) (p .d) (p .ordered) .firmly)) in
         rw (adapt-words l p, f, t)
 
     no-args : (l : List ℤ) → eqb (length l) 0 ≡ true → l ≡ []
@@ -64,14 +64,14 @@ module _ (s : Step) where
         none : (n : ℕ) → suc n ≡ 0 → ⊥
         none n e = omega arith
 
-    own-nines : (l : List ℤ) → args s ≡ l → all nineDigits l ≡ true
+    own-nines : (l : List ℤ) → args s ≡ l → allOf nineDigits l ≡ true
     own-nines l z = rw z at (m .keeps .nines)
 
     -- a key whose value is a list
     by-list : (w : Bytes) (key : String) (x : ℤ) (l : List ℤ) → args s ≡ x ∷ l → lacks (is "=") (ascii key) ≡ true
         → judged (tableFrom w (keyed key (listing (x ∷ l)) ∷ []) (marksOf s)) ≡ answers s → wordsJudged s w (pair key (listing (x ∷ l)) ∷ []) ≡ answers s
     by-list w key x l z k h =
-        let n = listing-lacks x l (own-nines (x ∷ l) z) (is "=") (unfold below so firm known any ascii in refl) refl in
+        let n = listing-lacks x l (own-nines (x ∷ l) z) (is "=") (unfold below so firm known anyOf ascii in refl) refl in
         by-own w (pair key (listing (x ∷ l)) ∷ []) (keyed key (listing (x ∷ l)) ∷ []) (ap (λ (p : Parameter). p ∷ []) (parameter-pair key (listing (x ∷ l)) k n)) h
 
     -- operator by operator
@@ -84,19 +84,19 @@ module _ (s : Step) where
         let ch = rising-chosen (args s) (rw (← z) at r) in
         by-own (ascii "pop") (map flagOf l) _ (rw (← z) (axes-own (args s) ch)) (pop-judged s m ch e)
     judged-as StackPush [] e z r = none-left (places-some [] r .0)
-    judged-as StackPush (x ∷ l) e z r = by-list (ascii "stack") "push" x l z (unfold lacks any ascii in refl) (push-list s m x l z e r)
+    judged-as StackPush (x ∷ l) e z r = by-list (ascii "stack") "push" x l z (unfold lacks anyOf ascii in refl) (push-list s m x l z e r)
     judged-as StackPop [] e z r = none-left (places-some [] r .0)
-    judged-as StackPop (x ∷ l) e z r = by-list (ascii "stack") "pop" x l z (unfold lacks any ascii in refl) (pop-list s m x l z e r)
+    judged-as StackPop (x ∷ l) e z r = by-list (ascii "stack") "pop" x l z (unfold lacks anyOf ascii in refl) (pop-list s m x l z e r)
     judged-as StackFlip [] e z r = none-left (places-some [] r .0)
-    judged-as StackFlip (x ∷ l) e z r = by-list (ascii "stack") "flip" x l z (unfold lacks any ascii in refl) (flip-list s m x l z e r)
+    judged-as StackFlip (x ∷ l) e z r = by-list (ascii "stack") "flip" x l z (unfold lacks anyOf ascii in refl) (flip-list s m x l z e r)
     judged-as StackRoll [] e z r = none-left (omega (arith, roll-two [] r))
-    judged-as StackRoll (x ∷ l) e z r = by-list (ascii "stack") "roll" x l z (unfold lacks any ascii in refl) (roll-list s m x l z e r)
+    judged-as StackRoll (x ∷ l) e z r = by-list (ascii "stack") "roll" x l z (unfold lacks anyOf ascii in refl) (roll-list s m x l z e r)
     judged-as StackUnroll [] e z r = none-left (omega (arith, roll-two [] r))
-    judged-as StackUnroll (x ∷ l) e z r = by-list (ascii "stack") "unroll" x l z (unfold lacks any ascii in refl) (unroll-list s m x l z e r)
-    judged-as StackSwap l e z r = by-own (ascii "stack") (ascii "swap" ∷ []) (keyed "swap" (ascii "true") ∷ []) (unfold keyed parameter any ascii in refl) (swap-judged s m e (z ∙ no-args l r))
-    judged-as StackDrop l e z r = by-own (ascii "stack") (ascii "drop" ∷ []) (keyed "drop" (ascii "true") ∷ []) (unfold keyed parameter any ascii in refl) (drop-judged s m e (z ∙ no-args l r))
+    judged-as StackUnroll (x ∷ l) e z r = by-list (ascii "stack") "unroll" x l z (unfold lacks anyOf ascii in refl) (unroll-list s m x l z e r)
+    judged-as StackSwap l e z r = by-own (ascii "stack") (ascii "swap" ∷ []) (keyed "swap" (ascii "true") ∷ []) (unfold keyed parameter anyOf ascii in refl) (swap-judged s m e (z ∙ no-args l r))
+    judged-as StackDrop l e z r = by-own (ascii "stack") (ascii "drop" ∷ []) (keyed "drop" (ascii "true") ∷ []) (unfold keyed parameter anyOf ascii in refl) (drop-judged s m e (z ∙ no-args l r))
     judged-as Axisswap [] e z r = none-left (order-some [] r .0)
-    judged-as Axisswap (x ∷ l) e z r = by-list (ascii "axisswap") "order" x l z (unfold lacks any ascii in refl) (order-judged s m x l z e r)
+    judged-as Axisswap (x ∷ l) e z r = by-list (ascii "axisswap") "order" x l z (unfold lacks anyOf ascii in refl) (order-judged s m x l z e r)
     judged-as Adapt l e z r =
         let p = adapts (args s) (rw (← z) at r) in
         by-own (ascii "adapt") (argWords Adapt l) _ (rw (← z) (adapt-own (args s) p)) (adapt-judged s m p e)
@@ -116,11 +116,11 @@ Slots s = length (s .args) ≡ 8
 
 -- records that are each made, and have their slots
 pub record AllMade (l : List Step) : Type 0 where
-  pub each : all made l ≡ true
+  pub each : allOf made l ≡ true
   pub slots : Every Slots l
 
 pub made-each : (l : List Step) → AllMade l → Every IsMade l
-unfolding Every all
+unfolding Every allOf
 made-each [] h = tt
 made-each (s ∷ l) h =
     (made-is s (h .slots .0) (and-left (made s) _ (h .each)), made-each l (record { each = and-right (made s) _ (h .each); slots = h .slots .1 }))
@@ -150,8 +150,8 @@ prepare-again l h few =
     ap prepare (table-spaced l) ∙ spaced-prepared (map stepWords l) (all-speak l h) (omega (arith, length-map l stepWords)) ∙ all-prepared (all-again l h) 1
 
 -- it is a text that every call takes: short, and in the domain
-apart-length : (n : ℕ) (ts : List Bytes) → all (λ (t : Bytes). leb (length t) n) ts ≡ true → length (afterEach (ascii " | ") ts) ≤ (3 + n) * length ts
-unfolding all afterEach ascii
+apart-length : (n : ℕ) (ts : List Bytes) → allOf (λ (t : Bytes). leb (length t) n) ts ≡ true → length (afterEach (ascii " | ") ts) ≤ (3 + n) * length ts
+unfolding allOf afterEach ascii
 apart-length n [] h = omega arith
 apart-length n (t ∷ ts) h =
     let a = leb-true (length t) n (and-left (leb (length t) n) _ h) in
@@ -164,12 +164,12 @@ unfolding joinedBy afterEach
 joined-less sep [] = le-refl 0
 joined-less sep (t ∷ ts) = omega (arith, length-append sep (t ++ afterEach sep ts))
 
-all-short : (l : List Step) → all made l ≡ true → all (λ (t : Bytes). leb (length t) 61) (map writing l) ≡ true
-unfolding all
+all-short : (l : List Step) → allOf made l ≡ true → allOf (λ (t : Bytes). leb (length t) 61) (map writing l) ≡ true
+unfolding allOf
 all-short [] h = refl
 all-short (s ∷ l) h = rw (le-leb (length (writing s)) 61 (writing-short s (made-keeps s (and-left (made s) _ h)))) (all-short l (and-right (made s) _ h))
 
-pub table-short : (l : List Step) → all made l ≡ true → length l ≤ 64 → length (tableWriting l) ≤ 4096
+pub table-short : (l : List Step) → allOf made l ≡ true → length l ≤ 64 → length (tableWriting l) ≤ 4096
 unfolding tableWriting
 table-short l h few =
     let a = joined-less (ascii " | ") (map writing l) in

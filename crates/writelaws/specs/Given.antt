@@ -9,7 +9,7 @@ use native.Mathlib.Omega.{arith}
 use borrow.Author.Tests.{eq-eqb, not-true}
 use lib.ListN.{length}
 use Rattle.rules.specs.Ascii.{ascii, is}
-use Rattle.rules.specs.Lists.{any, all}
+use Rattle.rules.specs.Lists.{anyOf, allOf}
 use Rattle.rules.specs.Text.{Bytes, Words, same}
 use Rattle.rules.specs.Refusal.{answers}
 use Rattle.rules.specs.Parameters.{Parameter, parameter, name, precedes, entered, enteredAll}
@@ -72,37 +72,37 @@ latest-append k (p ∷ ps) qs r = latest-append k ps qs (cond (same k (p .key)) 
 -- ---- what none of them is
 
 module _ (test : Parameter → Bool) where
-  any-entered : (p : Parameter) (l : List Parameter) → test p ≡ false → any test l ≡ false → any test (entered p l) ≡ false
-  unfolding any entered
+  any-entered : (p : Parameter) (l : List Parameter) → test p ≡ false → anyOf test l ≡ false → anyOf test (entered p l) ≡ false
+  unfolding anyOf entered
   any-entered p [] h e = rw h
-  any-entered p (q ∷ l) h e = go (same (p .key) (q .key)) (precedes (p .key) (q .key)) (any-entered p l h (or-right (test q) (any test l) e))
+  any-entered p (q ∷ l) h e = go (same (p .key) (q .key)) (precedes (p .key) (q .key)) (any-entered p l h (or-right (test q) (anyOf test l) e))
     where
-      go : (c d : Bool) → any test (entered p l) ≡ false → any test (cond c (p ∷ l) (cond d (p ∷ (q ∷ l)) (q ∷ entered p l))) ≡ false
-      go true d f = rw h (or-right (test q) (any test l) e)
+      go : (c d : Bool) → anyOf test (entered p l) ≡ false → anyOf test (cond c (p ∷ l) (cond d (p ∷ (q ∷ l)) (q ∷ entered p l))) ≡ false
+      go true d f = rw h (or-right (test q) (anyOf test l) e)
       go false true f = rw h e
-      go false false f = rw (or-left (test q) (any test l) e) f
+      go false false f = rw (or-left (test q) (anyOf test l) e) f
 
-  any-all : (ps l : List Parameter) → any test ps ≡ false → any test l ≡ false → any test (enteredAll ps l) ≡ false
-  unfolding any enteredAll
+  any-all : (ps l : List Parameter) → anyOf test ps ≡ false → anyOf test l ≡ false → anyOf test (enteredAll ps l) ≡ false
+  unfolding anyOf enteredAll
   any-all [] l h e = e
-  any-all (p ∷ ps) l h e = any-all ps (entered p l) (or-right (test p) (any test ps) h) (any-entered p l (or-left (test p) (any test ps) h) e)
+  any-all (p ∷ ps) l h e = any-all ps (entered p l) (or-right (test p) (anyOf test ps) h) (any-entered p l (or-left (test p) (anyOf test ps) h) e)
 
-  any-append : (ps qs : List Parameter) → any test ps ≡ false → any test qs ≡ false → any test (ps ++ qs) ≡ false
-  unfolding any
+  any-append : (ps qs : List Parameter) → anyOf test ps ≡ false → anyOf test qs ≡ false → anyOf test (ps ++ qs) ≡ false
+  unfolding anyOf
   any-append [] qs h e = e
-  any-append (p ∷ ps) qs h e = rw (or-left (test p) (any test ps) h) (any-append ps qs (or-right (test p) (any test ps) h) e)
+  any-append (p ∷ ps) qs h e = rw (or-left (test p) (anyOf test ps) h) (any-append ps qs (or-right (test p) (anyOf test ps) h) e)
 
-any-or-left : (f g : Parameter → Bool) (l : List Parameter) → any (λ p. f p || g p) l ≡ false → any f l ≡ false
-unfolding any
+any-or-left : (f g : Parameter → Bool) (l : List Parameter) → anyOf (λ p. f p || g p) l ≡ false → anyOf f l ≡ false
+unfolding anyOf
 any-or-left f g [] h = refl
 any-or-left f g (p ∷ l) h =
-    rw (or-left (f p) (g p) (or-left (f p || g p) (any (λ p. f p || g p) l) h)) (any-or-left f g l (or-right (f p || g p) (any (λ p. f p || g p) l) h))
+    rw (or-left (f p) (g p) (or-left (f p || g p) (anyOf (λ p. f p || g p) l) h)) (any-or-left f g l (or-right (f p || g p) (anyOf (λ p. f p || g p) l) h))
 
-any-or-right : (f g : Parameter → Bool) (l : List Parameter) → any (λ p. f p || g p) l ≡ false → any g l ≡ false
-unfolding any
+any-or-right : (f g : Parameter → Bool) (l : List Parameter) → anyOf (λ p. f p || g p) l ≡ false → anyOf g l ≡ false
+unfolding anyOf
 any-or-right f g [] h = refl
 any-or-right f g (p ∷ l) h =
-    rw (or-right (f p) (g p) (or-left (f p || g p) (any (λ p. f p || g p) l) h)) (any-or-right f g l (or-right (f p || g p) (any (λ p. f p || g p) l) h))
+    rw (or-right (f p) (g p) (or-left (f p || g p) (anyOf (λ p. f p || g p) l) h)) (any-or-right f g l (or-right (f p || g p) (anyOf (λ p. f p || g p) l) h))
 
 -- ---- how many they are
 
@@ -141,14 +141,14 @@ picked k [] r = r
 picked k (f ∷ fs) r = picked k fs (cond (same k (f .word)) (cond (f .given) (some (ascii "true")) r) r)
 
 unfoldable pub bareFlags : List Flag → Bool
-bareFlags fs = all (λ (f : Flag). lacks (is "=") (f .word)) fs
+bareFlags fs = allOf (λ (f : Flag). lacks (is "=") (f .word)) fs
 
 pub parameter-bare : (w : Bytes) → lacks (is "=") w ≡ true → parameter w ≡ bare w
 unfolding parameter bare lacks
-parameter-bare w h = rw (not-true (any (is "=") w) h)
+parameter-bare w h = rw (not-true (anyOf (is "=") w) h)
 
 pub latest-chosen : (k : Bytes) (fs : List Flag) (r : Option Bytes) → bareFlags fs ≡ true → latest k (map parameter (chosen fs)) r ≡ picked k fs r
-unfolding bareFlags all chosen latest picked bare
+unfolding bareFlags allOf chosen latest picked bare
 latest-chosen k [] r h = refl
 latest-chosen k (f ∷ fs) r h =
     go (f .given) (same k (f .word)) refl (latest-chosen k fs) (parameter-bare (f .word) (and-left (lacks (is "=") (f .word)) _ h)) (and-right (lacks (is "=") (f .word)) _ h)
@@ -162,14 +162,14 @@ latest-chosen k (f ∷ fs) r h =
     go false true e ih p a = ih r a
     go false false e ih p a = ih r a
 
-pub any-chosen : (test : Parameter → Bool) (fs : List Flag) → bareFlags fs ≡ true → any (λ (f : Flag). test (bare (f .word))) fs ≡ false → any test (map parameter (chosen fs)) ≡ false
-unfolding bareFlags all any chosen
+pub any-chosen : (test : Parameter → Bool) (fs : List Flag) → bareFlags fs ≡ true → anyOf (λ (f : Flag). test (bare (f .word))) fs ≡ false → anyOf test (map parameter (chosen fs)) ≡ false
+unfolding bareFlags allOf anyOf chosen
 any-chosen test [] h e = refl
 any-chosen test (f ∷ fs) h e =
     go (f .given) (parameter-bare (f .word) (and-left (lacks (is "=") (f .word)) _ h))
     (or-left (test (bare (f .word))) _ e) (any-chosen test fs (and-right (lacks (is "=") (f .word)) _ h) (or-right (test (bare (f .word))) _ e))
   where
-    go : (g : Bool) → parameter (f .word) ≡ bare (f .word) → test (bare (f .word)) ≡ false → any test (map parameter (chosen fs)) ≡ false → any test (map parameter (cond g (f .word ∷ chosen fs) (chosen fs))) ≡ false
+    go : (g : Bool) → parameter (f .word) ≡ bare (f .word) → test (bare (f .word)) ≡ false → anyOf test (map parameter (chosen fs)) ≡ false → anyOf test (map parameter (cond g (f .word ∷ chosen fs) (chosen fs))) ≡ false
     go true p t a = rw (p, t) a
     go false p t a = a
 
@@ -196,11 +196,11 @@ module _ (w : Bytes) (own : List Parameter) (fs : List Flag) (b : bareFlags fs �
       ∙ unfold latest valueOf name in (latest-append k own (map parameter (chosen fs)) (cond (same k (ascii "_name")) (some w) none))
       ∙ latest-chosen k fs (latest k own (cond (same k (ascii "_name")) (some w) none)) b
 
-  table-faultless : (n : Name) → any (faulty n) (name w ∷ own) ≡ false → any (λ (f : Flag). faulty n (bare (f .word))) fs ≡ false
-      → any (faulty n) (tableFrom w own fs) ≡ false
+  table-faultless : (n : Name) → anyOf (faulty n) (name w ∷ own) ≡ false → anyOf (λ (f : Flag). faulty n (bare (f .word))) fs ≡ false
+      → anyOf (faulty n) (tableFrom w own fs) ≡ false
   unfolding tableFrom
   table-faultless n o f =
-      let z : any (faulty n) [] ≡ false = unfold any in refl in
+      let z : anyOf (faulty n) [] ≡ false = unfold anyOf in refl in
       any-all (faulty n) (name w ∷ (own ++ map parameter (chosen fs))) [] (any-append (faulty n) (name w ∷ own) (map parameter (chosen fs)) o (any-chosen (faulty n) fs b f)) z
 
 -- 12, and 13
@@ -210,15 +210,15 @@ astray n p = misspelt (kindOf n p) (p .value)
 abbrev over : Name → Parameter → Bool
 over n p = tooLong (kindOf n p) (p .value)
 
-faultless-judged : (n : Name) (ps : List Parameter) → any (faulty n) ps ≡ false → judged11 n ps ≡ judged14 (ownRule n ps)
+faultless-judged : (n : Name) (ps : List Parameter) → anyOf (faulty n) ps ≡ false → judged11 n ps ≡ judged14 (ownRule n ps)
 unfolding judged11 faulty
 faultless-judged n ps h =
     let r = any-or-right (unknown n) (λ p. astray n p || over n p) ps h in
     rw (any-or-left (unknown n) (λ p. astray n p || over n p) ps h, any-or-left (astray n) (over n) ps r, any-or-right (astray n) (over n) ps r)
 
 module _ (w : Bytes) (own : List Parameter) (fs : List Flag) (b : bareFlags fs ≡ true) where
-  pub table-judged : (n : Name) (s : Step) → named (look w own fs (ascii "_name")) ≡ some n → any (faulty n) (name w ∷ own) ≡ false
-      → any (λ (f : Flag). faulty n (bare (f .word))) fs ≡ false → ownRule n (tableFrom w own fs) ≡ some s → judged (tableFrom w own fs) ≡ answers s
+  pub table-judged : (n : Name) (s : Step) → named (look w own fs (ascii "_name")) ≡ some n → anyOf (faulty n) (name w ∷ own) ≡ false
+      → anyOf (λ (f : Flag). faulty n (bare (f .word))) fs ≡ false → ownRule n (tableFrom w own fs) ≡ some s → judged (tableFrom w own fs) ≡ answers s
   unfolding judged judged10 judged14
   table-judged n s e o f r =
       rw (looked w own fs b (ascii "_name"), e) (faultless-judged n (tableFrom w own fs) (table-faultless w own fs b n o f) ∙ ap judged14 r)

@@ -11,7 +11,7 @@ use lib.ListN.{length, take, drop}
 use lib.Dec.{eqb, leb, lit≤}
 use lib.IntN.{ℤ, pos, negsuc}
 use Rattle.rules.specs.Ascii.{ascii}
-use Rattle.rules.specs.Lists.{any, all, isNone}
+use Rattle.rules.specs.Lists.{anyOf, allOf, isNone}
 use Rattle.rules.specs.Text.{same}
 use Rattle.rules.specs.Decimal.{signed, minus}
 use Rattle.rules.specs.Refusal.{answers}
@@ -55,8 +55,8 @@ axis-letter (negsuc (suc (suc (suc zero)))) h = refl
 axis-letter (negsuc (suc (suc (suc (suc n))))) h = absurd (too-big n (h .most))
 
 -- what is so of the eight letters is computed
-pub letters-so : (q : ℕ → Bool) → all q (ascii "enufwsdp") ≡ true → (x : ℤ) → Sized x → q (letter x) ≡ true
-unfolding letter minus ascii all
+pub letters-so : (q : ℕ → Bool) → allOf q (ascii "enufwsdp") ≡ true → (x : ℤ) → Sized x → q (letter x) ≡ true
+unfolding letter minus ascii allOf
 letters-so q a (pos zero) h = absurd (no-size (pos zero) h refl)
 letters-so q a (pos (suc zero)) h = and-left (q 101) _ a
 letters-so q a (pos (suc (suc zero))) h = and-left (q 110) _ (and-right (q 101) _ a)
@@ -91,14 +91,14 @@ unfolding word fromWord
 from-read code h = go (code / 3) h
   where
     go : (k : ℕ) → k < 3 → (let letters = cond (same (ascii "enuf" ++ endingOf k) (ascii "pass")) (ascii "enuf") (ascii "enuf" ++ endingOf k) in wordOf (map axis (take 4 letters)) (ending (drop 4 letters))) ≡ some (record { axes = plainAxes; angle = k })
-    go k h = unfold same ascii axis placeIn signed wordOf isOrder isDistinct all any in rw (ending-again k h)
+    go k h = unfold same ascii axis placeIn signed wordOf isOrder isDistinct allOf anyOf in rw (ending-again k h)
 
 module _ (a b c d : ℤ) (o : isOrder (a ∷ b ∷ c ∷ d ∷ []) ≡ true) where
   to-read : (code : ℕ) → code % 3 < 3 → word (toWord code (a ∷ b ∷ c ∷ d ∷ [])) ≡ some (record { axes = a ∷ b ∷ c ∷ d ∷ []; angle = code % 3 })
   unfolding word toWord same ascii wordOf
   to-read code h =
       let z = order-sized a b c d o in
-      let n : eqb (letter b) 97 ≡ false = not-true (eqb (letter b) 97) (letters-so (λ x. not (eqb x 97)) (unfold all ascii in refl) b (z .1)) in
+      let n : eqb (letter b) 97 ≡ false = not-true (eqb (letter b) 97) (letters-so (λ x. not (eqb x 97)) (unfold allOf ascii in refl) b (z .1)) in
       rw (n, and-no (eqb (letter a) 112))
       (rw (axis-letter a (z .0), axis-letter b (z .1), axis-letter c (z .2), axis-letter d (z .3), ending-again (code % 3) h) (rw o))
     where
@@ -150,7 +150,7 @@ pub record Adapts (l : List ℤ) : Type 0 where
   pub coded : isCode (pos code) ≡ true
 
 eight : (a b c d e f g h : ℤ) → isAdapt (a ∷ b ∷ c ∷ d ∷ e ∷ f ∷ g ∷ h ∷ []) ≡ true → Adapts (a ∷ b ∷ c ∷ d ∷ e ∷ f ∷ g ∷ h ∷ [])
-unfolding isAdapt arg all
+unfolding isAdapt arg allOf
 eight a b c d e f g h k =
     let o = and-left (isOrder (a ∷ b ∷ c ∷ d ∷ [])) _ k in
     let k1 = and-right (isOrder (a ∷ b ∷ c ∷ d ∷ [])) _ k in
@@ -234,7 +234,7 @@ module _ (s : Step) (m : IsMade s) (p : Adapts (args s)) where
   adaptTable = tableFrom (ascii "adapt") own (marksOf s)
 
   pub adapt-judged : operator s ≡ Adapt → judged adaptTable ≡ answers s
-  unfolding keyed latest look picked marksOf named nameOf faulty unknown misspelt tooLong kindOf kindIn everyKey ownKeys flag numbered worded name bare any same ascii isNone ownRule wordGiven recorded
+  unfolding keyed latest look picked marksOf named nameOf faulty unknown misspelt tooLong kindOf kindIn everyKey ownKeys flag numbered worded name bare anyOf same ascii isNone ownRule wordGiven recorded
   adapt-judged e =
       table-judged (ascii "adapt") own (marksOf s) (marks-bare s) adapt s refl refl refl
       (rw (looked (ascii "adapt") own (marksOf s) (marks-bare s) (ascii "from"), looked (ascii "adapt") own (marksOf s) (marks-bare s) (ascii "to"), between-again p)

@@ -11,7 +11,7 @@ use lib.ListN.{length, length-append}
 use lib.Dec.{leb, ltb, eqb, lit≤}
 use lib.IntN.{ℤ, pos, negsuc}
 use Rattle.rules.specs.Ascii.{ascii, is}
-use Rattle.rules.specs.Lists.{any, all}
+use Rattle.rules.specs.Lists.{anyOf, allOf}
 use Rattle.rules.specs.Text.{Bytes, joinedBy}
 use Rattle.rules.specs.Decimal.{digit, digitsTo, spelled, plainForm, plain, decimal, pieces, numberThen, allNumbers, series, isWhole, signed, minus, wholeOf}
 use Rattle.rules.specs.Record.{size, nineDigits}
@@ -28,7 +28,7 @@ use Rattle.writelaws.specs.Settled.{before-none, behind-none, lacks, cut
 
 -- a text of digits, so many at most, that spells the number
 pub record Spells (most n : ℕ) (t : Bytes) : Type 0 where
-  pub ones : all digit t ≡ true
+  pub ones : allOf digit t ≡ true
   pub some-of : 1 ≤ length t
   pub few : length t ≤ most
   pub spells : spelled 0 t ≡ n
@@ -40,7 +40,7 @@ small-digit n h = rw (le-leb 48 (48 + n) (omega arith), le-leb (48 + n) 57 (omeg
 one-digit : (most n : ℕ) → 1 ≤ most → n < 10 → Spells most n ((48 + n) ∷ [])
 one-digit most n m h =
     record {
-      ones = unfold all in rw (small-digit n h);
+      ones = unfold allOf in rw (small-digit n h);
       some-of = le-refl 1;
       few = m;
       spells = unfold spelled in omega arith;
@@ -54,7 +54,7 @@ spelled-append n (b ∷ t) u = spelled-append (n * 10 + (b - 48)) t u
 next-digit : (most n : ℕ) (t : Bytes) → Spells most (n / 10) t → Spells (suc most) n (t ++ ((48 + n % 10) ∷ []))
 next-digit most n t h =
     record {
-      ones = all-append digit t ((48 + n % 10) ∷ []) (h .ones) (unfold all in rw (small-digit (n % 10) (mod-lt n (lit≤ tt))));
+      ones = all-append digit t ((48 + n % 10) ∷ []) (h .ones) (unfold allOf in rw (small-digit (n % 10) (mod-lt n (lit≤ tt))));
       some-of = omega (arith, h .some-of, length-append t ((48 + n % 10) ∷ []));
       few = omega (arith, h .few, length-append t ((48 + n % 10) ∷ []));
       spells = spelled-append 0 t ((48 + n % 10) ∷ []) ∙ (unfold spelled in rw (h .spells) (last (n / 10) (n % 10) n (div-add-mod' n 10)));
@@ -83,11 +83,11 @@ digit-so q h b d =
     so-at (digit b) (q b) (below-at 58 (λ b. so (digit b) (q b)) h b (omega (arith, leb-true b 57 (and-right (leb 48 b) (leb b 57) d)))) d
 
 -- digits have no byte that no digit is
-digits-none : (test : ℕ → Bool) → below 58 (λ b. so (digit b) (not (test b))) ≡ true → (t : Bytes) → all digit t ≡ true → any test t ≡ false
-unfolding any all
+digits-none : (test : ℕ → Bool) → below 58 (λ b. so (digit b) (not (test b))) ≡ true → (t : Bytes) → allOf digit t ≡ true → anyOf test t ≡ false
+unfolding anyOf allOf
 digits-none test h [] a = refl
 digits-none test h (b ∷ t) a =
-    rw (not-true (test b) (digit-so (λ b. not (test b)) h b (and-left (digit b) (all digit t) a))) (digits-none test h t (and-right (digit b) (all digit t) a))
+    rw (not-true (test b) (digit-so (λ b. not (test b)) h b (and-left (digit b) (allOf digit t) a))) (digits-none test h t (and-right (digit b) (allOf digit t) a))
 
 -- ---- whole numbers
 
@@ -101,14 +101,14 @@ plain-digits m n t h =
     let e = digits-none (is ".") (unfold below so digit in refl) t (h .ones) in
     rw (before-none (is ".") t e, behind-none (is ".") t e, e, le-leb 1 (length t) (h .some-of), le-leb (length t) 9 (h .few), h .ones, h .spells)
 
-unsigned : (t : Bytes) → all digit t ≡ true → 1 ≤ length t → decimal t ≡ plain false t
-unfolding decimal all
+unsigned : (t : Bytes) → allOf digit t ≡ true → 1 ≤ length t → decimal t ≡ plain false t
+unfolding decimal allOf
 unsigned [] a h = absurd (none h)
   where
     none : 1 ≤ 0 → ⊥
     none h = omega arith
 unsigned (b ∷ t) a h =
-    let e : eqb b 45 ≡ false = not-true (eqb b 45) (unfold below so digit in digit-so (λ b. not (eqb b 45)) refl b (and-left (digit b) (all digit t) a)) in
+    let e : eqb b 45 ≡ false = not-true (eqb b 45) (unfold below so digit in digit-so (λ b. not (eqb b 45)) refl b (and-left (digit b) (allOf digit t) a)) in
     rw e
 
 pub decimal-spelling : (x : ℤ) → nineDigits x ≡ true → decimal (spelling x) ≡ Is (whole x)
@@ -122,8 +122,8 @@ decimal-spelling (negsuc n) h =
 
 -- ---- lists of them
 
-all-spelled : (l : List ℤ) → all nineDigits l ≡ true → allNumbers (map spelling l) ≡ some (map whole l)
-unfolding all allNumbers numberThen
+all-spelled : (l : List ℤ) → allOf nineDigits l ≡ true → allNumbers (map spelling l) ≡ some (map whole l)
+unfolding allOf allNumbers numberThen
 all-spelled [] h = refl
 all-spelled (x ∷ l) h = rw (decimal-spelling x (and-left (nineDigits x) _ h), all-spelled l (and-right (nineDigits x) _ h))
 
@@ -136,17 +136,17 @@ wholes-again : (l : List ℤ) → map wholeOf (map whole l) ≡ l
 wholes-again [] = refl
 wholes-again (x ∷ l) = rw (whole-again x, wholes-again l)
 
-wholes-whole : (l : List ℤ) → all isWhole (map whole l) ≡ true
-unfolding all isWhole whole
+wholes-whole : (l : List ℤ) → allOf isWhole (map whole l) ≡ true
+unfolding allOf isWhole whole
 wholes-whole [] = refl
 wholes-whole (x ∷ l) = wholes-whole l
 
 -- the bytes of a whole number are firm
-firm-digits : (t : Bytes) → all digit t ≡ true → all firm t ≡ true
-firm-digits t h = all-so digit firm (λ b d. unfold below so digit firm known any ascii in digit-so firm refl b d) t h
+firm-digits : (t : Bytes) → allOf digit t ≡ true → allOf firm t ≡ true
+firm-digits t h = all-so digit firm (λ b d. unfold below so digit firm known anyOf ascii in digit-so firm refl b d) t h
 
 pub record Firmly (t : Bytes) : Type 0 where
-  pub firmly : all firm t ≡ true
+  pub firmly : allOf firm t ≡ true
   pub not-empty : 1 ≤ length t
 
 spelling-firm : (x : ℤ) → nineDigits x ≡ true → Firmly (spelling x)
@@ -156,10 +156,10 @@ spelling-firm (pos n) h =
     record { firmly = firm-digits (digits 8 n) (s .ones); not-empty = s .some-of }
 spelling-firm (negsuc n) h =
     let s = nine-spell (suc n) (leb-true (suc n) 999999999 h) in
-    record { firmly = unfold all ascii firm known any in firm-digits (digits 8 (suc n)) (s .ones); not-empty = unfold ascii in omega arith }
+    record { firmly = unfold allOf ascii firm known anyOf in firm-digits (digits 8 (suc n)) (s .ones); not-empty = unfold ascii in omega arith }
 
-firm-on : (x : ℕ) (t : Bytes) → firm x ≡ true → all firm t ≡ true → quiet x t && firm (endOf x t) ≡ true
-unfolding all quiet endOf
+firm-on : (x : ℕ) (t : Bytes) → firm x ≡ true → allOf firm t ≡ true → quiet x t && firm (endOf x t) ≡ true
+unfolding allOf quiet endOf
 firm-on x [] h a = h
 firm-on x (y ∷ t) h a = rw (firm-follows x y (and-left (firm y) _ a)) (firm-on y t (and-left (firm y) _ a) (and-right (firm y) _ a))
 
@@ -170,39 +170,39 @@ firm-calm [] h = absurd (none (h .not-empty))
     none : 1 ≤ 0 → ⊥
     none h = omega arith
 firm-calm (x ∷ t) h =
-    let f : firm x ≡ true = unfold all in and-left (firm x) _ (h .firmly) in
-    rw f (firm-on x t f (unfold all in and-right (firm x) _ (h .firmly)))
+    let f : firm x ≡ true = unfold allOf in and-left (firm x) _ (h .firmly) in
+    rw f (firm-on x t f (unfold allOf in and-right (firm x) _ (h .firmly)))
 
-pub firm-lacks : (test : ℕ → Bool) → below 127 (λ b. so (firm b) (not (test b))) ≡ true → (t : Bytes) → all firm t ≡ true → lacks test t ≡ true
-unfolding lacks any all
+pub firm-lacks : (test : ℕ → Bool) → below 127 (λ b. so (firm b) (not (test b))) ≡ true → (t : Bytes) → allOf firm t ≡ true → lacks test t ≡ true
+unfolding lacks anyOf allOf
 firm-lacks test h [] a = refl
 firm-lacks test h (x ∷ t) a =
     rw (not-true (test x) (firm-so (λ b. not (test b)) h x (and-left (firm x) _ a))) (firm-lacks test h t (and-right (firm x) _ a))
 
-all-calm : (l : List ℤ) → all nineDigits l ≡ true → all calm (map spelling l) ≡ true
-unfolding all
+all-calm : (l : List ℤ) → allOf nineDigits l ≡ true → allOf calm (map spelling l) ≡ true
+unfolding allOf
 all-calm [] h = refl
 all-calm (x ∷ l) h = rw (firm-calm (spelling x) (spelling-firm x (and-left (nineDigits x) _ h))) (all-calm l (and-right (nineDigits x) _ h))
 
-pub spelling-lacks : (test : ℕ → Bool) → below 127 (λ b. so (firm b) (not (test b))) ≡ true → (l : List ℤ) → all nineDigits l ≡ true → all (lacks test) (map spelling l) ≡ true
-unfolding all
+pub spelling-lacks : (test : ℕ → Bool) → below 127 (λ b. so (firm b) (not (test b))) ≡ true → (l : List ℤ) → allOf nineDigits l ≡ true → allOf (lacks test) (map spelling l) ≡ true
+unfolding allOf
 spelling-lacks test f [] h = refl
 spelling-lacks test f (x ∷ l) h =
     rw (firm-lacks test f (spelling x) (spelling-firm x (and-left (nineDigits x) _ h) .firmly)) (spelling-lacks test f l (and-right (nineDigits x) _ h))
 
 -- a list that is not empty
-module _ (x : ℤ) (l : List ℤ) (h : all nineDigits (x ∷ l) ≡ true) where
+module _ (x : ℤ) (l : List ℤ) (h : allOf nineDigits (x ∷ l) ≡ true) where
   pub listing-calm : calm (listing (x ∷ l)) ≡ true
   unfolding listing joinedBy
   listing-calm =
       let a = all-calm (x ∷ l) h in
       unfold ascii in
-      joined-calm (44 ∷ []) (unfold gap below so firm known follows middle quiet any ascii in refl) (spelling x) (map spelling l)
-      (unfold all in and-left (calm (spelling x)) _ a) (unfold all in and-right (calm (spelling x)) _ a)
+      joined-calm (44 ∷ []) (unfold gap below so firm known follows middle quiet anyOf ascii in refl) (spelling x) (map spelling l)
+      (unfold allOf in and-left (calm (spelling x)) _ a) (unfold allOf in and-right (calm (spelling x)) _ a)
 
   pub listing-pieces : pieces (listing (x ∷ l)) ≡ map spelling (x ∷ l)
   unfolding pieces listing ascii
-  listing-pieces = cut-joined (is ",") 44 refl (spelling x) (map spelling l) (spelling-lacks (is ",") (unfold below so firm known any ascii in refl) (x ∷ l) h)
+  listing-pieces = cut-joined (is ",") 44 refl (spelling x) (map spelling l) (spelling-lacks (is ",") (unfold below so firm known anyOf ascii in refl) (x ∷ l) h)
 
   pub listing-series : series (listing (x ∷ l)) ≡ some (map whole (x ∷ l))
   unfolding series

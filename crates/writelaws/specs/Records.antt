@@ -12,7 +12,7 @@ use lib.Seq.{length-take-le}
 use lib.Dec.{leb, eqb}
 use lib.IntN.{ℤ, pos, negsuc}
 use Rattle.rules.specs.Ascii.{ascii}
-use Rattle.rules.specs.Lists.{any, all, isNone}
+use Rattle.rules.specs.Lists.{anyOf, allOf, isNone}
 use Rattle.rules.specs.Text.{Bytes, Words, same}
 use Rattle.rules.specs.Parameters.{Parameter}
 use Rattle.rules.specs.Record.{numberOf, size, operator, args, unused, isSet, nineDigits, made}
@@ -27,8 +27,8 @@ use Rattle.writelaws.specs.Settled.{lacks}
 
 -- ---- the parts of `made`
 
-zeros : (l : List ℤ) → all (λ (x : ℤ). eqb (size x) 0) l ≡ true → l ≡ replicate (length l) (pos 0)
-unfolding all
+zeros : (l : List ℤ) → allOf (λ (x : ℤ). eqb (size x) 0) l ≡ true → l ≡ replicate (length l) (pos 0)
+unfolding allOf
 zeros [] h = refl
 zeros (pos n ∷ l) h =
     let e : n ≡ 0 = eqb-true n 0 (and-left (eqb n 0) _ h) in
@@ -57,7 +57,7 @@ pub record IsMade (s : Step) : Type 0 where
   pub back-again : cond (isSet (s .«omit_inv»)) 1 0 ≡ s .«omit_inv»
   pub keeps : Kept (operator s) (args s)
 
-slots-again : (l : List ℤ) (n : ℕ) → length l ≡ 8 → n ≤ 8 → all (λ (x : ℤ). eqb (size x) 0) (drop n l) ≡ true → take n l ++ replicate (8 - length (take n l)) (pos 0) ≡ l
+slots-again : (l : List ℤ) (n : ℕ) → length l ≡ 8 → n ≤ 8 → allOf (λ (x : ℤ). eqb (size x) 0) (drop n l) ≡ true → take n l ++ replicate (8 - length (take n l)) (pos 0) ≡ l
 slots-again l n e h z =
     let a = length-take-le n l (omega arith) in
     let b : 8 - length (take n l) ≡ length (drop n l) = omega (arith, length-drop n l) in
@@ -72,12 +72,12 @@ made-keeps s h =
     let h3 = and-right (leb (s .inv) 1) _ h2 in
     let h4 = and-right (leb (s .«omit_fwd») 1) _ h3 in
     let h5 = and-right (leb (s .«omit_inv») 1) _ h4 in
-    let h6 = and-right (all (λ (x : ℤ). eqb (size x) 0) (drop (s .n) (s .args))) _ h5 in
+    let h6 = and-right (allOf (λ (x : ℤ). eqb (size x) 0) (drop (s .n) (s .args))) _ h5 in
     let few = leb-true (s .n) 8 (and-left (leb (s .n) 8) _ h1) in
     record {
       fit = omega (arith, length-take (s .n) (s .args));
-      nines = and-left (all nineDigits (take (s .n) (s .args))) _ h6;
-      rule = and-right (all nineDigits (take (s .n) (s .args))) _ h6;
+      nines = and-left (allOf nineDigits (take (s .n) (s .args))) _ h6;
+      rule = and-right (allOf nineDigits (take (s .n) (s .args))) _ h6;
     }
 
 pub made-is : (s : Step) → length (s .args) ≡ 8 → made s ≡ true → IsMade s
@@ -91,7 +91,7 @@ made-is s e h =
     let few = leb-true (s .n) 8 (and-left (leb (s .n) 8) _ h1) in
     record {
       number = number-operator (s .operator) (leb-true (s .operator) 10 (and-left (leb (s .operator) 10) _ h));
-      slots = slots-again (s .args) (s .n) e few (and-left (all (λ (x : ℤ). eqb (size x) 0) (drop (s .n) (s .args))) _ h5);
+      slots = slots-again (s .args) (s .n) e few (and-left (allOf (λ (x : ℤ). eqb (size x) 0) (drop (s .n) (s .args))) _ h5);
       many = length-take-le (s .n) (s .args) (omega arith);
       inv-again = mark-again (s .inv) (and-left (leb (s .inv) 1) _ h2);
       fwd-again = mark-again (s .«omit_fwd») (and-left (leb (s .«omit_fwd») 1) _ h3);
@@ -119,7 +119,7 @@ mark-words s =
     ∙ ap (λ (ws : Words). cond (isSet (s .inv)) (ascii "inv" ∷ ws) ws) (cond-append (isSet (s .«omit_fwd»)) (ascii "omit_fwd") _)
 
 pub marks-bare : (s : Step) → bareFlags (marksOf s) ≡ true
-unfolding bareFlags marksOf all lacks any ascii
+unfolding bareFlags marksOf allOf lacks anyOf ascii
 marks-bare s = refl
 
 -- parameters that are no marks

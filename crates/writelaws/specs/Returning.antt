@@ -8,7 +8,7 @@ use borrow.Author.Tests.{ltb-false}
 use lib.ListN.{length, take, drop}
 use lib.Seq.{take-append-seam}
 use lib.Dec.{ltb}
-use Rattle.rules.specs.Lists.{all}
+use Rattle.rules.specs.Lists.{allOf}
 use Rattle.rules.specs.Text.{Bytes}
 use Rattle.rules.specs.Refusal.{Reply, answers, refuses, lent, written}
 use Rattle.rules.specs.Record.{made, firstBad, refusal18}
@@ -41,27 +41,27 @@ lent-front (answers t) out r out′ h = go (ltb (length out) (length t)) h
         let f : out′ ≡ t ++ drop (length t) out = ap (λ (x : Written × Bytes). x .1) h in
         rw (e, f, take-append-seam t (drop (length t) out))
 
-none-bad : (k : ℕ) (l : List Step) → firstBad k l ≡ none → all made l ≡ true
-unfolding firstBad all
+none-bad : (k : ℕ) (l : List Step) → firstBad k l ≡ none → allOf made l ≡ true
+unfolding firstBad allOf
 none-bad k [] h = refl
 none-bad k (s ∷ l) h = go (made s) h (none-bad (suc k) l)
   where
-    go : (b : Bool) → cond b (firstBad (suc k) l) (some k) ≡ none → (firstBad (suc k) l ≡ none → all made l ≡ true) → b && all made l ≡ true
+    go : (b : Bool) → cond b (firstBad (suc k) l) (some k) ≡ none → (firstBad (suc k) l ≡ none → allOf made l ≡ true) → b && allOf made l ≡ true
     go true h f = f h
     go false h f = absurd (never (cc h))
 
 -- a table that is not refused 18
-pub not-18 : (l : List Step) → refusal18 l ≡ none → (all made l ≡ true) × (length l ≤ 64)
+pub not-18 : (l : List Step) → refusal18 l ≡ none → (allOf made l ≡ true) × (length l ≤ 64)
 unfolding refusal18
 not-18 l h = go (ltb 64 (length l)) refl h
   where
-    go : (b : Bool) → ltb 64 (length l) ≡ b → cond b (some 0) (firstBad 1 l) ≡ none → (all made l ≡ true) × (length l ≤ 64)
+    go : (b : Bool) → ltb 64 (length l) ≡ b → cond b (some 0) (firstBad 1 l) ≡ none → (allOf made l ≡ true) × (length l ≤ 64)
     go true e h = absurd (never (cc h))
     go false e h = (none-bad 1 l h, ltb-false 64 (length l) e)
 
 -- it is the text of the table, which is not refused 18
 pub record IsText (l : List Step) (text : Bytes) : Type 0 where
-  pub all-made : all made l ≡ true
+  pub all-made : allOf made l ≡ true
   pub few : length l ≤ 64
   pub is : text ≡ tableWriting l
 

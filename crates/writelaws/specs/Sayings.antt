@@ -11,7 +11,7 @@ use lib.ListN.{length, length-append}
 use lib.Dec.{leb, ltb, lit≤}
 use lib.IntN.{ℤ, pos, negsuc}
 use Rattle.rules.specs.Ascii.{ascii, is}
-use Rattle.rules.specs.Lists.{any, all}
+use Rattle.rules.specs.Lists.{anyOf, allOf}
 use Rattle.rules.specs.Text.{Bytes, Words, white, afterEach, joinedBy}
 use Rattle.rules.specs.Decimal.{minus}
 use Rattle.rules.specs.Record.{size, isPlace, isRising, isOrder, nineDigits}
@@ -33,17 +33,17 @@ worded-by w a b c = both (calm w) _ a (both (lacks white w) (lacks (is "|") w) b
 
 pub firm-worded : (w : Bytes) → Firmly w → worded w ≡ true
 firm-worded w h =
-    worded-by w (firm-calm w h) (firm-lacks white (unfold below so firm known white any ascii in refl) w (h .firmly)) (firm-lacks (is "|") (unfold below so firm known any ascii in refl) w (h .firmly))
+    worded-by w (firm-calm w h) (firm-lacks white (unfold below so firm known white anyOf ascii in refl) w (h .firmly)) (firm-lacks (is "|") (unfold below so firm known anyOf ascii in refl) w (h .firmly))
 
 module _ (key : String) (v : Bytes) where
   pair-calm : calm (ascii key) ≡ true → calm v ≡ true → calm (pair key v) ≡ true
-  unfolding pair afterEach all
+  unfolding pair afterEach allOf
   pair-calm h k =
-      rw append-nil at (joined-calm (61 ∷ []) (unfold gap below so firm known follows middle quiet any ascii in refl) (ascii key) (v ∷ []) h (rw k))
+      rw append-nil at (joined-calm (61 ∷ []) (unfold gap below so firm known follows middle quiet anyOf ascii in refl) (ascii key) (v ∷ []) h (rw k))
 
   pub pair-lacks : (test : ℕ → Bool) → test 61 ≡ false → lacks test (ascii key) ≡ true → lacks test v ≡ true → lacks test (pair key v) ≡ true
   unfolding pair
-  pair-lacks test t a b = lacks-append test (ascii key) (61 ∷ v) a (unfold lacks any in rw t b)
+  pair-lacks test t a b = lacks-append test (ascii key) (61 ∷ v) a (unfold lacks anyOf in rw t b)
 
   pub pair-worded : worded (ascii key) ≡ true → worded v ≡ true → worded (pair key v) ≡ true
   pair-worded h k =
@@ -51,39 +51,39 @@ module _ (key : String) (v : Bytes) where
       (pair-lacks white (unfold white in refl) (worded-dark (ascii key) h) (worded-dark v k)) (pair-lacks (is "|") refl (worded-bare (ascii key) h) (worded-bare v k))
 
 -- a list of numbers
-module _ (x : ℤ) (l : List ℤ) (h : all nineDigits (x ∷ l) ≡ true) where
+module _ (x : ℤ) (l : List ℤ) (h : allOf nineDigits (x ∷ l) ≡ true) where
   pub listing-lacks : (test : ℕ → Bool) → below 127 (λ b. so (firm b) (not (test b))) ≡ true → test 44 ≡ false → lacks test (listing (x ∷ l)) ≡ true
   unfolding listing
-  listing-lacks test f t = lacks-joined test (ascii ",") (map spelling (x ∷ l)) (unfold lacks any ascii in rw t) (spelling-lacks test f (x ∷ l) h)
+  listing-lacks test f t = lacks-joined test (ascii ",") (map spelling (x ∷ l)) (unfold lacks anyOf ascii in rw t) (spelling-lacks test f (x ∷ l) h)
 
   pub listing-worded : worded (listing (x ∷ l)) ≡ true
   listing-worded =
-      worded-by (listing (x ∷ l)) (listing-calm x l h) (listing-lacks white (unfold below so firm known white any ascii in refl) (unfold white in refl))
-      (listing-lacks (is "|") (unfold below so firm known any ascii in refl) refl)
+      worded-by (listing (x ∷ l)) (listing-calm x l h) (listing-lacks white (unfold below so firm known white anyOf ascii in refl) (unfold white in refl))
+      (listing-lacks (is "|") (unfold below so firm known anyOf ascii in refl) refl)
 
 -- flags
 flag-worded : (k : ℕ) → k ≤ 4 → worded (ascii "v_" ++ ((48 + k) ∷ [])) ≡ true
-unfolding below worded calm firm known follows middle quiet endOf lacks white any ascii
+unfolding below worded calm firm known follows middle quiet endOf lacks white anyOf ascii
 flag-worded k h = below-at 5 (λ k. worded (ascii "v_" ++ ((48 + k) ∷ []))) refl k (omega arith)
 
 place-small : (x : ℤ) → isPlace x ≡ true → size x ≤ 4
 unfolding isPlace
 place-small x h = leb-true (size x) 4 (and-right (leb 1 (size x)) _ (and-right (not (minus x)) _ h))
 
-pub rising-places : (k : ℕ) (l : List ℤ) → isRising k l ≡ true → all isPlace l ≡ true
-unfolding isRising all
+pub rising-places : (k : ℕ) (l : List ℤ) → isRising k l ≡ true → allOf isPlace l ≡ true
+unfolding isRising allOf
 rising-places k [] h = refl
 rising-places k (x ∷ l) h =
-    both (isPlace x) (all isPlace l) (and-left (isPlace x) _ h) (rising-places (size x) l (and-right (ltb k (size x)) _ (and-right (isPlace x) _ h)))
+    both (isPlace x) (allOf isPlace l) (and-left (isPlace x) _ h) (rising-places (size x) l (and-right (ltb k (size x)) _ (and-right (isPlace x) _ h)))
 
-pub flags-worded : (l : List ℤ) → all isPlace l ≡ true → all worded (map flagOf l) ≡ true
-unfolding all flagOf
+pub flags-worded : (l : List ℤ) → allOf isPlace l ≡ true → allOf worded (map flagOf l) ≡ true
+unfolding allOf flagOf
 flags-worded [] h = refl
 flags-worded (x ∷ l) h = rw (flag-worded (size x) (place-small x (and-left (isPlace x) _ h))) (flags-worded l (and-right (isPlace x) _ h))
 
 -- the words of `adapt`
-ending-firm : (k : ℕ) → all firm (endingOf k) ≡ true
-unfolding endingOf all firm known any ascii
+ending-firm : (k : ℕ) → allOf firm (endingOf k) ≡ true
+unfolding endingOf allOf firm known anyOf ascii
 ending-firm zero = refl
 ending-firm (suc zero) = refl
 ending-firm (suc (suc k)) = refl
@@ -97,7 +97,7 @@ ending-short (suc (suc k)) = lit≤ tt
 pub from-firm : (code : ℕ) → Firmly (fromWord code)
 unfolding fromWord ascii
 from-firm code =
-    record { firmly = unfold all in (unfold firm known any ascii in ending-firm (code / 3)); not-empty = omega arith }
+    record { firmly = unfold allOf in (unfold firm known anyOf ascii in ending-firm (code / 3)); not-empty = omega arith }
 
 pub from-short : (code : ℕ) → length (fromWord code) ≤ 8
 unfolding fromWord ascii
@@ -105,14 +105,14 @@ from-short code = omega (arith, ending-short (code / 3))
 
 module _ (code : ℕ) (a b c d : ℤ) (o : isOrder (a ∷ b ∷ c ∷ d ∷ []) ≡ true) where
   firm-letter : (x : ℤ) → Sized x → firm (letter x) ≡ true
-  firm-letter x h = letters-so firm (unfold all firm known any ascii in refl) x h
+  firm-letter x h = letters-so firm (unfold allOf firm known anyOf ascii in refl) x h
 
   pub to-firm : Firmly (toWord code (a ∷ b ∷ c ∷ d ∷ []))
   unfolding toWord
   to-firm =
       let z = order-sized a b c d o in
       record {
-        firmly = unfold all in rw (firm-letter a (z .0), firm-letter b (z .1), firm-letter c (z .2), firm-letter d (z .3)) (ending-firm (code % 3));
+        firmly = unfold allOf in rw (firm-letter a (z .0), firm-letter b (z .1), firm-letter c (z .2), firm-letter d (z .3)) (ending-firm (code % 3));
         not-empty = omega arith;
       }
 
@@ -142,12 +142,12 @@ unfolding joinedBy total
 joined-total c w ws = omega (arith, length-append w (afterEach (c ∷ []) ws), after-total c ws)
 
 -- numbers of at most so many bytes
-pub each-total : (most : ℕ) (test : ℤ → Bool) → ((x : ℤ) → test x ≡ true → length (spelling x) ≤ most) → (l : List ℤ) → all test l ≡ true → total (map spelling l) ≤ suc most * length l
-unfolding all total
+pub each-total : (most : ℕ) (test : ℤ → Bool) → ((x : ℤ) → test x ≡ true → length (spelling x) ≤ most) → (l : List ℤ) → allOf test l ≡ true → total (map spelling l) ≤ suc most * length l
+unfolding allOf total
 each-total most test f [] h = omega arith
 each-total most test f (x ∷ l) h =
-    let a = f x (and-left (test x) (all test l) h) in
-    let b = each-total most test f l (and-right (test x) (all test l) h) in
+    let a = f x (and-left (test x) (allOf test l) h) in
+    let b = each-total most test f l (and-right (test x) (allOf test l) h) in
     more most (length (spelling x)) (total (map spelling l)) (length l) a b
   where
     more : (most n t k : ℕ) → n ≤ most → t ≤ suc most * k → suc n + t ≤ suc most * suc k

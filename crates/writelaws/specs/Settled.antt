@@ -7,7 +7,7 @@ use mathlib.Core.List.{List, [], _∷_, _++_, flatMap, append-nil}
 use borrow.Author.Tests.{eqb-true, not-true}
 use lib.Dec.{eqb, ltb}
 use Rattle.rules.specs.Ascii.{ascii, is}
-use Rattle.rules.specs.Lists.{any, all, kept, nonEmpty}
+use Rattle.rules.specs.Lists.{anyOf, allOf, kept, nonEmpty}
 use Rattle.rules.specs.Text.{Bytes, Words, white, inDomain, trimStart, trimEnd, trimmed, before, behind, onto, cut, words, afterEach, joinedBy, joined}
 use Rattle.rules.specs.Normal.{squeezed, continued}
 use Rattle.rules.specs.Comments.{newlines, uncommented, lined, stripped}
@@ -32,8 +32,8 @@ calm-end x t h = and-right (quiet x t) _ (and-right (firm x) _ h)
 
 -- a test that no firm byte passes trims nothing
 module _ (test : ℕ → Bool) where
-  not-all : (x : ℕ) (t : Bytes) → test (endOf x t) ≡ false → all test (x ∷ t) ≡ false
-  unfolding all endOf
+  not-all : (x : ℕ) (t : Bytes) → test (endOf x t) ≡ false → allOf test (x ∷ t) ≡ false
+  unfolding allOf endOf
   not-all x [] h = rw h
   not-all x (y ∷ t) h = rw (not-all y t h) (go (test x))
     where
@@ -55,62 +55,62 @@ module _ (test : ℕ → Bool) where
       rw a (trim-end x t b)
 
   -- one that no known byte passes is passed by none
-  none-quiet : below 127 (λ b. so (known b) (not (test b))) ≡ true → (p : ℕ) (t : Bytes) → quiet p t ≡ true → any test t ≡ false
-  unfolding any
+  none-quiet : below 127 (λ b. so (known b) (not (test b))) ≡ true → (p : ℕ) (t : Bytes) → quiet p t ≡ true → anyOf test t ≡ false
+  unfolding anyOf
   none-quiet f p [] h = refl
   none-quiet f p (x ∷ t) h =
       let a = not-true (test x) (known-so (λ b. not (test b)) f x (follows-known p x (quiet-first p x t h))) in
       rw a (none-quiet f x t (quiet-rest p x t h))
 
-  pub none-calm : below 127 (λ b. so (known b) (not (test b))) ≡ true → (t : Bytes) → calm t ≡ true → any test t ≡ false
+  pub none-calm : below 127 (λ b. so (known b) (not (test b))) ≡ true → (t : Bytes) → calm t ≡ true → anyOf test t ≡ false
   none-calm f [] h = absurd (false≢true (unfold calm in h))
   none-calm f (x ∷ t) h =
       let a = not-true (test x) (known-so (λ b. not (test b)) f x (firm-known x (calm-head x t h))) in
-      unfold any in rw a (none-quiet f x t (calm-quiet x t h))
+      unfold anyOf in rw a (none-quiet f x t (calm-quiet x t h))
 
   -- ---- cutting
 
-  pub cut-none : (t : Bytes) → any test t ≡ false → cut test t ≡ t ∷ []
-  unfolding any cut onto
+  pub cut-none : (t : Bytes) → anyOf test t ≡ false → cut test t ≡ t ∷ []
+  unfolding anyOf cut onto
   cut-none [] h = refl
-  cut-none (x ∷ t) h = rw (or-left (test x) (any test t) h, cut-none t (or-right (test x) (any test t) h))
+  cut-none (x ∷ t) h = rw (or-left (test x) (anyOf test t) h, cut-none t (or-right (test x) (anyOf test t) h))
 
-  cut-at : (w : Bytes) (b : ℕ) (r : Bytes) → any test w ≡ false → test b ≡ true → cut test (w ++ (b ∷ r)) ≡ w ∷ cut test r
-  unfolding any cut onto
+  cut-at : (w : Bytes) (b : ℕ) (r : Bytes) → anyOf test w ≡ false → test b ≡ true → cut test (w ++ (b ∷ r)) ≡ w ∷ cut test r
+  unfolding anyOf cut onto
   cut-at [] b r h e = rw e
-  cut-at (x ∷ w) b r h e = rw (or-left (test x) (any test w) h, cut-at w b r (or-right (test x) (any test w) h) e)
+  cut-at (x ∷ w) b r h e = rw (or-left (test x) (anyOf test w) h, cut-at w b r (or-right (test x) (anyOf test w) h) e)
 
   -- no byte of the text passes it
   unfoldable pub lacks : Bytes → Bool
-  lacks w = not (any test w)
+  lacks w = not (anyOf test w)
 
-  pub lacking : (w : Bytes) → lacks w ≡ true → any test w ≡ false
+  pub lacking : (w : Bytes) → lacks w ≡ true → anyOf test w ≡ false
   unfolding lacks
-  lacking w h = not-true (any test w) h
+  lacking w h = not-true (anyOf test w) h
 
-  pub cut-joined : (b : ℕ) → test b ≡ true → (w : Bytes) (ws : List Bytes) → all lacks (w ∷ ws) ≡ true → cut test (joinedBy (b ∷ []) (w ∷ ws)) ≡ w ∷ ws
-  unfolding all joinedBy afterEach
+  pub cut-joined : (b : ℕ) → test b ≡ true → (w : Bytes) (ws : List Bytes) → allOf lacks (w ∷ ws) ≡ true → cut test (joinedBy (b ∷ []) (w ∷ ws)) ≡ w ∷ ws
+  unfolding allOf joinedBy afterEach
   cut-joined b e w ws h = go w ws h
     where
-      go : (w : Bytes) (ws : List Bytes) → all lacks (w ∷ ws) ≡ true → cut test (w ++ afterEach (b ∷ []) ws) ≡ w ∷ ws
+      go : (w : Bytes) (ws : List Bytes) → allOf lacks (w ∷ ws) ≡ true → cut test (w ++ afterEach (b ∷ []) ws) ≡ w ∷ ws
       go w [] h = rw (append-nil w) (cut-none w (lacking w (and-left (lacks w) _ h)))
       go w (v ∷ ws) h =
           cut-at w b (v ++ afterEach (b ∷ []) ws) (lacking w (and-left (lacks w) _ h)) e ∙ ap (λ (ps : List Bytes). w ∷ ps) (go v ws (and-right (lacks w) _ h))
 
-  pub before-none : (t : Bytes) → any test t ≡ false → before test t ≡ t
-  unfolding any before
+  pub before-none : (t : Bytes) → anyOf test t ≡ false → before test t ≡ t
+  unfolding anyOf before
   before-none [] h = refl
-  before-none (x ∷ t) h = rw (or-left (test x) (any test t) h) (ap (λ (u : Bytes). x ∷ u) (before-none t (or-right (test x) (any test t) h)))
+  before-none (x ∷ t) h = rw (or-left (test x) (anyOf test t) h) (ap (λ (u : Bytes). x ∷ u) (before-none t (or-right (test x) (anyOf test t) h)))
 
-  pub behind-none : (t : Bytes) → any test t ≡ false → behind test t ≡ []
-  unfolding any behind
+  pub behind-none : (t : Bytes) → anyOf test t ≡ false → behind test t ≡ []
+  unfolding anyOf behind
   behind-none [] h = refl
-  behind-none (x ∷ t) h = rw (or-left (test x) (any test t) h) (behind-none t (or-right (test x) (any test t) h))
+  behind-none (x ∷ t) h = rw (or-left (test x) (anyOf test t) h) (behind-none t (or-right (test x) (anyOf test t) h))
 
-pub kept-all : {A : Type 0} (test : A → Bool) (l : List A) → all test l ≡ true → kept test l ≡ l
-unfolding all kept
+pub kept-all : {A : Type 0} (test : A → Bool) (l : List A) → allOf test l ≡ true → kept test l ≡ l
+unfolding allOf kept
 kept-all test [] h = refl
-kept-all {A} test (x ∷ l) h = rw (and-left (test x) (all test l) h) (ap (λ (m : List A). x ∷ m) (kept-all test l (and-right (test x) (all test l) h)))
+kept-all {A} test (x ∷ l) h = rw (and-left (test x) (allOf test l) h) (ap (λ (m : List A). x ∷ m) (kept-all test l (and-right (test x) (allOf test l) h)))
 
 -- ---- squeezing
 
@@ -127,7 +127,7 @@ grow-new x z v (w ∷ ws) h = unfold afterEach in ap (λ (u : Bytes). x ∷ 32 �
 -- the only white space is a space, and no second one follows
 white-space : (x : ℕ) → known x ≡ true → white x ≡ true → eqb x 32 ≡ true
 white-space x k w =
-    go (white x) (eqb x 32) w (unfold below so known white any ascii in known-so (λ b. not (white b) || eqb b 32) refl x k)
+    go (white x) (eqb x 32) w (unfold below so known white anyOf ascii in known-so (λ b. not (white b) || eqb b 32) refl x k)
   where
     go : (a b : Bool) → a ≡ true → not a || b ≡ true → b ≡ true
     go true b e h = h
@@ -183,34 +183,34 @@ squeezed-calm [] h = absurd (false≢true (unfold calm in h))
 squeezed-calm (x ∷ t) h = squeeze-on x t (dark x (calm-head x t h)) (calm-quiet x t h) (dark (endOf x t) (calm-end x t h))
   where
     dark : (b : ℕ) → firm b ≡ true → white b ≡ false
-    dark b k = not-true (white b) (unfold below so firm known white any ascii in firm-so (λ b. not (white b)) refl b k)
+    dark b k = not-true (white b) (unfold below so firm known white anyOf ascii in firm-so (λ b. not (white b)) refl b k)
 
 -- ---- comments
 
 pub newlines-calm : (t : Bytes) → calm t ≡ true → newlines t ≡ t
 unfolding newlines
 newlines-calm t h =
-    let a = replace-calm (ascii "\r\n") (ascii "\n") t (unfold shut known any ascii in refl) h in
-    rw a (replace-calm (ascii "\r") (ascii "\n") t (unfold shut known any ascii in refl) h)
+    let a = replace-calm (ascii "\r\n") (ascii "\n") t (unfold shut known anyOf ascii in refl) h in
+    rw a (replace-calm (ascii "\r") (ascii "\n") t (unfold shut known anyOf ascii in refl) h)
 
 pub continued-calm : (t : Bytes) → calm t ≡ true → continued t ≡ t
 unfolding continued
-continued-calm t h = replace-calm (ascii "\n:") (ascii "\n") t (unfold shut known any ascii in refl) h
+continued-calm t h = replace-calm (ascii "\n:") (ascii "\n") t (unfold shut known anyOf ascii in refl) h
 
 pub stripped-calm : (t : Bytes) → calm t ≡ true → stripped t ≡ 32 ∷ t
 unfolding stripped lined uncommented
 stripped-calm t h =
-    rw (trim-calm white (unfold below so firm known white any ascii in refl) t h, newlines-calm t h, continued-calm t h, cut-none (is "\n") t (none-calm (is "\n") (unfold below so known any ascii in refl) t h))
-    (unfold flatMap in rw (before-none (is "#") t (none-calm (is "#") (unfold below so known any ascii in refl) t h), append-nil t))
+    rw (trim-calm white (unfold below so firm known white anyOf ascii in refl) t h, newlines-calm t h, continued-calm t h, cut-none (is "\n") t (none-calm (is "\n") (unfold below so known anyOf ascii in refl) t h))
+    (unfold flatMap in rw (before-none (is "#") t (none-calm (is "#") (unfold below so known anyOf ascii in refl) t h), append-nil t))
 
 -- ---- the domain
 
 domain-quiet : (p : ℕ) (t : Bytes) → quiet p t ≡ true → inDomain t ≡ true
 domain-quiet p [] h = unfold inDomain in refl
 domain-quiet p (x ∷ t) h =
-    domain-ascii x t (unfold below so known any ascii in known-so (λ b. ltb b 128) refl x (follows-known p x (quiet-first p x t h))) ∙ domain-quiet x t (quiet-rest p x t h)
+    domain-ascii x t (unfold below so known anyOf ascii in known-so (λ b. ltb b 128) refl x (follows-known p x (quiet-first p x t h))) ∙ domain-quiet x t (quiet-rest p x t h)
 
 pub domain-calm : (t : Bytes) → calm t ≡ true → inDomain t ≡ true
 domain-calm [] h = unfold inDomain in refl
 domain-calm (x ∷ t) h =
-    domain-ascii x t (unfold below so known any ascii in known-so (λ b. ltb b 128) refl x (firm-known x (calm-head x t h))) ∙ domain-quiet x t (calm-quiet x t h)
+    domain-ascii x t (unfold below so known anyOf ascii in known-so (λ b. ltb b 128) refl x (firm-known x (calm-head x t h))) ∙ domain-quiet x t (calm-quiet x t h)

@@ -10,7 +10,7 @@ use lib.ListN.{length, length-map}
 use lib.Dec.{ltb}
 use lib.IntN.{ℤ}
 use Rattle.rules.specs.Ascii.{ascii, is}
-use Rattle.rules.specs.Lists.{any, all, isNone}
+use Rattle.rules.specs.Lists.{anyOf, allOf, isNone}
 use Rattle.rules.specs.Text.{Bytes, same, before, behind}
 use Rattle.rules.specs.Decimal.{pieces, series}
 use Rattle.rules.specs.Refusal.{answers}
@@ -30,8 +30,8 @@ use Rattle.writelaws.specs.Numbers.{listing-pieces, listing-series, list
 -- ---- `key=value`
 
 module _ (test : ℕ → Bool) (b : ℕ) (r : Bytes) (t : test b ≡ true) where
-  any-at : (k : Bytes) → any test (k ++ (b ∷ r)) ≡ true
-  unfolding any
+  any-at : (k : Bytes) → anyOf test (k ++ (b ∷ r)) ≡ true
+  unfolding anyOf
   any-at [] = rw t
   any-at (x ∷ k) = rw (any-at k) (go (test x))
     where
@@ -39,15 +39,15 @@ module _ (test : ℕ → Bool) (b : ℕ) (r : Bytes) (t : test b ≡ true) where
       go true = refl
       go false = refl
 
-  before-at : (k : Bytes) → any test k ≡ false → before test (k ++ (b ∷ r)) ≡ k
-  unfolding any before
+  before-at : (k : Bytes) → anyOf test k ≡ false → before test (k ++ (b ∷ r)) ≡ k
+  unfolding anyOf before
   before-at [] h = rw t
-  before-at (x ∷ k) h = rw (or-left (test x) (any test k) h) (ap (λ (u : Bytes). x ∷ u) (before-at k (or-right (test x) (any test k) h)))
+  before-at (x ∷ k) h = rw (or-left (test x) (anyOf test k) h) (ap (λ (u : Bytes). x ∷ u) (before-at k (or-right (test x) (anyOf test k) h)))
 
-  behind-at : (k : Bytes) → any test k ≡ false → behind test (k ++ (b ∷ r)) ≡ r
-  unfolding any behind
+  behind-at : (k : Bytes) → anyOf test k ≡ false → behind test (k ++ (b ∷ r)) ≡ r
+  unfolding anyOf behind
   behind-at [] h = rw t
-  behind-at (x ∷ k) h = rw (or-left (test x) (any test k) h) (behind-at k (or-right (test x) (any test k) h))
+  behind-at (x ∷ k) h = rw (or-left (test x) (anyOf test k) h) (behind-at k (or-right (test x) (anyOf test k) h))
 
 -- the parameter of a key and its value
 unfoldable pub keyed : String → Bytes → Parameter
@@ -74,7 +74,7 @@ actions-by f ps h (a ∷ l) = rw (h (ascii (a .key)), actions-by f ps h l)
 -- ---- the judgement
 
 -- a list's series is read, and is not too long
-fine : (x : ℤ) (l : List ℤ) → all nineDigits (x ∷ l) ≡ true → length (x ∷ l) ≤ 8 → (isNone (series (listing (x ∷ l))) || ltb 8 (length (pieces (listing (x ∷ l))))) ≡ false
+fine : (x : ℤ) (l : List ℤ) → allOf nineDigits (x ∷ l) ≡ true → length (x ∷ l) ≤ 8 → (isNone (series (listing (x ∷ l))) || ltb 8 (length (pieces (listing (x ∷ l))))) ≡ false
 unfolding isNone
 fine x l h k = rw (listing-series x l h, listing-pieces x l h, length-map (x ∷ l) spelling, le-ltb 8 (length (x ∷ l)) k)
 
@@ -91,7 +91,7 @@ module _ (s : Step) (m : IsMade s) where
       → faulty stack (keyed key v) ≡ false
       → exactlyOne (actionsBy (look (ascii "stack") (keyed key v ∷ []) (marksOf s)) (stackTable key v) actions) ≡ some (recordOf o (stackTable key v) (args s))
       → operator s ≡ o → judged (stackTable key v) ≡ answers s
-  unfolding ownRule any
+  unfolding ownRule anyOf
   stack-judged key v o u n f g e =
       table-judged (ascii "stack") (keyed key v ∷ []) (marksOf s) (marks-bare s) stack s n
       (rw f (unfold faulty unknown misspelt tooLong kindOf kindIn everyKey ownKeys flag numbered worded name same ascii isNone in refl))
@@ -109,7 +109,7 @@ module _ (s : Step) (m : IsMade s) where
       stack-judged "drop" (ascii "true") StackDrop (record { no-inv = refl; no-fwd = refl; no-back = refl }) refl refl (rw z) e
 
   module _ (x : ℤ) (l : List ℤ) (z : args s ≡ x ∷ l) where
-    list-nines : all nineDigits (x ∷ l) ≡ true
+    list-nines : allOf nineDigits (x ∷ l) ≡ true
     list-nines = rw z at (m .keeps .nines)
 
     list-fit : length (x ∷ l) ≤ 8
@@ -150,7 +150,7 @@ module _ (s : Step) (m : IsMade s) where
     orderTable = tableFrom (ascii "axisswap") (keyed "order" (listing (x ∷ l)) ∷ []) (marksOf s)
 
     pub order-judged : operator s ≡ Axisswap → isOrder (x ∷ l) ≡ true → judged orderTable ≡ answers s
-    unfolding keyed latest look picked marksOf named nameOf faulty unknown misspelt tooLong kindOf kindIn everyKey ownKeys flag numbered worded name bare any same ascii isNone ownRule order recorded
+    unfolding keyed latest look picked marksOf named nameOf faulty unknown misspelt tooLong kindOf kindIn everyKey ownKeys flag numbered worded name bare anyOf same ascii isNone ownRule order recorded
     order-judged e r =
         table-judged (ascii "axisswap") (keyed "order" (listing (x ∷ l)) ∷ []) (marksOf s) (marks-bare s) axisswap s refl
         (rw (fine x l list-nines list-fit)) refl

@@ -6,7 +6,7 @@ use mathlib.Core.List.{List, [], _∷_, map}
 use borrow.Author.Tests.{le-ltb}
 use lib.ListN.{length}
 use Rattle.rules.specs.Ascii.{ascii, is}
-use Rattle.rules.specs.Lists.{any, all, nonEmpty}
+use Rattle.rules.specs.Lists.{anyOf, allOf, nonEmpty}
 use Rattle.rules.specs.Text.{Bytes, Words, Steps, inDomain, words, joinedBy, joined}
 use Rattle.rules.specs.Refusal.{answers, andThen}
 use Rattle.rules.specs.Split.{onlyModifiers, stepsOf, steps, stepText, splitSteps}
@@ -56,13 +56,13 @@ speaks-more (w ∷ ws) h = not-modifiers h
 
 -- ---- all of them
 
-all-calm : (wss : Steps) → Every Speaks wss → all calm (map joined wss) ≡ true
-unfolding Every all
+all-calm : (wss : Steps) → Every Speaks wss → allOf calm (map joined wss) ≡ true
+unfolding Every allOf
 all-calm [] h = refl
 all-calm (ws ∷ wss) h = rw (speaks-calm ws (h .0)) (all-calm wss (h .1))
 
-all-bare : (wss : Steps) → Every Speaks wss → all (lacks (is "|")) (map joined wss) ≡ true
-unfolding Every all
+all-bare : (wss : Steps) → Every Speaks wss → allOf (lacks (is "|")) (map joined wss) ≡ true
+unfolding Every allOf
 all-bare [] h = refl
 all-bare (ws ∷ wss) h = rw (speaks-bare ws (h .0)) (all-bare wss (h .1))
 
@@ -71,8 +71,8 @@ unfolding Every
 all-words [] h = refl
 all-words (ws ∷ wss) h = rw (speaks-words ws (h .0), all-words wss (h .1))
 
-all-some : (wss : Steps) → Every Speaks wss → all nonEmpty wss ≡ true
-unfolding Every all
+all-some : (wss : Steps) → Every Speaks wss → allOf nonEmpty wss ≡ true
+unfolding Every allOf
 all-some [] h = refl
 all-some (ws ∷ wss) h = rw (speaks-some ws (h .0)) (all-some wss (h .1))
 
@@ -81,8 +81,8 @@ unfolding Every
 all-texts [] h = refl
 all-texts (ws ∷ wss) h = rw (speaks-text ws (h .0), all-texts wss (h .1))
 
-all-more : (wss : Steps) → Every Speaks wss → any onlyModifiers wss ≡ false
-unfolding Every any
+all-more : (wss : Steps) → Every Speaks wss → anyOf onlyModifiers wss ≡ false
+unfolding Every anyOf
 all-more [] h = refl
 all-more (ws ∷ wss) h = rw (speaks-more ws (h .0)) (all-more wss (h .1))
 

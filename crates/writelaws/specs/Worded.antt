@@ -7,7 +7,7 @@ use native.Mathlib.Omega.{arith}
 use borrow.Author.Tests.{le-ltb}
 use lib.ListN.{length, length-map}
 use Rattle.rules.specs.Ascii.{ascii, is}
-use Rattle.rules.specs.Lists.{any, all, nonEmpty}
+use Rattle.rules.specs.Lists.{anyOf, allOf, nonEmpty}
 use Rattle.rules.specs.Text.{Bytes, Words, white, words, afterEach, joinedBy, joined}
 use Rattle.rules.specs.Refusal.{answers, andThen}
 use Rattle.rules.specs.Split.{modifier, onlyModifiers, leading, following, turned, stepText}
@@ -25,24 +25,24 @@ use Rattle.writelaws.specs.Given.{all-length}
 
 module _ (test : ℕ → Bool) where
   pub lacks-append : (a b : Bytes) → lacks test a ≡ true → lacks test b ≡ true → lacks test (a ++ b) ≡ true
-  unfolding lacks any
+  unfolding lacks anyOf
   lacks-append [] b h k = k
   lacks-append (x ∷ a) b h k = go (test x) h (lacks-append a b)
     where
-      go : (c : Bool) → not (c || any test a) ≡ true → (not (any test a) ≡ true → not (any test b) ≡ true → not (any test (a ++ b)) ≡ true) → not (c || any test (a ++ b)) ≡ true
+      go : (c : Bool) → not (c || anyOf test a) ≡ true → (not (anyOf test a) ≡ true → not (anyOf test b) ≡ true → not (anyOf test (a ++ b)) ≡ true) → not (c || anyOf test (a ++ b)) ≡ true
       go true h f = absurd (false≢true h)
       go false h f = f h k
 
-  lacks-after : (sep : Bytes) (ws : List Bytes) → lacks test sep ≡ true → all (lacks test) ws ≡ true → lacks test (afterEach sep ws) ≡ true
-  unfolding all afterEach
-  lacks-after sep [] s h = unfold lacks any in refl
+  lacks-after : (sep : Bytes) (ws : List Bytes) → lacks test sep ≡ true → allOf (lacks test) ws ≡ true → lacks test (afterEach sep ws) ≡ true
+  unfolding allOf afterEach
+  lacks-after sep [] s h = unfold lacks anyOf in refl
   lacks-after sep (w ∷ ws) s h =
       lacks-append sep (w ++ afterEach sep ws) s
       (lacks-append w (afterEach sep ws) (and-left (lacks test w) _ h) (lacks-after sep ws s (and-right (lacks test w) _ h)))
 
-  pub lacks-joined : (sep : Bytes) (ws : List Bytes) → lacks test sep ≡ true → all (lacks test) ws ≡ true → lacks test (joinedBy sep ws) ≡ true
-  unfolding all joinedBy
-  lacks-joined sep [] s h = unfold lacks any in refl
+  pub lacks-joined : (sep : Bytes) (ws : List Bytes) → lacks test sep ≡ true → allOf (lacks test) ws ≡ true → lacks test (joinedBy sep ws) ≡ true
+  unfolding allOf joinedBy
+  lacks-joined sep [] s h = unfold lacks anyOf in refl
   lacks-joined sep (w ∷ ws) s h = lacks-append w (afterEach sep ws) (and-left (lacks test w) _ h) (lacks-after sep ws s (and-right (lacks test w) _ h))
 
 -- ---- words
@@ -70,22 +70,22 @@ calm-some (x ∷ w) h = refl
 
 -- the words of a step: the first is no modifier and has no `=`
 pub record Spoken (w : Bytes) (ws : Words) : Type 0 where
-  pub each : all worded (w ∷ ws) ≡ true
+  pub each : allOf worded (w ∷ ws) ≡ true
   pub no-modifier : modifier w ≡ false
-  pub no-value : any (is "=") w ≡ false
+  pub no-value : anyOf (is "=") w ≡ false
   pub few : length ws ≤ 31
 
-module _ (w : Bytes) (ws : Words) (h : all worded (w ∷ ws) ≡ true) where
+module _ (w : Bytes) (ws : Words) (h : allOf worded (w ∷ ws) ≡ true) where
   pub step-calm : calm (joined (w ∷ ws)) ≡ true
   unfolding joined joinedBy
   step-calm =
-      let c : all calm (w ∷ ws) ≡ true = all-so worded calm worded-calm (w ∷ ws) h in
-      joined-calm (32 ∷ []) (unfold gap below so firm known follows middle quiet any ascii in refl) w ws
+      let c : allOf calm (w ∷ ws) ≡ true = all-so worded calm worded-calm (w ∷ ws) h in
+      joined-calm (32 ∷ []) (unfold gap below so firm known follows middle quiet anyOf ascii in refl) w ws
       (all-first calm w ws c) (all-rest calm w ws c)
 
   pub step-bare : lacks (is "|") (joined (w ∷ ws)) ≡ true
   unfolding joined
-  step-bare = lacks-joined (is "|") (32 ∷ []) (w ∷ ws) (unfold lacks any in refl) (all-so worded (lacks (is "|")) worded-bare (w ∷ ws) h)
+  step-bare = lacks-joined (is "|") (32 ∷ []) (w ∷ ws) (unfold lacks anyOf in refl) (all-so worded (lacks (is "|")) worded-bare (w ∷ ws) h)
 
   pub step-words : words (joined (w ∷ ws)) ≡ w ∷ ws
   unfolding words joined
@@ -103,7 +103,7 @@ module _ {w : Bytes} {ws : Words} (h : Spoken w ws) where
   step-text = ap joined not-turned
 
   pub not-modifiers : onlyModifiers (w ∷ ws) ≡ false
-  unfolding onlyModifiers nonEmpty all
+  unfolding onlyModifiers nonEmpty allOf
   not-modifiers = rw (h .no-modifier)
 
   step-elements : elements (w ∷ ws) ≡ name w ∷ map parameter ws

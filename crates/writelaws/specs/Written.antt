@@ -11,7 +11,7 @@ use lib.ListN.{length, length-append, length-map}
 use lib.Dec.{leb, eqb, lit≤}
 use lib.IntN.{ℤ}
 use Rattle.rules.specs.Ascii.{ascii, is}
-use Rattle.rules.specs.Lists.{any, all}
+use Rattle.rules.specs.Lists.{anyOf, allOf}
 use Rattle.rules.specs.Text.{Bytes, Words, white, same, joined}
 use Rattle.rules.specs.Split.{modifier}
 use Rattle.rules.specs.Decimal.{minus}
@@ -32,7 +32,7 @@ use Rattle.writelaws.specs.Sayings.{firm-worded, pair-worded, listing-wo
 -- ---- the words of the arguments
 
 pub record Says (o : Operator) (l : List ℤ) : Type 0 where
-  pub each : all worded (argWords o l) ≡ true
+  pub each : allOf worded (argWords o l) ≡ true
   pub few : length (argWords o l) ≤ 8
   pub short : total (nameWord o ∷ argWords o l) ≤ 39
 
@@ -56,12 +56,12 @@ place-four : (x : ℤ) → isPlace x ≡ true → leb (size x) 4 ≡ true
 unfolding isPlace
 place-four x h = and-right (leb 1 (size x)) _ (and-right (not (minus x)) _ h)
 
-places-total : (l : List ℤ) → length l ≤ 8 → all isPlace l ≡ true → total (map spelling l) ≤ 24
+places-total : (l : List ℤ) → length l ≤ 8 → allOf isPlace l ≡ true → total (map spelling l) ≤ 24
 places-total l f h = omega (arith, each-total 2 isPlace (λ x k. spelling-short x (place-four x k)) l h)
 
 -- no list is empty
 module _ (l : List ℤ) where
-  pub places-some : isPlaces l ≡ true → (1 ≤ length l) × (all isPlace l ≡ true)
+  pub places-some : isPlaces l ≡ true → (1 ≤ length l) × (allOf isPlace l ≡ true)
   unfolding isPlaces
   places-some h = (leb-true 1 (length l) (and-left (leb 1 (length l)) _ h), and-right (leb 1 (length l)) _ h)
 
@@ -69,12 +69,12 @@ module _ (l : List ℤ) where
   unfolding isRoll
   roll-two h = eqb-true (length l) 2 (and-left (eqb (length l) 2) _ h)
 
-  pub order-some : isOrder l ≡ true → (1 ≤ length l) × (length l ≤ 4) × (all (λ (x : ℤ). leb (size x) 4) l ≡ true)
+  pub order-some : isOrder l ≡ true → (1 ≤ length l) × (length l ≤ 4) × (allOf (λ (x : ℤ). leb (size x) 4) l ≡ true)
   unfolding isOrder
   order-some h =
       let r = and-right (leb 1 (length l)) _ h in
       let few = leb-true (length l) 4 (and-left (leb (length l) 4) _ r) in
-      let a = and-left (all (λ (x : ℤ). leb 1 (size x) && leb (size x) (length l)) l) _ (and-right (leb (length l) 4) _ r) in (
+      let a = and-left (allOf (λ (x : ℤ). leb 1 (size x) && leb (size x) (length l)) l) _ (and-right (leb (length l) 4) _ r) in (
         leb-true 1 (length l) (and-left (leb 1 (length l)) _ h),
         few,
         all-so (λ (x : ℤ). leb 1 (size x) && leb (size x) (length l)) (λ (x : ℤ). leb (size x) 4)
@@ -89,11 +89,11 @@ none-left h = absurd (no h)
 
 -- a single word
 one-says : (o : Operator) (l : List ℤ) (w : Bytes) → argWords o l ≡ w ∷ [] → worded w ≡ true → total (nameWord o ∷ w ∷ []) ≤ 39 → Says o l
-one-says o l w e h t = record { each = rw e (unfold all in rw h); few = rw e (lit≤ tt); short = rw e t }
+one-says o l w e h t = record { each = rw e (unfold allOf in rw h); few = rw e (lit≤ tt); short = rw e t }
 
 -- a key whose value is a list
 module _ (o : Operator) (key : String) (x : ℤ) (l : List ℤ) (e : argWords o (x ∷ l) ≡ pair key (listing (x ∷ l)) ∷ [])
-    (k : worded (ascii key) ≡ true) (n : length (nameWord o) + length (ascii key) ≤ 13) (h : all nineDigits (x ∷ l) ≡ true) where
+    (k : worded (ascii key) ≡ true) (n : length (nameWord o) + length (ascii key) ≤ 13) (h : allOf nineDigits (x ∷ l) ≡ true) where
   list-says : total (map spelling (x ∷ l)) ≤ 24 → Says o (x ∷ l)
   list-says t = one-says o (x ∷ l) (pair key (listing (x ∷ l))) e (pair-worded key (listing (x ∷ l)) k (listing-worded x l h)) (pair-short (nameWord o) key x l n t)
 
@@ -111,9 +111,9 @@ adapt-says l p =
     let to = toWord (p .code) (p .a ∷ p .b ∷ p .c ∷ p .d ∷ []) in
     let e = adapt-words l p in
     record {
-      each = rw e (unfold all in rw (
-        pair-worded "from" from (unfold worded calm firm known follows middle quiet endOf lacks white any ascii in refl) (firm-worded from (from-firm (p .code))),
-        pair-worded "to" to (unfold worded calm firm known follows middle quiet endOf lacks white any ascii in refl) (firm-worded to (to-firm (p .code) (p .a) (p .b) (p .c) (p .d) (p .ordered))),
+      each = rw e (unfold allOf in rw (
+        pair-worded "from" from (unfold worded calm firm known follows middle quiet endOf lacks white anyOf ascii in refl) (firm-worded from (from-firm (p .code))),
+        pair-worded "to" to (unfold worded calm firm known follows middle quiet endOf lacks white anyOf ascii in refl) (firm-worded to (to-firm (p .code) (p .a) (p .b) (p .c) (p .d) (p .ordered))),
       ));
       few = rw e (lit≤ tt);
       short = rw e (bound from to (from-short (p .code)) (to-short (p .code) (p .a) (p .b) (p .c) (p .d) (p .ordered)));
@@ -122,8 +122,8 @@ adapt-says l p =
     bound : (v w : Bytes) → length v ≤ 8 → length w ≤ 8 → total (nameWord Adapt ∷ pair "from" v ∷ pair "to" w ∷ []) ≤ 39
     bound v w a b = unfold nameWord ascii total in omega (arith, pair-total "from" v (pair "to" w ∷ []), pair-total "to" w [])
 
-pub says : (o : Operator) (l : List ℤ) → length l ≤ 8 → all nineDigits l ≡ true → isArgs o l ≡ true → Says o l
-unfolding isArgs argWords nameWord worded calm firm known follows middle quiet endOf lacks white any ascii
+pub says : (o : Operator) (l : List ℤ) → length l ≤ 8 → allOf nineDigits l ≡ true → isArgs o l ≡ true → Says o l
+unfolding isArgs argWords nameWord worded calm firm known follows middle quiet endOf lacks white anyOf ascii
 says Push l f h r =
     record {
       each = flags-worded l (rising-places 0 l r);
@@ -157,7 +157,7 @@ says Adapt l f h r = adapt-says l (adapts l r)
 -- ---- the whole step
 
 name-worded : (o : Operator) → worded (nameWord o) ≡ true
-unfolding nameWord worded calm firm known follows middle quiet endOf lacks white any ascii
+unfolding nameWord worded calm firm known follows middle quiet endOf lacks white anyOf ascii
 name-worded Push = refl
 name-worded Pop = refl
 name-worded StackPush = refl
@@ -170,8 +170,8 @@ name-worded StackDrop = refl
 name-worded Axisswap = refl
 name-worded Adapt = refl
 
-name-plain : (o : Operator) → (modifier (nameWord o) ≡ false) × (any (is "=") (nameWord o) ≡ false)
-unfolding nameWord modifier same any ascii
+name-plain : (o : Operator) → (modifier (nameWord o) ≡ false) × (anyOf (is "=") (nameWord o) ≡ false)
+unfolding nameWord modifier same anyOf ascii
 name-plain Push = (refl, refl)
 name-plain Pop = (refl, refl)
 name-plain StackPush = (refl, refl)
@@ -184,17 +184,17 @@ name-plain StackDrop = (refl, refl)
 name-plain Axisswap = (refl, refl)
 name-plain Adapt = (refl, refl)
 
-all-chosen : (fs : List Flag) → all (λ (f : Flag). worded (f .word)) fs ≡ true → all worded (chosen fs) ≡ true
-unfolding all chosen
+all-chosen : (fs : List Flag) → allOf (λ (f : Flag). worded (f .word)) fs ≡ true → allOf worded (chosen fs) ≡ true
+unfolding allOf chosen
 all-chosen [] h = refl
 all-chosen (f ∷ fs) h = go (f .given) (all-chosen fs (and-right (worded (f .word)) _ h))
   where
-    go : (b : Bool) → all worded (chosen fs) ≡ true → all worded (cond b (f .word ∷ chosen fs) (chosen fs)) ≡ true
+    go : (b : Bool) → allOf worded (chosen fs) ≡ true → allOf worded (cond b (f .word ∷ chosen fs) (chosen fs)) ≡ true
     go true r = rw (and-left (worded (f .word)) _ h) r
     go false r = r
 
-marks-worded : (s : Step) → all worded (markWords s) ≡ true
-marks-worded s = rw (mark-words s) (all-chosen (marksOf s) (unfold all marksOf worded calm firm known follows middle quiet endOf lacks white any ascii in refl))
+marks-worded : (s : Step) → allOf worded (markWords s) ≡ true
+marks-worded s = rw (mark-words s) (all-chosen (marksOf s) (unfold allOf marksOf worded calm firm known follows middle quiet endOf lacks white anyOf ascii in refl))
 
 -- not longer than if all were there
 chosen-length : (fs : List Flag) → length (chosen fs) ≤ length fs
@@ -230,7 +230,7 @@ module _ (s : Step) (k : Kept (operator s) (args s)) where
   pub step-spoken : Spoken (nameWord (operator s)) (argWords (operator s) (args s) ++ markWords s)
   step-spoken =
       record {
-        each = unfold all in rw (name-worded (operator s)) (all-append worded (argWords (operator s) (args s)) (markWords s) (step-says .each) (marks-worded s));
+        each = unfold allOf in rw (name-worded (operator s)) (all-append worded (argWords (operator s) (args s)) (markWords s) (step-says .each) (marks-worded s));
         no-modifier = name-plain (operator s) .0;
         no-value = name-plain (operator s) .1;
         few = omega (arith, length-append (argWords (operator s) (args s)) (markWords s), step-says .few, marks-few s);

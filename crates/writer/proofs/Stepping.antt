@@ -10,7 +10,7 @@ use lib.ListN.{length, take, getD}
 use lib.Seq.{getD-take}
 use lib.Dec.{leb, ltb}
 use Rattle.rules.specs.Ascii.{ascii}
-use Rattle.rules.specs.Lists.{all}
+use Rattle.rules.specs.Lists.{allOf}
 use Rattle.rules.specs.Text.{Bytes, afterEach, joinedBy}
 use Rattle.rules.specs.Refusal.{Reply, answers}
 use Rattle.rules.specs.Record.{operatorOf, operator, args, isArgs, nineDigits, made, firstBad, refusal18, listed}
@@ -50,7 +50,7 @@ module _ (s : Step) (h : made s ≡ true) where
   unfolding made
   made-few = leb-true (s .n) 8 (and-left (leb (s .n) 8) _ (and-right (leb (s .operator) 10) _ h))
 
-  pub made-nines : all nineDigits (take (s .n) (s .args)) ≡ true
+  pub made-nines : allOf nineDigits (take (s .n) (s .args)) ≡ true
   unfolding args
   made-nines = made-keeps s h .nines
 

@@ -2,7 +2,7 @@ use Prim.Native.Nat.{_-_}
 use mathlib.Core.Path.{sym, _∙_}
 use lib.ListN.{length}
 use lib.IntN.{pos}
-use Rattle.rules.specs.Lists.{all}
+use Rattle.rules.specs.Lists.{allOf}
 use Rattle.argtests.specs.Tests.{isOf}
 use Rattle.argtests.proofs.Rest.{Rest, rest-all, rest-next, rest-here, rest-end, all-so, all-not}
 use borrow.Author.Needs.{needs}
@@ -10,7 +10,7 @@ use Rattle.argtests.proofs.are_of.Statement.{statement}
 use Rattle.argtests.proofs.are_of.Tie as tie
 
 abbrev Inv-loop : tie.InvT-loop
-Inv-loop kind l i₀ i = Rest (all (isOf kind)) l i (all (isOf kind) l)
+Inv-loop kind l i₀ i = Rest (allOf (isOf kind)) l i (allOf (isOf kind) l)
 
 abbrev μ-loop : tie.MeasureT-loop
 μ-loop kind l i₀ i = length l - i
@@ -28,13 +28,13 @@ loop-less : tie.Need-loop-less Inv-loop μ-loop
 loop-less c = search needs
 
 loop-again : tie.Need-loop-again Inv-loop μ-loop
-loop-again c = rest-next (all (isOf (c .before .before .before .before .args .kind))) (pos 0) (c .before .before .before .loop .inv) (c .before .before .loop-test .taken) (all-so (isOf (c .before .before .before .before .args .kind)) _ _ (sym (c .before .is-at .ensures) ∙ c .if1 .taken))
+loop-again c = rest-next (allOf (isOf (c .before .before .before .before .args .kind))) (pos 0) (c .before .before .before .loop .inv) (c .before .before .loop-test .taken) (all-so (isOf (c .before .before .before .before .args .kind)) _ _ (sym (c .before .is-at .ensures) ∙ c .if1 .taken))
 
 returns : tie.Need-returns Inv-loop μ-loop
 returns c = rest-here (pos 0) (c .before .before .before .loop .inv) (c .before .before .loop-test .taken) (all-not (isOf (c .before .before .before .before .args .kind)) _ _ (sym (c .before .is-at .ensures) ∙ c .if1 .left))
 
 returns-2 : tie.Need-returns-2 Inv-loop μ-loop
-unfolding all
+unfolding allOf
 returns-2 c = rest-end (c .before .loop .inv) (c .loop-test .left)
 
 pub are-of-spec : {M : Type 1} → statement M

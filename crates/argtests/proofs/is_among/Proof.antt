@@ -1,7 +1,7 @@
 use Prim.Native.Nat.{_-_}
 use lib.ListN.{length}
 use lib.IntN.{pos}
-use Rattle.rules.specs.Lists.{any}
+use Rattle.rules.specs.Lists.{anyOf}
 use Rattle.argtests.specs.Tests.{ofSize}
 use Rattle.argtests.proofs.Testing.{size-so, size-not}
 use Rattle.argtests.proofs.Rest.{Rest, rest-all, rest-next, rest-here, rest-end, any-so, any-not}
@@ -10,7 +10,7 @@ use Rattle.argtests.proofs.is_among.Statement.{statement}
 use Rattle.argtests.proofs.is_among.Tie as tie
 
 abbrev Inv-loop : tie.InvT-loop
-Inv-loop m l i₀ i = Rest (any (ofSize m)) l i (any (ofSize m) l)
+Inv-loop m l i₀ i = Rest (anyOf (ofSize m)) l i (anyOf (ofSize m) l)
 
 abbrev μ-loop : tie.MeasureT-loop
 μ-loop m l i₀ i = length l - i
@@ -31,10 +31,10 @@ loop-less : tie.Need-loop-less Inv-loop μ-loop
 loop-less c = search needs
 
 loop-again : tie.Need-loop-again Inv-loop μ-loop
-loop-again c = rest-next (any (ofSize _)) (pos 0) (c .before .before .before .loop .inv) (c .before .before .loop-test .taken) (any-not _ _ _ (size-not _ _ _ (c .before .size-at .ensures) (c .if1 .left)))
+loop-again c = rest-next (anyOf (ofSize _)) (pos 0) (c .before .before .before .loop .inv) (c .before .before .loop-test .taken) (any-not _ _ _ (size-not _ _ _ (c .before .size-at .ensures) (c .if1 .left)))
 
 returns-2 : tie.Need-returns-2 Inv-loop μ-loop
-unfolding any
+unfolding anyOf
 returns-2 c = rest-end (c .before .loop .inv) (c .loop-test .left)
 
 pub is-among-spec : {M : Type 1} → statement M

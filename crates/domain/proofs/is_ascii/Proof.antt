@@ -6,10 +6,10 @@ use Rattle.domain.proofs.is_ascii.Statement.{statement}
 use Rattle.domain.proofs.is_ascii.Tie as tie
 
 abbrev Inv-loop : tie.InvT-loop
-Inv-loop s from to all₀ j₀ all j = Clearing s from to j all
+Inv-loop s from to all₀ j₀ allOf j = Clearing s from to j allOf
 
 abbrev μ-loop : tie.MeasureT-loop
-μ-loop s from to all₀ j₀ all j = to - j
+μ-loop s from to all₀ j₀ allOf j = to - j
 
 loop-holds : tie.Need-loop-holds Inv-loop μ-loop
 loop-holds c = clearing-none (c .pre .0) (c .pre .1)

@@ -2,7 +2,7 @@ use mathlib.Core.Path.{refl, sym, ap, _∙_}
 use native.Mathlib.Omega.{arith}
 use denote.Ref.{now}
 use lib.ListN.{length-take}
-use Rattle.rules.specs.Lists.{all}
+use Rattle.rules.specs.Lists.{allOf}
 use Rattle.argtests.specs.Tests.{isOf}
 use Rattle.sound.specs.Records.{isWritten}
 use Rattle.argtests.specs.declared.Kind.the-variants.{Zero}
@@ -28,7 +28,7 @@ are-of-requires c κs = search needs
 
 returns : tie.Need-returns
 unfolding isWritten
-returns c = rw (ap (all (isOf Zero)) (sym (rest-of (now (c .before .before .before .args .l)) (c .before .before .before .args .n))) ∙ sym (c .before .are-of .ensures) ∙ not-so (c .if1 .taken)) refl
+returns c = rw (ap (allOf (isOf Zero)) (sym (rest-of (now (c .before .before .before .args .l)) (c .before .before .before .args .n))) ∙ sym (c .before .are-of .ensures) ∙ not-so (c .if1 .taken)) refl
 
 slice-aggregate-are-of : tie.Need-slice-aggregate-are-of
 slice-aggregate-are-of c = rw length-take (omega (arith, c .before .before .before .before .pre))
@@ -38,7 +38,7 @@ are-of-requires-2 c κs = search needs
 
 returns-2 : tie.Need-returns-2
 unfolding isWritten
-returns-2 c = rw (ap (all (isOf Zero)) (sym (rest-of (now (c .before .before .before .before .before .before .args .l)) (c .before .before .before .before .before .before .args .n))) ∙ sym (c .before .before .before .before .are-of .ensures) ∙ not-left (c .before .before .before .if1 .left), sym (c .before .are-of2 .ensures) ∙ not-so (c .if2 .taken)) refl
+returns-2 c = rw (ap (allOf (isOf Zero)) (sym (rest-of (now (c .before .before .before .before .before .before .args .l)) (c .before .before .before .before .before .before .args .n))) ∙ sym (c .before .before .before .before .are-of .ensures) ∙ not-left (c .before .before .before .if1 .left), sym (c .before .are-of2 .ensures) ∙ not-so (c .if2 .taken)) refl
 
 slice-aggregate-is-args : tie.Need-slice-aggregate-is-args
 slice-aggregate-is-args c = rw length-take (omega (arith, c .before .before .before .before .before .before .before .pre))
@@ -48,7 +48,7 @@ is-args-requires c κs = search needs
 
 returns-3 : tie.Need-returns-3
 unfolding isWritten
-returns-3 c = rw (ap (all (isOf Zero)) (sym (rest-of (now (c .before .before .before .before .before .before .before .before .args .l)) (c .before .before .before .before .before .before .before .before .args .n))) ∙ sym (c .before .before .before .before .before .before .are-of .ensures) ∙ not-left (c .before .before .before .before .before .if1 .left), sym (c .before .before .before .are-of2 .ensures) ∙ not-left (c .before .before .if2 .left)) (c .is-args .ensures)
+returns-3 c = rw (ap (allOf (isOf Zero)) (sym (rest-of (now (c .before .before .before .before .before .before .before .before .args .l)) (c .before .before .before .before .before .before .before .before .args .n))) ∙ sym (c .before .before .before .before .before .before .are-of .ensures) ∙ not-left (c .before .before .before .before .before .if1 .left), sym (c .before .before .before .are-of2 .ensures) ∙ not-left (c .before .before .if2 .left)) (c .is-args .ensures)
 
 pub is-written-spec : {M : Type 1} → statement M
 is-written-spec =
