@@ -13,7 +13,7 @@ use Rattle.rules.specs.Text.{Bytes}
 use Rattle.rules.specs.Decimal.{minus}
 use Rattle.rules.specs.Record.{size}
 use Rattle.laws.specs.Separators.{and-left, and-right}
-use Rattle.writelaws.specs.Writing.{letter, endingOf}
+use Rattle.rules.specs.Write.{letter, endingOf}
 use Rattle.numerals.specs.Parts.{rest}
 use Rattle.adaptwords.specs.Parts.{isAxis, lettered, fromText, toText}
 

@@ -7,7 +7,7 @@ use lib.Dec.{leb}
 use Rattle.rules.specs.Ascii.{ascii}
 use Rattle.rules.specs.Text.{Bytes}
 use Rattle.rules.specs.Record.{size}
-use Rattle.writelaws.specs.Writing.{letter, endingOf}
+use Rattle.rules.specs.Write.{letter, endingOf}
 
 -- an axis, with or without a sign
 unfoldable pub isAxis : ℤ → Bool

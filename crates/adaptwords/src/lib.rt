@@ -11,7 +11,7 @@ ghost use lib.ListN.{length, getD};
 ghost use lib.IntN.{pos};
 ghost use Rattle.rules.specs.Lists.{allOf};
 ghost use Rattle.text.specs.Writing.{WroteAt};
-ghost use Rattle.writelaws.specs.Writing.{letter, endingOf};
+ghost use Rattle.rules.specs.Write.{letter, endingOf};
 ghost use Rattle.numerals.specs.Parts.{Room};
 ghost use Rattle.adaptwords.specs.Parts.{isAxis, fromText, toText};
 

@@ -9,7 +9,7 @@ use lib.ListN.{length, take, drop, length-append}
 use lib.Seq.{take-at, drop-at}
 use lib.Dec.{ltb}
 use Rattle.rules.specs.Text.{Bytes, inDomain}
-use Rattle.rules.specs.Refusal.{Reply, answers, refuses, tested, lent, outcome, Promised, written, Writes}
+use Rattle.rules.specs.Refusal.{Reply, answers, refuses, tested, lent, outcome, Promised, written, Writes, Lends}
 use Rattle.rules.specs.declared.Written.{Written}
 use Rattle.rules.specs.declared.Written.the-variants as variant
 
@@ -60,11 +60,7 @@ unfolding outcome
 in-other-words {A} {R} {S} {inWords} f {own} {t} {storage} {storage′} {r} p =
     record { exactly = ap (told f) (p .exactly) ∙ sym (lent-told inWords f (tested own t) storage) }
 
--- ---- for what a text call does once the text is known to be short and in the domain
-
--- a reply brought into the lent buffer
-pub record Lends (reply : Reply Bytes) (out : Bytes) (result : Written) (out′ : Bytes) : Type 0 where
-  pub exactly : _≡_ {A = Written × Bytes} (result, out′) (lent written reply out)
+-- ---- a reply brought into the lent buffer: for what a text call does once the text is known to be short and in the domain
 
 module _ {reply : Reply Bytes} {out : Bytes} where
   pub lends-refusal : {number place : ℕ} → reply ≡ refuses number place → Lends reply out (variant.Refused number place) out

@@ -1,6 +1,8 @@
 -- Theorems about the definitions of `rules`.
 pub mod Once
+pub mod Library
 pub mod Entry
+pub mod Numerals
 pub mod Passes
 pub mod Sizes
 pub mod Separators

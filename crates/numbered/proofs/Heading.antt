@@ -11,7 +11,7 @@ use lib.ListN.{length, take, drop, getD, set, drop-of-length-le}
 use Rattle.rules.specs.Text.{Bytes}
 use Rattle.text.specs.Writing.{WroteAt}
 use Rattle.text.proofs.Writing.{Sofar, drop-next, sofar-at, sofar-part, sofar-part-room, sofar-byte, sofar-byte-room, sofar-end, sofar-length}
-use Rattle.numbered.specs.Numbers.{heading, headed}
+use Rattle.rules.specs.Shown.{heading, headed}
 
 -- from byte i of the lines on: k lines are done, and the next has begun or not
 pub record Heading (s d₀ : Bytes) (at k : ℕ) (begun : Bool) (i o : ℕ) (d : Bytes) : Type 0 where

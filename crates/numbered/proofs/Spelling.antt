@@ -3,11 +3,11 @@ use mathlib.Core.Path.{_≡_, refl, sym, ap, _∙_}
 use mathlib.Core.List.{[], _∷_, _++_, append-nil}
 use Prim.Native.Nat.{ℕ, zero, suc, _+_, _*_, _/_, _%_, _-_, _≤_, _<_}
 use native.Mathlib.Omega.{arith}
-use borrow.Author.Tests.{lt-ltb, le-ltb}
 use lib.ListN.{length, take, drop, getD, set, length-set, length-drop, take-append-drop, drop-of-length-le}
 use lib.Seq.{drop-cons, drop-at, set-at, length-take-le, append-snoc, take-all}
 use Rattle.rules.specs.Text.{Bytes}
-use Rattle.numbered.specs.Numbers.{digits, number}
+use Rattle.rules.specs.Numerals.{digits}
+use Rattle.laws.specs.Numerals.{digits-one, digits-more}
 use Rattle.numbered.specs.Spelling.{Spelt}
 
 unfoldable pub tens : ℕ → ℕ
@@ -19,15 +19,14 @@ pub record Spelling (n m k : ℕ) (buf : Bytes) : Type 0 where
   pub within : k ≤ 19
   pub size : length buf ≡ 20
   pub below : m < tens (suc k)
-  pub right : digits k m ++ drop (suc k) buf ≡ number n
+  pub right : digits m ++ drop (suc k) buf ≡ digits n
 
 pub spelling-start : (n : ℕ) (buf : Bytes) → n < 18446744073709551616 → length buf ≡ 20 → Spelling n n 19 buf
-unfolding number
 spelling-start n buf h l =
     let e : tens 20 ≡ 100000000000000000000 = unfold tens in refl in
     let k : length buf ≤ 20 = omega (arith, l) in
     let z : drop 20 buf ≡ [] = drop-of-length-le buf k in
-    record { within = omega arith; size = l; below = omega (arith, e, h); right = ap (λ (x : Bytes). digits 19 n ++ x) z ∙ append-nil (digits 19 n) }
+    record { within = omega arith; size = l; below = omega (arith, e, h); right = ap (λ (x : Bytes). digits n ++ x) z ∙ append-nil (digits n) }
 
 -- what is written at a place is what the rest begins with
 drop-set : (l : Bytes) (k v : ℕ) → k < length l → drop k (set l k v) ≡ v ∷ drop (suc k) l
@@ -35,16 +34,6 @@ drop-set l k v h =
     let e : l ≡ take k l ++ (getD l k 0 ∷ drop (suc k) l) = sym (take-append-drop k l) ∙ ap (λ (x : Bytes). take k l ++ x) (drop-cons l k 0 h) in
     let n : length (take k l) ≡ k = length-take-le k l (omega arith) in
     ap (λ (x : Bytes). drop k (set x k v)) e ∙ (ap (drop k) (set-at (take k l) (getD l k 0) (drop (suc k) l) v k n) ∙ drop-at (take k l) (v ∷ drop (suc k) l) k n)
-
--- a number below ten is one digit
-one-digit : (k m : ℕ) → m < 10 → digits k m ≡ (48 + m) ∷ []
-unfolding digits
-one-digit zero m h = refl
-one-digit (suc k) m h = rw (lt-ltb m 10 h)
-
-more-digits : (k m : ℕ) → 10 ≤ m → digits (suc k) m ≡ digits k (m / 10) ++ ((48 + m % 10) ∷ [])
-unfolding digits
-more-digits k m h = rw (le-ltb m 10 h)
 
 again-at : (n m j : ℕ) (buf : Bytes) → Spelling n m (suc j) buf → 10 ≤ m → Spelling n (m / 10) j (set buf (suc j) (48 + m % 10))
 again-at n m j buf s h =
@@ -55,9 +44,9 @@ again-at n m j buf s h =
       size = length-set {A = ℕ} buf (suc j) (48 + m % 10) ∙ s .size;
       below = omega (arith, s .below, t);
       right =
-          ap (λ (x : Bytes). digits j (m / 10) ++ x) (drop-set buf (suc j) (48 + m % 10) l)
-          ∙ (sym (append-snoc (digits j (m / 10)) (48 + m % 10) (drop (suc (suc j)) buf))
-          ∙ (ap (λ (x : Bytes). x ++ drop (suc (suc j)) buf) (sym (more-digits j m h)) ∙ s .right));
+          ap (λ (x : Bytes). digits (m / 10) ++ x) (drop-set buf (suc j) (48 + m % 10) l)
+          ∙ (sym (append-snoc (digits (m / 10)) (48 + m % 10) (drop (suc (suc j)) buf))
+          ∙ (ap (λ (x : Bytes). x ++ drop (suc (suc j)) buf) (sym (digits-more m h)) ∙ s .right));
     }
 
 two-digits : (m : ℕ) → 10 ≤ m → m < tens 1 → ⊥
@@ -90,11 +79,11 @@ module _ {n m k : ℕ} {buf : Bytes} (s : Spelling n m k buf) where
         size = length-set {A = ℕ} buf k (48 + m) ∙ s .size;
         right =
             drop-set buf k (48 + m) spelling-place
-            ∙ (ap (λ (x : Bytes). x ++ drop (suc k) buf) (sym (one-digit k m h)) ∙ s .right);
+            ∙ (ap (λ (x : Bytes). x ++ drop (suc k) buf) (sym (digits-one m h)) ∙ s .right);
       })
 
 -- what a caller learns
-pub spelt-front : {n k : ℕ} {buf : Bytes} → Spelt n buf k → take (20 - k) (drop k buf) ≡ number n
+pub spelt-front : {n k : ℕ} {buf : Bytes} → Spelt n buf k → take (20 - k) (drop k buf) ≡ digits n
 spelt-front {n} {k} {buf} s =
     let l : length (drop k buf) ≤ 20 - k = omega (arith, length-drop k buf, s .size) in
     take-all (20 - k) (drop k buf) l ∙ s .right

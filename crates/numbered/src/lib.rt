@@ -9,7 +9,8 @@ ghost use lib.ListN.{length};
 ghost use Rattle.rules.specs.Ascii.{ascii};
 ghost use Rattle.rules.specs.Split.{line};
 ghost use Rattle.text.specs.Writing.{WroteAt};
-ghost use Rattle.numbered.specs.Numbers.{number, counted, refused, headed};
+ghost use Rattle.rules.specs.Numerals.{digits};
+ghost use Rattle.rules.specs.Shown.{counted, refusalText, headed};
 ghost use Rattle.numbered.specs.Spelling.{Spelt};
 
 // The digit of a number below ten.
@@ -38,8 +39,8 @@ fn spell(n: usize, buf: &mut [u8]) -> usize
 
 // A number.
 pub fn say_number(n: usize, out: &mut [u8], at: usize) -> usize
-    requires { ⌜ at + length (number n) ≤ length (now out) ⌝ }
-    ensures { λ r. ⌜ WroteAt (number n) (now (out .entry)) at r (now (out .exit)) ⌝ }
+    requires { ⌜ at + length (digits n) ≤ length (now out) ⌝ }
+    ensures { λ r. ⌜ WroteAt (digits n) (now (out .entry)) at r (now (out .exit)) ⌝ }
 {
     let mut buf = [0u8; 20];
     let k = spell(n, &mut buf);
@@ -64,8 +65,8 @@ fn wide(x: u8) -> usize
 
 // A refusal: its number and its place.
 pub fn say_refused(number: u8, place: usize, out: &mut [u8], at: usize) -> usize
-    requires { ⌜ at + length (refused number place) ≤ length (now out) ⌝ }
-    ensures { λ r. ⌜ WroteAt (refused number place) (now (out .entry)) at r (now (out .exit)) ⌝ }
+    requires { ⌜ at + length (refusalText number place) ≤ length (now out) ⌝ }
+    ensures { λ r. ⌜ WroteAt (refusalText number place) (now (out .entry)) at r (now (out .exit)) ⌝ }
 {
     let n = wide(number);
     let o = say_counted(b"refused ", n, out, at);
@@ -74,8 +75,8 @@ pub fn say_refused(number: u8, place: usize, out: &mut [u8], at: usize) -> usize
 
 // "A refusal ends its output with a line."
 pub fn say_refusal(number: u8, place: usize, out: &mut [u8], at: usize) -> usize
-    requires { ⌜ at + length (line (refused number place)) ≤ length (now out) ⌝ }
-    ensures { λ r. ⌜ WroteAt (line (refused number place)) (now (out .entry)) at r (now (out .exit)) ⌝ }
+    requires { ⌜ at + length (line (refusalText number place)) ≤ length (now out) ⌝ }
+    ensures { λ r. ⌜ WroteAt (line (refusalText number place)) (now (out .entry)) at r (now (out .exit)) ⌝ }
 {
     let o = say_refused(number, place, out, at);
     out[o] = 10;

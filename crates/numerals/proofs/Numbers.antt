@@ -15,7 +15,8 @@ use Rattle.rules.specs.Decimal.{minus}
 use Rattle.rules.specs.Record.{size, nineDigits}
 use Rattle.laws.specs.Separators.{and-left, and-right}
 use Rattle.text.specs.Writing.{Wrote, WroteAt}
-use Rattle.writelaws.specs.Writing.{digits, spelling, listing}
+use Rattle.rules.specs.Numerals.{digits}
+use Rattle.rules.specs.Write.{spelling, listing}
 use Rattle.numerals.specs.Parts.{Room, rest, numbered}
 use Rattle.numerals.proofs.Putting.{room-as, as-written, first-room, then-room, both-written}
 
@@ -40,29 +41,29 @@ nine-less x e h = omega (arith, leb-true (size x) 999999999 h)
 
 module _ (x : ℤ) {m : ℕ} (e : m ≡ size x) {dst : Bytes} {at : ℕ} (h : Room (spelling x) at dst) where
   module _ (s : minus x ≡ true) where
-    signed-is : spelling x ≡ (45 ∷ []) ++ digits 8 m
+    signed-is : spelling x ≡ (45 ∷ []) ++ digits m
     unfolding spelling ascii
     signed-is = rw (s, e)
 
     pub sign-room : Room (45 ∷ []) at dst
-    sign-room = first-room (45 ∷ []) (digits 8 m) (room-as (sym signed-is) h)
+    sign-room = first-room (45 ∷ []) (digits m) (room-as (sym signed-is) h)
 
     module _ {r : ℕ} {last : Bytes} (w : WroteAt (45 ∷ []) dst at r last) where
-      pub after-sign : Room (digits 8 m) r last
-      after-sign = then-room (45 ∷ []) (digits 8 m) (room-as (sym signed-is) h) w
+      pub after-sign : Room (digits m) r last
+      after-sign = then-room (45 ∷ []) (digits m) (room-as (sym signed-is) h) w
 
-      pub signed-written : {r′ : ℕ} {last′ : Bytes} → WroteAt (digits 8 m) last r r′ last′ → WroteAt (spelling x) dst at r′ last′
-      signed-written v = as-written signed-is (both-written (45 ∷ []) (digits 8 m) (room-as (sym signed-is) h) w v)
+      pub signed-written : {r′ : ℕ} {last′ : Bytes} → WroteAt (digits m) last r r′ last′ → WroteAt (spelling x) dst at r′ last′
+      signed-written v = as-written signed-is (both-written (45 ∷ []) (digits m) (room-as (sym signed-is) h) w v)
 
   module _ (s : minus x ≡ false) where
-    plain-is : spelling x ≡ digits 8 m
+    plain-is : spelling x ≡ digits m
     unfolding spelling
     plain-is = rw (s, e)
 
-    pub plain-room : Room (digits 8 m) at dst
+    pub plain-room : Room (digits m) at dst
     plain-room = room-as (sym plain-is) h
 
-    pub plain-written : {r : ℕ} {last : Bytes} → WroteAt (digits 8 m) dst at r last → WroteAt (spelling x) dst at r last
+    pub plain-written : {r : ℕ} {last : Bytes} → WroteAt (digits m) dst at r last → WroteAt (spelling x) dst at r last
     plain-written w = as-written plain-is w
 
 -- ---- after a comma

@@ -1,10 +1,9 @@
 -- Texts one after the other: the laws that every function that writes goes by; and the digits of a number.
-use mathlib.Core.Path.{_≡_, refl, sym}
+use mathlib.Core.Path.{_≡_, sym}
 use mathlib.Core.List.{[], _∷_, _++_}
 use Prim.Native.Nat.{ℕ, zero, suc, _+_, _-_, _/_, _%_, _^_, _≤_, _<_}
 use native.Mathlib.Nat.{div-lt-iff-lt-mul, pow-suc, mod-lt}
 use native.Mathlib.Omega.{arith}
-use borrow.Author.Tests.{lt-ltb, le-ltb}
 use lib.ListN.{length, set, length-append}
 use lib.Dec.{lit≤}
 use Rattle.rules.specs.Text.{Bytes}
@@ -12,7 +11,8 @@ use Rattle.text.specs.Writing.{WroteAt}
 use Rattle.text.proofs.Writing.{sofar-at, sofar-byte, sofar-end}
 use Rattle.text.proofs.Placing.{wrote-nothing, wrote-both, wrote-length}
 use Rattle.numerals.specs.Parts.{Room}
-use Rattle.writelaws.specs.Writing.{digits}
+use Rattle.rules.specs.Numerals.{digits}
+use Rattle.laws.specs.Numerals.{digits-one, digits-more}
 
 -- ---- one after the other
 
@@ -49,11 +49,6 @@ kept h w = wrote-length (h .fits) w .1
 
 -- ---- digits
 
-pub digits-one : (k n : ℕ) → n < 10 → digits k n ≡ (48 + n) ∷ []
-unfolding digits
-digits-one zero n h = refl
-digits-one (suc k) n h = rw (lt-ltb n 10 h)
-
 pub some-more : (k n : ℕ) → 10 ≤ n → n < 10 ^ suc k → 1 ≤ k
 some-more zero n h l = absurd (none h l)
   where
@@ -61,45 +56,34 @@ some-more zero n h l = absurd (none h l)
     none h l = omega arith
 some-more (suc k) n h l = omega arith
 
-pub digits-more : (k n : ℕ) → 10 ≤ n → 1 ≤ k → digits k n ≡ digits (k - 1) (n / 10) ++ ((48 + n % 10) ∷ [])
-unfolding digits
-digits-more zero n h l = absurd (none l)
-  where
-    none : 1 ≤ 0 → ⊥
-    none l = omega arith
-digits-more (suc k) n h l = let e : suc k - 1 ≡ k = omega arith in rw (le-ltb n 10 h, e)
-
 pub digits-less : (k n : ℕ) → 1 ≤ k → n < 10 ^ suc k → n / 10 < 10 ^ suc (k - 1)
 digits-less k n l h =
     let e : suc (k - 1) ≡ k = omega arith in
     rw e (div-lt-iff-lt-mul {k = 10} {x = n} {y = 10 ^ k} (lit≤ tt) .1 (rw (pow-suc 10 k) at h))
 
-module _ (k n : ℕ) {dst : Bytes} {at : ℕ} (h : Room (digits k n) at dst) where
+module _ (n : ℕ) {dst : Bytes} {at : ℕ} (h : Room (digits n) at dst) where
   -- one digit
   module _ (l : n < 10) where
     pub one-room : Room ((48 + n) ∷ []) at dst
-    one-room = room-as (sym (digits-one k n l)) h
+    one-room = room-as (sym (digits-one n l)) h
 
-    pub one-written : {r : ℕ} {last : Bytes} → WroteAt ((48 + n) ∷ []) dst at r last → WroteAt (digits k n) dst at r last
-    one-written w = as-written (digits-one k n l) w
+    pub one-written : {r : ℕ} {last : Bytes} → WroteAt ((48 + n) ∷ []) dst at r last → WroteAt (digits n) dst at r last
+    one-written w = as-written (digits-one n l) w
 
   -- several: those before the last, and the last
-  module _ (l : 10 ≤ n) (b : n < 10 ^ suc k) where
-    split-digits : digits k n ≡ digits (k - 1) (n / 10) ++ ((48 + n % 10) ∷ [])
-    split-digits = digits-more k n l (some-more k n l b)
+  module _ (l : 10 ≤ n) where
+    split-room : Room (digits (n / 10) ++ ((48 + n % 10) ∷ [])) at dst
+    split-room = room-as (sym (digits-more n l)) h
 
-    split-room : Room (digits (k - 1) (n / 10) ++ ((48 + n % 10) ∷ [])) at dst
-    split-room = room-as (sym split-digits) h
+    pub more-room : Room (digits (n / 10)) at dst
+    more-room = first-room (digits (n / 10)) ((48 + n % 10) ∷ []) split-room
 
-    pub more-room : Room (digits (k - 1) (n / 10)) at dst
-    more-room = first-room (digits (k - 1) (n / 10)) ((48 + n % 10) ∷ []) split-room
-
-    module _ {r : ℕ} {last : Bytes} (w : WroteAt (digits (k - 1) (n / 10)) dst at r last) where
+    module _ {r : ℕ} {last : Bytes} (w : WroteAt (digits (n / 10)) dst at r last) where
       pub last-room : Room ((48 + n % 10) ∷ []) r last
-      last-room = then-room (digits (k - 1) (n / 10)) ((48 + n % 10) ∷ []) split-room w
+      last-room = then-room (digits (n / 10)) ((48 + n % 10) ∷ []) split-room w
 
-      pub more-written : {r′ : ℕ} {last′ : Bytes} → WroteAt ((48 + n % 10) ∷ []) last r r′ last′ → WroteAt (digits k n) dst at r′ last′
-      more-written v = as-written split-digits (both-written (digits (k - 1) (n / 10)) ((48 + n % 10) ∷ []) split-room w v)
+      pub more-written : {r′ : ℕ} {last′ : Bytes} → WroteAt ((48 + n % 10) ∷ []) last r r′ last′ → WroteAt (digits n) dst at r′ last′
+      more-written v = as-written (digits-more n l) (both-written (digits (n / 10)) ((48 + n % 10) ∷ []) split-room w v)
 
 pub ten-fits : (n : ℕ) → 48 + n % 10 < 58
 ten-fits n = omega (arith, mod-lt n {m = 10} (lit≤ tt))

@@ -5,7 +5,7 @@ use mathlib.Core.List.{List, [], _∷_, _++_}
 use lib.IntN.{ℤ}
 use lib.ListN.{length}
 use Rattle.rules.specs.Text.{Bytes}
-use Rattle.writelaws.specs.Writing.{spelling}
+use Rattle.rules.specs.Write.{spelling}
 
 -- there is room for a text from a place on
 pub record Room (text : Bytes) (at : ℕ) (dst : Bytes) : Type 0 where

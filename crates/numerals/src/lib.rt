@@ -11,7 +11,8 @@ ghost use lib.IntN.{pos};
 ghost use Rattle.rules.specs.Lists.{allOf};
 ghost use Rattle.rules.specs.Record.{nineDigits};
 ghost use Rattle.text.specs.Writing.{WroteAt};
-ghost use Rattle.writelaws.specs.Writing.{digits, spelling, listing};
+ghost use Rattle.rules.specs.Numerals.{digits};
+ghost use Rattle.rules.specs.Write.{spelling, listing};
 ghost use Rattle.numerals.specs.Parts.{Room, numbered};
 
 // Puts one byte at o.
@@ -26,8 +27,8 @@ pub fn put_byte(b: u8, out: &mut [u8], o: usize) -> usize
 // The digits of n, which has at most `more` and one.
 pub fn digits(more: usize, n: usize, out: &mut [u8], o: usize) -> usize
     requires { ⌜ n < 10 ^ suc more ⌝ }
-    requires { ⌜ Room (digits more n) o (now out) ⌝ }
-    ensures { λ r. ⌜ WroteAt (digits more n) (now (out .entry)) o r (now (out .exit)) ⌝ }
+    requires { ⌜ Room (digits n) o (now out) ⌝ }
+    ensures { λ r. ⌜ WroteAt (digits n) (now (out .entry)) o r (now (out .exit)) ⌝ }
 {
     if n < 10 {
         return put_byte(48 + n as u8, out, o);

@@ -7,11 +7,11 @@ use native.Mathlib.Omega.{arith}
 use lib.ListN.{length, take, length-append}
 use lib.Seq.{take-at}
 use Rattle.rules.specs.Text.{Bytes, inDomain}
-use Rattle.rules.specs.Refusal.{Writes}
+use Rattle.rules.specs.Refusal.{Writes, Lends}
 use Rattle.rules.specs.Normal.{normal}
 use Rattle.rules.specs.Parameters.{parametersOf, parameters}
 use Rattle.rules.specs.declared.Written.{Written}
-use Rattle.laws.specs.Entry.{Lends, lends-so}
+use Rattle.laws.specs.Entry.{lends-so}
 use Rattle.laws.specs.Sizes.{normal-length}
 use Rattle.text.specs.Writing.{Wrote, Holds}
 use Rattle.elements.proofs.Behind.{spelled, front}

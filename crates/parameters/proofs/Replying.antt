@@ -10,12 +10,12 @@ use lib.Seq.{length-take-le}
 use Rattle.rules.specs.Ascii.{is}
 use Rattle.rules.specs.Lists.{allOf, anyOf, nonEmpty}
 use Rattle.rules.specs.Text.{Bytes, white, words}
-use Rattle.rules.specs.Refusal.{Reply, answers, andThen}
+use Rattle.rules.specs.Refusal.{Reply, answers, andThen, Lends}
 use Rattle.rules.specs.Split.{modifier, onlyModifiers, leading, following, turned}
 use Rattle.rules.specs.Parameters.{Parameter, elements, name, entered, enteredAll, tableOf, stepTable, textTable, parameterLine}
 use Rattle.rules.specs.declared.Written.{Written}
 use Rattle.rules.specs.declared.Written.the-variants as variant
-use Rattle.laws.specs.Entry.{Lends, lends-refusal, lends-no-room, lends-text}
+use Rattle.laws.specs.Entry.{lends-refusal, lends-no-room, lends-text}
 use Rattle.walk.specs.Runs.{Run}
 use Rattle.walk.proofs.Walking.{other, words-none, words-blank}
 use Rattle.text.specs.Writing.{Wrote}

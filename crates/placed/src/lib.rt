@@ -10,7 +10,7 @@ ghost use Prim.Native.Nat.{_+_, _≤_};
 ghost use lib.ListN.{length};
 ghost use Rattle.rules.specs.Ascii.{ascii};
 ghost use Rattle.text.specs.Writing.{WroteAt};
-ghost use Rattle.placed.specs.Places.{signed, pair, fourPlaces};
+ghost use Rattle.rules.specs.Shown.{signedPlace, twoPlaces, fourPlaces};
 
 // An axis, as a size.
 fn wide_axis(x: u32) -> usize
@@ -34,8 +34,8 @@ fn say_marked(word: &[u8], minus: bool, out: &mut [u8], at: usize) -> usize
 
 // A place with its sign, behind a word.
 fn say_signed(word: &[u8], p: Place, out: &mut [u8], at: usize) -> usize
-    requires { ⌜ at + length (signed (now word) p) ≤ length (now out) ⌝ }
-    ensures { λ r. ⌜ WroteAt (signed (now (word .entry)) p) (now (out .entry)) at r (now (out .exit)) ⌝ }
+    requires { ⌜ at + length (signedPlace (now word) p) ≤ length (now out) ⌝ }
+    ensures { λ r. ⌜ WroteAt (signedPlace (now (word .entry)) p) (now (out .entry)) at r (now (out .exit)) ⌝ }
 {
     let n = wide_axis(p.axis);
     let o = say_marked(word, p.minus, out, at);
@@ -44,8 +44,8 @@ fn say_signed(word: &[u8], p: Place, out: &mut [u8], at: usize) -> usize
 
 // Two places, and four.
 fn say_pair(word: &[u8], p: Place, q: Place, out: &mut [u8], at: usize) -> usize
-    requires { ⌜ at + length (pair (now word) p q) ≤ length (now out) ⌝ }
-    ensures { λ r. ⌜ WroteAt (pair (now (word .entry)) p q) (now (out .entry)) at r (now (out .exit)) ⌝ }
+    requires { ⌜ at + length (twoPlaces (now word) p q) ≤ length (now out) ⌝ }
+    ensures { λ r. ⌜ WroteAt (twoPlaces (now (word .entry)) p q) (now (out .entry)) at r (now (out .exit)) ⌝ }
 {
     let o = say_signed(word, p, out, at);
     say_signed(b",", q, out, o)

@@ -9,10 +9,10 @@ use Rattle.rules.specs.declared.Step.{Step}
 use Rattle.rules.specs.declared.Direction.{Direction}
 use Rattle.rules.specs.declared.Foretold.{Foretold}
 use Rattle.rules.specs.declared.Ran.{Ran}
-use Rattle.plain.specs.declared.Said.{Said}
-use Rattle.plain.specs.declared.Checked.{Checked}
-use Rattle.plain.specs.declared.Done.{Done}
-use Rattle.plain.specs.Replies.{directionOf, plainVerdict, plainCheck, PlainChecks, plainRun, plainOutcome, PlainRuns}
+use Rattle.rules.specs.declared.Said.{Said}
+use Rattle.rules.specs.declared.Checked.{Checked}
+use Rattle.rules.specs.declared.Done.{Done}
+use Rattle.rules.specs.Plain.{directionOf, plainVerdict, plainCheck, PlainChecks, plainRan, plainOutcome, PlainRuns}
 
 pub check-plain : (f : Foretold) {v : Said} → v ≡ plainVerdict (f .verdict)
     → _≡_ {A = Checked} (record { said = v; run = f .run; depths = f .depths; deepest = f .deepest; left = f .left; told = f .told; places = f .places }) (plainCheck f)
@@ -24,7 +24,7 @@ pub checks-plain : {inverse : ℕ} {t : List Step} {d : Direction} {f : Foretold
 checks-plain {inverse} {t} g c h = record { exactly = h ∙ ap plainCheck (c .exactly ∙ ap (λ (d : Direction). check d t) g) }
 
 pub runs-plain : {inverse : ℕ} {t : List Step} {d : Direction} {xs store xs′ store′ : List Float} {r : Ran} {a : Done}
-    → d ≡ directionOf inverse → rules.Runs d t xs store r xs′ store′ → a ≡ plainRun r
+    → d ≡ directionOf inverse → rules.Runs d t xs store r xs′ store′ → a ≡ plainRan r
     → PlainRuns inverse t xs store a xs′ store′
 unfolding plainOutcome
 runs-plain {inverse} {t} {d} {xs} {store} {xs′} {store′} g c h =

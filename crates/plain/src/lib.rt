@@ -1,27 +1,22 @@
-// The answers of the public calls as plain records, which C and Rust can hold. Each function says an answer in numbers, by one
-// definition for each kind of answer.
+// The answers of the public calls as plain records, which C and Rust can hold: a function for each kind of answer, which says what its
+// definition says (crates/rules, specs/Plain.antt).
+use rules::Answer;
+use rules::Checked;
 use rules::Direction;
+use rules::Done;
 use rules::Foretold;
 use rules::Found;
-use rules::Place;
+use rules::Part;
 use rules::Prepared;
 use rules::Ran;
+use rules::Said;
 use rules::Verdict;
 use rules::Written;
 ghost use mathlib.Core.Path.{_≡_};
-ghost use Rattle.plain.specs.Replies.{plain, plainFound, plainPrepared, directionOf, plainVerdict, plainCheck, plainRun};
-
-// What a text call answers: number 0 and the length of the answer, which stands at the front of the lent buffer; or the
-// refusal's number and place, and the buffer is as it was.
-#[repr(C)]
-pub struct Answer {
-    pub number: u8,
-    pub place: usize,
-    pub length: usize,
-}
+ghost use Rattle.rules.specs.Plain.{plainWritten, plainFound, plainPrepared, directionOf, plainVerdict, plainCheck, plainRan};
 
 pub fn answered(w: Written) -> Answer
-    ensures { λ r. ⌜ r ≡ plain w ⌝ }
+    ensures { λ r. ⌜ r ≡ plainWritten w ⌝ }
 {
     match w {
         Written::Wrote(bytes) => Answer {
@@ -38,16 +33,6 @@ pub fn answered(w: Written) -> Answer
 }
 
 // ---- the walk over the steps
-
-// What a reader finds: 1 for a step, from its first byte up to the byte after its last, and the place from which to go on; 0
-// for the end, and all else is zero.
-#[repr(C)]
-pub struct Part {
-    pub found: u8,
-    pub from: usize,
-    pub to: usize,
-    pub then: usize,
-}
 
 pub fn part_of(found: Found) -> Part
     ensures { λ r. ⌜ r ≡ plainFound found ⌝ }
@@ -97,27 +82,6 @@ pub fn direction_of(inverse: u8) -> Direction
     Direction::Inverse
 }
 
-// What the check says: number 0 for a pass, 1 for a step that finds too few columns, 2 for one after which there are too
-// many, each with the step's place; or 18 and the place of the refusal.
-#[repr(C)]
-pub struct Said {
-    pub number: u8,
-    pub place: usize,
-}
-
-// What the check answers. Of a pass: how many steps run and the depth after each, the deepest, the columns left, and the
-// four places, if they are told. Everything else is zero.
-#[repr(C)]
-pub struct Checked {
-    pub said: Said,
-    pub run: usize,
-    pub depths: [usize; 64],
-    pub deepest: usize,
-    pub left: usize,
-    pub told: bool,
-    pub places: [Place; 4],
-}
-
 pub fn verdict_of(v: Verdict) -> Said
     ensures { λ r. ⌜ r ≡ plainVerdict v ⌝ }
 {
@@ -159,17 +123,8 @@ pub fn checked_of(f: Foretold) -> Checked
     }
 }
 
-// What a run answers: number 0, the success count and the columns left; or the refusal's number and place.
-#[repr(C)]
-pub struct Done {
-    pub number: u8,
-    pub place: usize,
-    pub count: usize,
-    pub left: usize,
-}
-
 pub fn ended(ran: Ran) -> Done
-    ensures { λ r. ⌜ r ≡ plainRun ran ⌝ }
+    ensures { λ r. ⌜ r ≡ plainRan ran ⌝ }
 {
     match ran {
         Ran::Done { count, left } => Done {

@@ -11,12 +11,12 @@ use lib.Dec.{eqb, ltb, leb}
 use Rattle.rules.specs.Ascii.{ascii, is}
 use Rattle.rules.specs.Lists.{anyOf}
 use Rattle.rules.specs.Text.{Bytes, Steps, starts, contains, words, inDomain}
-use Rattle.rules.specs.Refusal.{answers, Writes}
+use Rattle.rules.specs.Refusal.{answers, Writes, Lends}
 use Rattle.rules.specs.Proj.{projSteps}
 use Rattle.rules.specs.Translate.{Pipeline, pipeline, translation, translated, translate}
 use Rattle.rules.specs.declared.Written.{Written}
 use Rattle.rules.specs.declared.Written.the-variants as variant
-use Rattle.laws.specs.Entry.{Lends, lends-refusal, lends-no-room, lends-text, lends-so}
+use Rattle.laws.specs.Entry.{lends-refusal, lends-no-room, lends-text, lends-so}
 use Rattle.laws.specs.Sizes.{proj-length}
 use Rattle.text.specs.Writing.{Wrote, Holds}
 use Rattle.text.specs.Places.{ahead}

@@ -1,5 +1,5 @@
--- Document 01's examples, input beside outcome: P1 to P13 in one table, the line below them in a second. That every row
--- of both holds is the one statement of specs/ExamplesHold.antt.
+-- Document 01's examples, input beside outcome: P1 to P13 in one table, the line below them in a second, what the program `steps`
+-- prints in a third, what `write` answers in a fourth. That every row of them holds is the one statement of specs/ExamplesHold.antt.
 use mathlib.Core.Path.{_≡_}
 use Prim.Native.Nat.{ℕ}
 use Prim.Native.String.{String}
@@ -12,17 +12,20 @@ use Rattle.rules.specs.Ascii.{ascii}
 use Rattle.rules.specs.Text.{Bytes}
 use Rattle.rules.specs.Refusal.{Reply, answers, refuses, tested}
 use Rattle.rules.specs.Normal.{normalise}
-use Rattle.rules.specs.Split.{split}
+use Rattle.rules.specs.Split.{line, split}
 use Rattle.rules.specs.Parameters.{parameters}
 use Rattle.rules.specs.Translate.{translate}
 use Rattle.rules.specs.Decimal.{signed}
 use Rattle.rules.specs.Prepare.{prepare}
 use Rattle.rules.specs.Run.{Outcome, runs}
 use Rattle.rules.specs.Check.{check}
+use Rattle.rules.specs.Write.{write}
+use Rattle.rules.specs.Shown.{shown}
 use Rattle.rules.specs.declared.Step.{Step}
 use Rattle.rules.specs.declared.Direction.{Direction}
 use Rattle.rules.specs.declared.Direction.the-variants.{Forward, Inverse}
 use Rattle.rules.specs.declared.Verdict.{Verdict}
+use Rattle.rules.specs.declared.Foretold.{Foretold}
 use Rattle.rules.specs.declared.Verdict.the-variants.{Passes, TooFew, TooMany}
 
 -- a row: its mark, what is asked, and the outcome
@@ -90,8 +93,8 @@ examples =
 abbrev pub sixtyFour : Bytes
 sixtyFour = flatMap (λ (i : ℕ). ascii "stack push=1,2,3,4,1,2,3,4|") (replicate 8 0)
 
-unfoldable pub deep : Bytes → Verdict
-deep text = check Forward (records (tested prepare text)) .verdict
+unfoldable pub deep : Bytes → Foretold
+deep text = check Forward (records (tested prepare text))
 
 -- the line "Also" below the table
 unfoldable pub also : List Example
@@ -109,10 +112,81 @@ also =
     ∷ says "`-0` do not" (on prepare "axisswap order=-0") (refuses 14 1)
     ∷ says "eight arguments pass" (refusal (on prepare "stack push=1,2,3,4,1,2,3,4")) 0
     ∷ says "nine do not" (on prepare "stack push=1,2,3,4,1,2,3,4,1") (refuses 13 1)
-    ∷ says "depth 64 passes" (deep sixtyFour) Passes
-    ∷ says "65 does not" (deep (sixtyFour ++ ascii "push v_1")) (TooMany 9)
+    ∷ says "depth 64 passes" (deep sixtyFour .verdict) Passes
+    ∷ says "and 64 is the deepest there" (deep sixtyFour .deepest) 64
+    ∷ says "65 does not" (deep (sixtyFour ++ ascii "push v_1") .verdict) (TooMany 9)
     ∷ says "adapt" (ran Forward "adapt from=nwuf" oneToFour [] .list) (floats (pos 2 ∷ minus1 ∷ pos 3 ∷ pos 4 ∷ []))
     ∷ says "a slip" (on prepare "push | :inv") (refuses 6 2)
+    ∷ []
+
+-- ---- the program `steps`: what is read, and the lines that are printed, "each line ended by a newline"
+
+unfoldable pub prints : String → List String → Example
+prints text lines = says "steps" (shown (ascii text)) (flatMap (λ (l : String). line (ascii l)) lines)
+
+unfoldable pub printed : List Example
+printed =
+    prints "+proj=pipeline +step +proj=push +v_3 +step +proj=axisswap +order=2,1 +step +proj=pop +v_3" (
+    "translated: push v_3 | axisswap order=2,1 | pop v_3"
+    ∷ "step 1: push v_3"
+    ∷ "step 2: axisswap order=2,1"
+    ∷ "step 3: pop v_3"
+    ∷ "forward: deepest 1 left 0 places 2,1,3,4"
+    ∷ "inverse: deepest 1 left 0 places 2,1,3,4"
+    ∷ []
+    )
+    ∷ prints "" (
+    "translated: "
+    ∷ "forward: deepest 0 left 0 places 1,2,3,4"
+    ∷ "inverse: deepest 0 left 0 places 1,2,3,4"
+    ∷ []
+    )
+    ∷ prints "pop inv v_3 | push inv v_3" (
+    "translated: pop inv v_3 | push inv v_3"
+    ∷ "step 1: pop inv v_3"
+    ∷ "step 2: push inv v_3"
+    ∷ "forward: step 1 too few"
+    ∷ "inverse: step 2 too few"
+    ∷ []
+    )
+    ∷ prints "adapt from=nwuf | axisswap order=2,-1 omit_fwd" (
+    "translated: adapt from=nwuf | axisswap order=2,-1 omit_fwd"
+    ∷ "step 1: adapt from=nwuf"
+    ∷ "step 2: axisswap order=2,-1 omit_fwd"
+    ∷ "forward: deepest 0 left 0"
+    ∷ "inverse: deepest 0 left 0"
+    ∷ []
+    )
+    ∷ prints "adapt from=nwuf omit_inv | axisswap order=2,-1" (
+    "translated: adapt from=nwuf omit_inv | axisswap order=2,-1"
+    ∷ "step 1: adapt from=nwuf omit_inv"
+    ∷ "step 2: axisswap order=2,-1"
+    ∷ "forward: deepest 0 left 0"
+    ∷ "inverse: deepest 0 left 0 places -2,1,3,4"
+    ∷ []
+    )
+    ∷ prints "push v_1 | inv" ("translated: push v_1 | inv" ∷ "refused 6 2" ∷ [])
+    ∷ prints "push v_1 | :inv" ("translated: push v_1 | :inv" ∷ "step 1: push v_1" ∷ "step 2: :inv" ∷ "refused 6 2" ∷ [])
+    ∷ prints "proj=x step inv" ("refused 5 2" ∷ [])
+    ∷ []
+
+-- ---- the call `write`: a text, and the one that the records it prepares to are written as
+
+unfoldable pub rewrites : String → String → Example
+rewrites text again = says "write" (write (records (on prepare text))) (answers (ascii again))
+
+unfoldable pub rewritten : List Example
+rewritten =
+    rewrites "push" "push"
+    ∷ rewrites "inv pop v_3 v_1 omit_inv" "pop v_1 v_3 inv omit_inv"
+    ∷ rewrites "> stack push=1,02,3.0" "stack push=1,2,3 omit_inv"
+    ∷ rewrites "stack roll=999999999,-10 inv" "stack roll=999999999,-10 inv"
+    ∷ rewrites "stack unroll=1,-0 | stack drop" "stack unroll=1,0 | stack drop"
+    ∷ rewrites "axisswap" "axisswap order=1,2,3,4"
+    ∷ rewrites "axisswap order=2,-1 omit_fwd" "axisswap order=2,-1 omit_fwd"
+    ∷ rewrites "adapt from=nwuf" "adapt from=enuf to=nwuf"
+    ∷ rewrites "adapt from=neuf_deg to=pass" "adapt from=enuf_deg to=neuf"
+    ∷ rewrites "adapt from=wsdp_gon to=pden_deg" "adapt from=enuf_gon to=fuws_deg"
     ∷ []
 
 -- ---- the statement

@@ -1,9 +1,14 @@
--- Document 01's examples hold: one statement over the two tables of specs/Examples.antt, proved by computation.
+-- Document 01's examples hold: one statement over the tables of specs/Examples.antt, proved by computation. A line of the proof is a
+-- table's, and its n-th `refl` is that of row n.
 use mathlib.Core.Path.{refl}
-use mathlib.Core.List.{_++_}
 use Rattle.rules.specs.Opened.{opened}
-use Rattle.rules.specs.Examples.{examples, also, AllHold}
+use Rattle.rules.specs.Examples.{examples, also, printed, rewritten, AllHold}
 
-pub examples-hold : AllHold (examples ++ also)
+pub examples-hold : AllHold examples × AllHold also × AllHold printed × AllHold rewritten
 unfolding opened
-examples-hold = (refl, (refl, (refl, (refl, (refl, (refl, (refl, (refl, (refl, (refl, (refl, (refl, (refl, (refl, (refl, (refl, (refl, (refl, (refl, (refl, (refl, (refl, (refl, (refl, (refl, (refl, (refl, (refl, (refl, (refl, (refl, (refl, (refl, tt)))))))))))))))))))))))))))))))))
+examples-hold = (
+  (refl, (refl, (refl, (refl, (refl, (refl, (refl, (refl, (refl, (refl, (refl, (refl, (refl, (refl, (refl, (refl, tt)))))))))))))))),
+  (refl, (refl, (refl, (refl, (refl, (refl, (refl, (refl, (refl, (refl, (refl, (refl, (refl, (refl, (refl, (refl, (refl, (refl, tt)))))))))))))))))),
+  (refl, (refl, (refl, (refl, (refl, (refl, (refl, (refl, tt)))))))),
+  (refl, (refl, (refl, (refl, (refl, (refl, (refl, (refl, (refl, (refl, tt)))))))))),
+)

@@ -12,6 +12,7 @@ pub mod Parameters
 pub mod Proj
 pub mod Translate
 pub mod Decimal
+pub mod Numerals
 pub mod Record
 pub mod Adapt
 pub mod Keys
@@ -23,6 +24,9 @@ pub mod Columns
 pub mod Tuples
 pub mod Run
 pub mod Check
+pub mod Write
+pub mod Shown
+pub mod Plain
 pub mod Examples
 pub mod Opened
 pub mod ExamplesHold

@@ -62,3 +62,7 @@ prepared (refuses number place) = prepared-is.Refused number place
 -- what a text call promises, by its own rule
 abbrev pub Writes : (Bytes → Reply Bytes) → Bytes → Bytes → Written → Bytes → Type 0
 Writes own text buffer result buffer′ = Promised written own text buffer result buffer′
+
+-- what a call that reads no text promises: its reply, brought into the lent buffer
+pub record Lends (reply : Reply Bytes) (buffer : Bytes) (result : Written) (buffer′ : Bytes) : Type 0 where
+  pub exactly : _≡_ {A = Written × Bytes} (result, buffer′) (lent written reply buffer)

@@ -107,3 +107,54 @@ pub enum Ran {
     Done { count: usize, left: usize },
     Refused { number: u8, place: usize },
 }
+
+// ---- the same answers as plain records, which C and Rust can hold (specs/Plain.antt says what each holds)
+
+// What a text call answers: number 0 and the length of the answer, which stands at the front of the lent buffer; or the
+// refusal's number and place, and the buffer is as it was. Of preparing: number 0 and how many records there are.
+#[repr(C)]
+pub struct Answer {
+    pub number: u8,
+    pub place: usize,
+    pub length: usize,
+}
+
+// What a reader finds: 1 for a step, from its first byte up to the byte after its last, and the place from which to go on; 0
+// for the end, and all else is zero.
+#[repr(C)]
+pub struct Part {
+    pub found: u8,
+    pub from: usize,
+    pub to: usize,
+    pub then: usize,
+}
+
+// What the check says: number 0 for a pass, 1 for a step that finds too few columns, 2 for one after which there are too
+// many, each with the step's place; or 18 and the place of the refusal.
+#[repr(C)]
+pub struct Said {
+    pub number: u8,
+    pub place: usize,
+}
+
+// What the check answers. Of a pass: how many steps run and the depth after each, the deepest, the columns left, and the
+// four places, if they are told. Everything else is zero.
+#[repr(C)]
+pub struct Checked {
+    pub said: Said,
+    pub run: usize,
+    pub depths: [usize; 64],
+    pub deepest: usize,
+    pub left: usize,
+    pub told: bool,
+    pub places: [Place; 4],
+}
+
+// What a run answers: number 0, the success count and the columns left; or the refusal's number and place.
+#[repr(C)]
+pub struct Done {
+    pub number: u8,
+    pub place: usize,
+    pub count: usize,
+    pub left: usize,
+}

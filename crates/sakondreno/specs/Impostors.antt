@@ -24,11 +24,11 @@ use Rattle.rules.specs.Record.{blank}
 use Rattle.rules.specs.Examples.{on, records, oneToFour}
 use Rattle.rules.specs.Opened.{opened}
 use Rattle.rules.specs.declared.Step.{Step}
-use Rattle.plain.specs.declared.Answer.{Answer}
-use Rattle.plain.specs.declared.Part.{Part}
-use Rattle.plain.specs.declared.Checked.{Checked}
-use Rattle.plain.specs.declared.Done.{Done}
-use Rattle.plain.specs.Replies.{plain, replied, plainFound, plainPrepared, recorded, directionOf, plainVerdict, plainCheck, PlainChecks, plainRun, Outcome, plainOutcome, PlainRuns}
+use Rattle.rules.specs.declared.Answer.{Answer}
+use Rattle.rules.specs.declared.Part.{Part}
+use Rattle.rules.specs.declared.Checked.{Checked}
+use Rattle.rules.specs.declared.Done.{Done}
+use Rattle.rules.specs.Plain.{plainWritten, replied, plainFound, plainPrepared, recordCount, directionOf, plainVerdict, plainCheck, PlainChecks, plainRan, PlainOutcome, plainOutcome, PlainRuns}
 
 no : {k : ℕ} → 0 ≡ suc k → ⊥
 no z = omega arith
@@ -70,15 +70,15 @@ first [] = 0
 first (x ∷ t) = x
 
 pub tells-normalise : Telling replied normalise
-unfolding opened plain first
+unfolding opened plainWritten first
 tells-normalise = record { nothing = refl; text = ascii "a"; storage = 0 ∷ []; more = 0; after = ascii "a"; something = refl; altered = λ e. no (ap first e) }
 
 pub tells-split : Telling replied split
-unfolding opened plain first
+unfolding opened plainWritten first
 tells-split = record { nothing = refl; text = ascii "a"; storage = 0 ∷ 0 ∷ []; more = 1; after = ascii "a\n"; something = refl; altered = λ e. no (ap first e) }
 
 pub tells-parameters : Telling replied parameters
-unfolding opened plain first
+unfolding opened plainWritten first
 tells-parameters =
     record {
       nothing = refl;
@@ -91,7 +91,7 @@ tells-parameters =
     }
 
 pub tells-translate : Telling replied translate
-unfolding opened plain first
+unfolding opened plainWritten first
 tells-translate = record { nothing = refl; text = ascii "a"; storage = 0 ∷ []; more = 0; after = ascii "a"; something = refl; altered = λ e. no (ap first e) }
 
 -- of preparing: a record that stands there before is another one afterwards
@@ -99,7 +99,7 @@ operatorOfFirst : List Step → ℕ
 operatorOfFirst [] = 0
 operatorOfFirst (s ∷ l) = s .operator
 
-pub tells-prepare : Telling recorded prepare
+pub tells-prepare : Telling recordCount prepare
 unfolding opened plainPrepared operatorOfFirst
 tells-prepare =
     record {
@@ -164,7 +164,7 @@ invented-depth depth answer invented meets =
 -- ---- the run
 
 abbrev pub Runner : Type 0
-Runner = ℕ → List Step → List Float → List Float → Outcome
+Runner = ℕ → List Step → List Float → List Float → PlainOutcome
 
 abbrev pub MeetsRun : Runner → Type 0
 MeetsRun program =
@@ -179,21 +179,21 @@ isOne (x ∷ l) = eq x (ofInt binary64 (pos 1))
 -- Refusing everything, with any number but 0
 pub refusing-every-run : (number place : ℕ → List Step → List Float → List Float → ℕ) → ((inverse : ℕ) (t : List Step) (xs store : List Float) → number inverse t xs store ≡ 0 → ⊥)
     → MeetsRun (λ inverse t xs store. record { answer = record { number = number inverse t xs store; place = place inverse t xs store; count = 0; left = 0 }; list = xs; store = store }) → ⊥
-unfolding opened directionOf plainOutcome plainRun
-refusing-every-run number place positive meets = positive 0 [] [] [] (ap (λ (x : Outcome). x .answer .number) (meets 0 [] [] [] .exactly))
+unfolding opened directionOf plainOutcome plainRan
+refusing-every-run number place positive meets = positive 0 [] [] [] (ap (λ (x : PlainOutcome). x .answer .number) (meets 0 [] [] [] .exactly))
 
 -- One fixed answer, whatever is left
 pub one-fixed-run : (answer : Done) (list store′ : ℕ → List Step → List Float → List Float → List Float)
     → MeetsRun (λ inverse t xs store. record { answer = answer; list = list inverse t xs store; store = store′ inverse t xs store }) → ⊥
-unfolding opened directionOf plainOutcome plainRun
+unfolding opened directionOf plainOutcome plainRan
 one-fixed-run answer list store′ meets =
-    no (sym (ap (λ (x : Outcome). x .answer .count) (meets 0 [] [] [] .exactly)) ∙ ap (λ (x : Outcome). x .answer .count) (meets 0 [] oneToFour [] .exactly))
+    no (sym (ap (λ (x : PlainOutcome). x .answer .count) (meets 0 [] [] [] .exactly)) ∙ ap (λ (x : PlainOutcome). x .answer .count) (meets 0 [] oneToFour [] .exactly))
 
 -- Doing nothing, whatever is answered
 pub nothing-run : (answer : ℕ → List Step → List Float → List Float → Done) (store′ : ℕ → List Step → List Float → List Float → List Float)
     → MeetsRun (λ inverse t xs store. record { answer = answer inverse t xs store; list = xs; store = store′ inverse t xs store }) → ⊥
-unfolding opened directionOf plainOutcome plainRun isOne
-nothing-run answer store′ meets = false≢true (sym (ap (λ (x : Outcome). isOne (x .list)) (meets 0 (table (ascii "axisswap order=2,1")) oneToFour [] .exactly)))
+unfolding opened directionOf plainOutcome plainRan isOne
+nothing-run answer store′ meets = false≢true (sym (ap (λ (x : PlainOutcome). isOne (x .list)) (meets 0 (table (ascii "axisswap order=2,1")) oneToFour [] .exactly)))
 
 -- The first step and feigning the rest: answer and store as in truth
 pub first-step-run : (answer : ℕ → List Step → List Float → List Float → Done) (store′ : ℕ → List Step → List Float → List Float → List Float)
@@ -202,17 +202,17 @@ pub first-step-run : (answer : ℕ → List Step → List Float → List Float �
       list = runs (directionOf inverse) (take 1 t) xs store .list;
       store = store′ inverse t xs store;
     }) → ⊥
-unfolding opened directionOf plainOutcome plainRun isOne
+unfolding opened directionOf plainOutcome plainRan isOne
 first-step-run answer store′ meets =
-    false≢true (ap (λ (x : Outcome). isOne (x .list)) (meets 0 (table (ascii "axisswap order=2,1|axisswap order=2,1")) oneToFour [] .exactly))
+    false≢true (ap (λ (x : PlainOutcome). isOne (x .list)) (meets 0 (table (ascii "axisswap order=2,1|axisswap order=2,1")) oneToFour [] .exactly))
 
 -- An invented count: told by how many numbers there are
 pub invented-count : (count : ℕ → ℕ) (program : Runner) → ((inverse : ℕ) (t : List Step) (xs store : List Float) → program inverse t xs store .answer .count ≡ count (length xs))
     → MeetsRun program → ⊥
-unfolding opened directionOf plainOutcome plainRun
+unfolding opened directionOf plainOutcome plainRan
 invented-count count program invented meets =
-    no (sym (ap (λ (x : Outcome). x .answer .count) (meets 0 (table (ascii "stack drop")) oneToFour [] .exactly)) ∙ invented 0 (table (ascii "stack drop")) oneToFour []
-    ∙ sym (invented 0 [] oneToFour []) ∙ ap (λ (x : Outcome). x .answer .count) (meets 0 [] oneToFour [] .exactly))
+    no (sym (ap (λ (x : PlainOutcome). x .answer .count) (meets 0 (table (ascii "stack drop")) oneToFour [] .exactly)) ∙ invented 0 (table (ascii "stack drop")) oneToFour []
+    ∙ sym (invented 0 [] oneToFour []) ∙ ap (λ (x : PlainOutcome). x .answer .count) (meets 0 [] oneToFour [] .exactly))
 
 -- ---- and three slips of the calls over a row
 
@@ -223,8 +223,8 @@ check-cut meets = no (ap (λ (x : Checked). x .said .number) (meets 0 (replicate
 
 -- The same of the run
 pub run-cut : MeetsRun (λ inverse t xs store. plainOutcome (runs (directionOf inverse) (take 64 t) xs store)) → ⊥
-unfolding opened directionOf plainOutcome plainRun
-run-cut meets = no (ap (λ (x : Outcome). x .answer .number) (meets 0 (replicate 65 blank) [] [] .exactly))
+unfolding opened directionOf plainOutcome plainRan
+run-cut meets = no (ap (λ (x : PlainOutcome). x .answer .number) (meets 0 (replicate 65 blank) [] [] .exactly))
 
 -- The direction forgotten
 pub check-forward : (answer : List Step → Checked) → MeetsCheck (λ inverse t. answer t) → ⊥

@@ -5,21 +5,21 @@ pub use entry::check;
 pub use entry::prepare;
 pub use entry::run;
 pub use parameters::parameters;
-pub use plain::Answer;
-pub use plain::Checked;
-pub use plain::Done;
-pub use plain::Part;
-pub use plain::Said;
 pub use proj::translate;
 pub use reader::Reader;
 pub use reader::next_from;
+pub use rules::Answer;
+pub use rules::Checked;
 pub use rules::Cursor;
 pub use rules::Direction;
+pub use rules::Done;
 pub use rules::Foretold;
 pub use rules::Found;
+pub use rules::Part;
 pub use rules::Place;
 pub use rules::Prepared;
 pub use rules::Ran;
+pub use rules::Said;
 pub use rules::Step;
 pub use rules::Table;
 pub use rules::Verdict;
@@ -36,7 +36,7 @@ ghost use Rattle.rules.specs.Parameters.{parameters};
 ghost use Rattle.rules.specs.Translate.{translate};
 ghost use Rattle.rules.specs.Prepare.{prepare};
 ghost use Rattle.rules.specs.Reader.{next};
-ghost use Rattle.plain.specs.Replies.{replied, plainFound, recorded, PlainChecks, PlainRuns};
+ghost use Rattle.rules.specs.Plain.{replied, plainFound, recordCount, PlainChecks, PlainRuns};
 
 // Brings a definition into its normal form.
 #[no_mangle]
@@ -86,7 +86,7 @@ pub extern "C" fn sakondreno_next(text: &[u8], at: usize) -> Part
 // refusal's number and place, and the row is as it was.
 #[no_mangle]
 pub extern "C" fn sakondreno_prepare(text: &[u8], table: &mut [Step]) -> Answer
-    ensures { λ r. ⌜ Promised recorded prepare (now (text .entry)) (now (table .entry)) r (now (table .exit)) ⌝ }
+    ensures { λ r. ⌜ Promised recordCount prepare (now (text .entry)) (now (table .entry)) r (now (table .exit)) ⌝ }
 {
     let p = entry::prepare(text, table);
     plain::counted(p)

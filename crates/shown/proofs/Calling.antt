@@ -18,9 +18,7 @@ use Rattle.rules.specs.declared.Written.{Written}
 use Rattle.rules.specs.declared.Written.the-variants as variant
 use Rattle.laws.specs.Entry.{answers-so}
 use Rattle.text.specs.Writing.{Wrote, WroteAt}
-use Rattle.numbered.specs.Numbers.{refused, headed}
-use Rattle.shown.specs.Showing.{orRefused, called, shownChecks, shownSteps, translation, shown}
-use Rattle.verdicts.specs.Verdicts.{bothChecks}
+use Rattle.rules.specs.Shown.{refusalText, headed, orRefused, called, shownChecks, shownSteps, translatedLine, shown, bothChecks}
 
 -- a piece by another name
 module _ (x y d : Bytes) (at : ℕ) (e : x ≡ y) where
@@ -92,7 +90,7 @@ called-refused {own} {t} {buf} {r} {buf′} {n} {place} e w l =
 -- ---- what is printed then
 
 module _ (t : Bytes) where
-  pub steps-refused : {n place : ℕ} → called split t ≡ refuses n place → shownSteps t ≡ line (refused n place)
+  pub steps-refused : {n place : ℕ} → called split t ≡ refuses n place → shownSteps t ≡ line (refusalText n place)
   unfolding shownSteps orRefused
   steps-refused e = rw e
 
@@ -100,15 +98,15 @@ module _ (t : Bytes) where
   unfolding shownSteps orRefused
   steps-wrote e = rw e
 
-  pub text-refused : {n place : ℕ} → called translate t ≡ refuses n place → shown t ≡ line (refused n place)
+  pub text-refused : {n place : ℕ} → called translate t ≡ refuses n place → shown t ≡ line (refusalText n place)
   unfolding shown orRefused
   text-refused e = rw e
 
-  pub text-wrote : {u : Bytes} → called translate t ≡ answers u → shown t ≡ translation u ++ shownSteps u
+  pub text-wrote : {u : Bytes} → called translate t ≡ answers u → shown t ≡ translatedLine u ++ shownSteps u
   unfolding shown orRefused
   text-wrote e = rw e
 
-  pub checks-refused : {n place : ℕ} → tested prepare t ≡ refuses n place → shownChecks t ≡ line (refused n place)
+  pub checks-refused : {n place : ℕ} → tested prepare t ≡ refuses n place → shownChecks t ≡ line (refusalText n place)
   unfolding shownChecks orRefused
   checks-refused e = rw e
 

@@ -22,10 +22,8 @@ use Rattle.rules.specs.declared.Direction.the-variants.{Forward, Inverse}
 use Rattle.rules.specs.declared.Verdict.{Verdict}
 use Rattle.rules.specs.declared.Verdict.the-variants.{Passes, TooFew, TooMany, Refused}
 use Rattle.rules.specs.declared.Foretold.{Foretold}
-use Rattle.numbered.specs.Numbers.{digits, number, counted, refused, heading, headed}
-use Rattle.shown.specs.Showing.{orRefused, called, shownChecks, shownSteps, translation, shown}
-use Rattle.placed.specs.Places.{signed, pair, fourPlaces}
-use Rattle.verdicts.specs.Verdicts.{passed, judged, verdictLine, bothChecks}
+use Rattle.rules.specs.Numerals.{digits}
+use Rattle.rules.specs.Shown.{counted, refusalText, heading, headed, orRefused, called, shownChecks, shownSteps, translatedLine, shown, signedPlace, twoPlaces, fourPlaces, passText, verdictText, verdictLine, bothChecks}
 use Rattle.shown.proofs.Replies.{Of, of-refusal, of-then, of-tested, Made, split-made, AtMost, prepared-few}
 use Rattle.shown.specs.Lines.{numbered, steps-numbered}
 
@@ -48,8 +46,8 @@ line-length : (t : Bytes) → length (line t) ≡ length t + 1
 unfolding line ascii
 line-length t = length-append t (10 ∷ [])
 
-refused-length : (n place : ℕ) → length (refused n place) ≤ 49
-unfolding refused ascii
+refused-length : (n place : ℕ) → length (refusalText n place) ≤ 49
+unfolding refusalText ascii
 refused-length n place =
     omega (arith, length-append (counted (ascii "refused ") n) (counted (ascii " ") place), counted-length (ascii "refused ") n, counted-length (ascii " ") place)
 
@@ -60,25 +58,25 @@ unfolding ascii
 mark-length true = omega arith
 mark-length false = omega arith
 
-signed-length : (w : Bytes) (p : Place) → length (signed w p) ≤ length w + 21
-unfolding signed
+signed-length : (w : Bytes) (p : Place) → length (signedPlace w p) ≤ length w + 21
+unfolding signedPlace
 signed-length w p =
     omega (arith, counted-length (w ++ cond (p .minus) (ascii "-") []) (p .axis), length-append w (cond (p .minus) (ascii "-") []), mark-length (p .minus))
 
-pair-length : (w : Bytes) (p q : Place) → length (pair w p q) ≤ length w + 43
-unfolding pair ascii
-pair-length w p q = omega (arith, length-append (signed w p) (signed (ascii ",") q), signed-length w p, signed-length (ascii ",") q)
+pair-length : (w : Bytes) (p q : Place) → length (twoPlaces w p q) ≤ length w + 43
+unfolding twoPlaces ascii
+pair-length w p q = omega (arith, length-append (signedPlace w p) (signedPlace (ascii ",") q), signed-length w p, signed-length (ascii ",") q)
 
 places-length : (b : Bool) (l : List Place) → length (cond b (fourPlaces l) []) ≤ 95
 unfolding fourPlaces ascii
 places-length true l =
-    let x = pair (ascii " places ") (nth l 0) (nth l 1) in
-    let y = pair (ascii ",") (nth l 2) (nth l 3) in
+    let x = twoPlaces (ascii " places ") (nth l 0) (nth l 1) in
+    let y = twoPlaces (ascii ",") (nth l 2) (nth l 3) in
     omega (arith, length-append x y, pair-length (ascii " places ") (nth l 0) (nth l 1), pair-length (ascii ",") (nth l 2) (nth l 3))
 places-length false l = omega arith
 
-passed-length : (f : Foretold) → length (passed f) ≤ 149
-unfolding passed ascii
+passed-length : (f : Foretold) → length (passText f) ≤ 149
+unfolding passText ascii
 passed-length f =
     let x = counted (ascii "deepest ") (f .deepest) in
     let y = counted (ascii " left ") (f .left) in
@@ -89,8 +87,8 @@ step-length : (k : ℕ) (w : Bytes) → length (counted (ascii "step ") k ++ w) 
 unfolding ascii
 step-length k w = omega (arith, length-append (counted (ascii "step ") k) w, counted-length (ascii "step ") k)
 
-judged-length : (v : Verdict) (f : Foretold) → length (judged v f) ≤ 149
-unfolding judged ascii
+judged-length : (v : Verdict) (f : Foretold) → length (verdictText v f) ≤ 149
+unfolding verdictText ascii
 judged-length Passes f = passed-length f
 judged-length (TooFew k) f = omega (arith, step-length k (ascii " too few"))
 judged-length (TooMany k) f = omega (arith, step-length k (ascii " too many"))
@@ -98,7 +96,7 @@ judged-length (Refused n k) f = omega (arith, refused-length n k)
 
 verdict-length : (w : Bytes) (f : Foretold) → length (verdictLine w f) ≤ length w + 150
 unfolding verdictLine
-verdict-length w f = omega (arith, line-length (w ++ judged (f .verdict) f), length-append w (judged (f .verdict) f), judged-length (f .verdict) f)
+verdict-length w f = omega (arith, line-length (w ++ verdictText (f .verdict) f), length-append w (verdictText (f .verdict) f), judged-length (f .verdict) f)
 
 checks-length : (ss : List Step) → length (bothChecks ss) ≤ 318
 unfolding bothChecks ascii
@@ -154,7 +152,7 @@ called-fits P own t h =
 printed : {A : Type 0} (P : A → Type 0) (r : Reply A) (next : A → Bytes) (m : ℕ) → 50 ≤ m → Of P r → ((x : A) → P x → length (next x) ≤ m) → length (orRefused r next) ≤ m
 unfolding orRefused Of
 printed P (answers x) next m k h f = f x h
-printed P (refuses n place) next m k h f = omega (arith, line-length (refused n place), refused-length n place, k)
+printed P (refuses n place) next m k h f = omega (arith, line-length (refusalText n place), refused-length n place, k)
 
 shown-checks-length : (t : Bytes) → length (shownChecks t) ≤ 318
 unfolding shownChecks
@@ -172,16 +170,16 @@ unfolding Of
 any-text (answers t) = omega arith
 any-text (refuses n place) = omega arith
 
-translation-length : (t : Bytes) → length (translation t) ≡ length t + 13
-unfolding translation ascii
+translation-length : (t : Bytes) → length (translatedLine t) ≡ length t + 13
+unfolding translatedLine ascii
 translation-length t = omega (arith, line-length (ascii "translated: " ++ t), length-append (ascii "translated: ") t)
 
 pub shown-length : (text : Bytes) → length (shown text) ≤ 139264
 unfolding shown
 shown-length text =
-    printed (Fits (λ t. 0 ≤ length t)) (called translate text) (λ t. translation t ++ shownSteps t) 139264 (omega arith)
+    printed (Fits (λ t. 0 ≤ length t)) (called translate text) (λ t. translatedLine t ++ shownSteps t) 139264 (omega arith)
     (called-fits (λ t. 0 ≤ length t) translate text (any-text (translate text)))
-    (λ t m. omega (arith, length-append (translation t) (shownSteps t), translation-length t, m .size, shown-steps-length t))
+    (λ t m. omega (arith, length-append (translatedLine t) (shownSteps t), translation-length t, m .size, shown-steps-length t))
 
 pub shown-room : (text d : Bytes) → 139264 ≤ length d → 0 + length (shown text) ≤ length d
 shown-room text d h = omega (arith, shown-length text)

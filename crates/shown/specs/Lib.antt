@@ -1,4 +1,2 @@
 -- What the program `steps` prints.
-pub mod Showing
-pub mod Examples
 pub mod Lines

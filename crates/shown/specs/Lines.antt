@@ -10,7 +10,7 @@ use Rattle.rules.specs.Ascii.{ascii, is}
 use Rattle.rules.specs.Lists.{allOf, kept, nonEmpty}
 use Rattle.rules.specs.Text.{Bytes, Words, Steps, white, onto, cut, words, afterEach, joinedBy, joined}
 use Rattle.rules.specs.Split.{modifier, leading, following, turned, stepsOf, stepText, line}
-use Rattle.numbered.specs.Numbers.{heading, headed}
+use Rattle.rules.specs.Shown.{heading, headed}
 
 -- no newline
 unfoldable pub free : Bytes → Bool

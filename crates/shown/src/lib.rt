@@ -17,8 +17,7 @@ ghost use Prim.Native.Nat.{_+_, _≤_};
 ghost use lib.ListN.{length};
 ghost use Rattle.rows.specs.Row.{tabled};
 ghost use Rattle.text.specs.Writing.{Wrote, WroteAt};
-ghost use Rattle.numbered.specs.Numbers.{headed};
-ghost use Rattle.shown.specs.Showing.{shownChecks, shownSteps, translation, shown};
+ghost use Rattle.rules.specs.Shown.{headed, shownChecks, shownSteps, translatedLine, shown};
 
 // The table of the first n records.
 fn first_of(table: Table, n: usize) -> Table
@@ -78,8 +77,8 @@ fn say_words(word: &[u8], text: &[u8], out: &mut [u8], at: usize) -> usize
 
 // The line of the translation.
 fn say_translation(text: &[u8], out: &mut [u8], at: usize) -> usize
-    requires { ⌜ at + length (translation (now text)) ≤ length (now out) ⌝ }
-    ensures { λ r. ⌜ WroteAt (translation (now (text .entry))) (now (out .entry)) at r (now (out .exit)) ⌝ }
+    requires { ⌜ at + length (translatedLine (now text)) ≤ length (now out) ⌝ }
+    ensures { λ r. ⌜ WroteAt (translatedLine (now (text .entry))) (now (out .entry)) at r (now (out .exit)) ⌝ }
 {
     let o = say_words(b"translated: ", text, out, at);
     out[o] = 10;
@@ -89,8 +88,8 @@ fn say_translation(text: &[u8], out: &mut [u8], at: usize) -> usize
 // What is said of a translation, and what follows; b is lent to splitting.
 fn show_translation(text: &[u8], b: &mut [u8], out: &mut [u8], at: usize) -> usize
     requires { ⌜ length (now b) ≡ 65536 ⌝ }
-    requires { ⌜ at + length (translation (now text) ++ shownSteps (now text)) ≤ length (now out) ⌝ }
-    ensures { λ r. ⌜ WroteAt (translation (now (text .entry)) ++ shownSteps (now (text .entry))) (now (out .entry)) at r (now (out .exit)) ⌝ }
+    requires { ⌜ at + length (translatedLine (now text) ++ shownSteps (now text)) ≤ length (now out) ⌝ }
+    ensures { λ r. ⌜ WroteAt (translatedLine (now (text .entry)) ++ shownSteps (now (text .entry))) (now (out .entry)) at r (now (out .exit)) ⌝ }
 {
     let o = say_translation(text, out, at);
     show_steps(text, b, out, o)

@@ -8,13 +8,13 @@ use lib.ListN.{length, take}
 use lib.Dec.{ltb}
 use Rattle.rules.specs.Lists.{anyOf, placeOf}
 use Rattle.rules.specs.Text.{Bytes, Steps, inDomain}
-use Rattle.rules.specs.Refusal.{Reply, answers, refuses, andThen, Writes}
+use Rattle.rules.specs.Refusal.{Reply, answers, refuses, andThen, Writes, Lends}
 use Rattle.rules.specs.Normal.{normal}
 use Rattle.rules.specs.Comments.{stripped}
 use Rattle.rules.specs.Split.{onlyModifiers, stepsOf, steps, stepText, splitSteps, line, split}
 use Rattle.rules.specs.declared.Written.{Written}
 use Rattle.rules.specs.declared.Written.the-variants as variant
-use Rattle.laws.specs.Entry.{Lends, lends-no-room, lends-text, lends-so}
+use Rattle.laws.specs.Entry.{lends-no-room, lends-text, lends-so}
 use Rattle.laws.specs.Sizes.{steps-length}
 use Rattle.text.specs.Writing.{Wrote, Holds}
 use Rattle.text.proofs.Writing.{wrote-front}

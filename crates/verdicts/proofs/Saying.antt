@@ -6,11 +6,11 @@ use Rattle.rules.specs.Text.{Bytes}
 use Rattle.rules.specs.declared.Verdict.{Verdict}
 use Rattle.rules.specs.declared.Foretold.{Foretold}
 use Rattle.text.specs.Writing.{WroteAt}
-use Rattle.verdicts.specs.Verdicts.{judged}
+use Rattle.rules.specs.Shown.{verdictText}
 
 module _ (v w : Verdict) (f : Foretold) (d : Bytes) (at : ℕ) (e : v ≡ w) where
-  pub judged-room : at + length (judged v f) ≤ length d → at + length (judged w f) ≤ length d
-  judged-room h = subst (λ (x : Verdict). at + length (judged x f) ≤ length d) e h
+  pub judged-room : at + length (verdictText v f) ≤ length d → at + length (verdictText w f) ≤ length d
+  judged-room h = subst (λ (x : Verdict). at + length (verdictText x f) ≤ length d) e h
 
-  pub judged-said : {r : ℕ} {d′ : Bytes} → WroteAt (judged w f) d at r d′ → WroteAt (judged v f) d at r d′
-  judged-said {r} {d′} s = subst (λ (x : Verdict). WroteAt (judged x f) d at r d′) (sym e) s
+  pub judged-said : {r : ℕ} {d′ : Bytes} → WroteAt (verdictText w f) d at r d′ → WroteAt (verdictText v f) d at r d′
+  judged-said {r} {d′} s = subst (λ (x : Verdict). WroteAt (verdictText x f) d at r d′) (sym e) s

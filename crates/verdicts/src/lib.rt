@@ -16,8 +16,7 @@ ghost use lib.ListN.{length};
 ghost use Rattle.rules.specs.Ascii.{ascii};
 ghost use Rattle.rules.specs.Record.{listed};
 ghost use Rattle.text.specs.Writing.{WroteAt};
-ghost use Rattle.numbered.specs.Numbers.{counted};
-ghost use Rattle.verdicts.specs.Verdicts.{passed, judged, verdictLine, bothChecks};
+ghost use Rattle.rules.specs.Shown.{counted, passText, verdictText, verdictLine, bothChecks};
 
 // The deepest, and the columns left.
 fn say_depths(deepest: usize, left: usize, out: &mut [u8], at: usize) -> usize
@@ -30,8 +29,8 @@ fn say_depths(deepest: usize, left: usize, out: &mut [u8], at: usize) -> usize
 
 // What a pass foretells.
 fn say_passed(f: Foretold, out: &mut [u8], at: usize) -> usize
-    requires { ⌜ at + length (passed f) ≤ length (now out) ⌝ }
-    ensures { λ r. ⌜ WroteAt (passed f) (now (out .entry)) at r (now (out .exit)) ⌝ }
+    requires { ⌜ at + length (passText f) ≤ length (now out) ⌝ }
+    ensures { λ r. ⌜ WroteAt (passText f) (now (out .entry)) at r (now (out .exit)) ⌝ }
 {
     let places = f.places;
     let o = say_depths(f.deepest, f.left, out, at);
@@ -40,8 +39,8 @@ fn say_passed(f: Foretold, out: &mut [u8], at: usize) -> usize
 
 // A verdict.
 fn say_judged(f: Foretold, out: &mut [u8], at: usize) -> usize
-    requires { ⌜ at + length (judged (f .verdict) f) ≤ length (now out) ⌝ }
-    ensures { λ r. ⌜ WroteAt (judged (f .verdict) f) (now (out .entry)) at r (now (out .exit)) ⌝ }
+    requires { ⌜ at + length (verdictText (f .verdict) f) ≤ length (now out) ⌝ }
+    ensures { λ r. ⌜ WroteAt (verdictText (f .verdict) f) (now (out .entry)) at r (now (out .exit)) ⌝ }
 {
     let v = f.verdict;
     match v {
@@ -54,8 +53,8 @@ fn say_judged(f: Foretold, out: &mut [u8], at: usize) -> usize
 
 // A direction, and the verdict behind it.
 fn say_verdict(direction: &[u8], f: Foretold, out: &mut [u8], at: usize) -> usize
-    requires { ⌜ at + length (now direction ++ judged (f .verdict) f) ≤ length (now out) ⌝ }
-    ensures { λ r. ⌜ WroteAt (now (direction .entry) ++ judged (f .verdict) f) (now (out .entry)) at r (now (out .exit)) ⌝ }
+    requires { ⌜ at + length (now direction ++ verdictText (f .verdict) f) ≤ length (now out) ⌝ }
+    ensures { λ r. ⌜ WroteAt (now (direction .entry) ++ verdictText (f .verdict) f) (now (out .entry)) at r (now (out .exit)) ⌝ }
 {
     let o = put(direction, out, at);
     say_judged(f, out, o)

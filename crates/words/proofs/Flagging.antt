@@ -14,7 +14,7 @@ use Rattle.rules.specs.Decimal.{minus}
 use Rattle.rules.specs.Record.{size, isPlace}
 use Rattle.laws.specs.Separators.{and-right}
 use Rattle.text.specs.Writing.{Wrote, WroteAt}
-use Rattle.writelaws.specs.Writing.{flagOf}
+use Rattle.rules.specs.Write.{flagOf}
 use Rattle.numerals.specs.Parts.{Room, rest}
 use Rattle.numerals.proofs.Putting.{first-room, then-room, both-written}
 use Rattle.numerals.proofs.Numbers.{put-written}

@@ -13,7 +13,7 @@ use Rattle.rules.specs.Text.{Bytes, same, afterEach, joinedBy}
 use Rattle.rules.specs.Record.{Adapt, operatorOf, isArgs}
 use Rattle.laws.specs.Separators.{and-left, and-right, same-is}
 use Rattle.steplaws.specs.Tests.{below, below-at}
-use Rattle.writelaws.specs.Writing.{listing, pair, nameWord, argWords}
+use Rattle.rules.specs.Write.{listing, keyValue, nameWord, argWords}
 use Rattle.words.specs.Parts.{piece, isCut, argText}
 
 -- ---- `piece`
@@ -77,7 +77,7 @@ none-listed (x ∷ l) h = absurd (some (eqb-true (suc (length l)) 0 h))
     some e = omega arith
 
 pub key-text : (k : ℕ) (l : List ℤ) → 1 < k → k < 10 → isArgs (operatorOf k) l ≡ true → argText (operatorOf k) l ≡ piece keys keyEnds k ++ listing l
-unfolding argText isArgs operatorOf argWords pair afterEach piece ascii
+unfolding argText isArgs operatorOf argWords keyValue afterEach piece ascii
 key-text zero l a b h = absurd (none a)
   where
     none : 1 < 0 → ⊥

@@ -16,7 +16,7 @@ use Rattle.rules.specs.Record.{Operator, Adapt, operatorOf, operator, args, arg
 use Rattle.rules.specs.declared.Step.{Step}
 use Rattle.laws.specs.Separators.{and-left, and-right}
 use Rattle.text.specs.Writing.{WroteAt}
-use Rattle.writelaws.specs.Writing.{pair, flagOf, letter, endingOf, fromWord, toWord, nameWord, argWords, markWord, markWords, stepWords, writing}
+use Rattle.rules.specs.Write.{keyValue, flagOf, letter, endingOf, fromWord, toWord, nameWord, argWords, markWord, markWords, stepWords, writing}
 use Rattle.writelaws.specs.Sayings.{rising-places}
 use Rattle.numerals.proofs.Putting.{room-as, as-written, first-room, then-room, both-written}
 use Rattle.numerals.specs.Parts.{Room}
@@ -52,7 +52,7 @@ flags-rule {k} l h r = rising-places 0 l (go k h r)
 -- ---- the words of `adapt`
 
 pub adapt-is : (l : List ℤ) {code : ℕ} → code ≡ size (getD l 4 (pos 0)) → argText Adapt l ≡ fromText code ++ toText code (take 4 l)
-unfolding argText argWords afterEach pair fromWord toWord fromText toText arg ascii
+unfolding argText argWords afterEach keyValue fromWord toWord fromText toText arg ascii
 adapt-is l {code} e =
     rw (← e) (ap (λ (t : Bytes). 32 ∷ 102 ∷ 114 ∷ 111 ∷ 109 ∷ 61 ∷ 101 ∷ 110 ∷ 117 ∷ 102 ∷ (endingOf (code / 3) ++ (32 ∷ 116 ∷ 111 ∷ 61 ∷ t))) (append-nil (map letter (take 4 l) ++ endingOf (code % 3))))
 

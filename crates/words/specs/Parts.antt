@@ -9,7 +9,7 @@ use Rattle.rules.specs.Ascii.{ascii}
 use Rattle.rules.specs.Text.{Bytes, afterEach}
 use Rattle.rules.specs.Record.{Operator, isSet}
 use Rattle.rules.specs.declared.Step.{Step}
-use Rattle.writelaws.specs.Writing.{argWords, flagOf, writing}
+use Rattle.rules.specs.Write.{argWords, flagOf, writing}
 
 -- piece i of a row of texts that follow each other: `ends` has the end of each, after a 0
 unfoldable pub piece : Bytes → Bytes → ℕ → Bytes

@@ -15,7 +15,7 @@ ghost use Rattle.rules.specs.Lists.{allOf};
 ghost use Rattle.rules.specs.Text.{afterEach};
 ghost use Rattle.rules.specs.Record.{Adapt, operatorOf, isPlace, isAdapt, isArgs, nineDigits};
 ghost use Rattle.text.specs.Writing.{WroteAt};
-ghost use Rattle.writelaws.specs.Writing.{listing, flagOf, nameWord};
+ghost use Rattle.rules.specs.Write.{listing, flagOf, nameWord};
 ghost use Rattle.numerals.specs.Parts.{Room};
 ghost use Rattle.words.specs.Parts.{isCut, piece, argText, marked, markText};
 

@@ -21,7 +21,7 @@ use Rattle.rules.specs.OwnRules.{isGiven, recordOf, flagged, axes, ownRule}
 use Rattle.rules.specs.Prepare.{named, judged}
 use Rattle.rules.specs.declared.Step.{Step}
 use Rattle.laws.specs.Separators.{and-left, and-right}
-use Rattle.writelaws.specs.Writing.{flagOf}
+use Rattle.rules.specs.Write.{flagOf}
 use Rattle.writelaws.specs.Settled.{lacks}
 use Rattle.writelaws.specs.Given.{Flag, chosen, bare, picked, bareFlags, latest, latest-chosen, any-chosen, faulty, tableFrom, look, looked, table-judged}
 use Rattle.writelaws.specs.Records.{IsMade, marksOf, marks-bare, Unmarked, given-back, record-again}

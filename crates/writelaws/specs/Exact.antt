@@ -26,7 +26,7 @@ use Rattle.laws.specs.Separators.{and-left, and-right}
 use Rattle.laws.specs.Entry.{answered}
 use Rattle.steplaws.specs.Tests.{never, Every}
 use Rattle.steplaws.specs.Made.{then-answers, prepare-made, tested-answers}
-use Rattle.writelaws.specs.Writing.{writing, tableWriting}
+use Rattle.rules.specs.Write.{writing, tableWriting}
 use Rattle.writelaws.specs.Faithful.{Slots, AllMade, made-each, prepare-again, table-short, table-domain, table-again}
 
 -- ---- one record

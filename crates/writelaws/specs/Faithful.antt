@@ -21,7 +21,7 @@ use Rattle.rules.specs.Prepare.{judged, prepareStep, prepare}
 use Rattle.rules.specs.declared.Step.{Step}
 use Rattle.laws.specs.Separators.{and-left, and-right}
 use Rattle.steplaws.specs.Tests.{below, Every}
-use Rattle.writelaws.specs.Writing.{listing, pair, flagOf, fromWord, toWord, nameWord, argWords, markWords, stepWords, writing, tableWriting}
+use Rattle.rules.specs.Write.{listing, keyValue, flagOf, fromWord, toWord, nameWord, argWords, markWords, stepWords, writing, tableWriting}
 use Rattle.writelaws.specs.Calm.{known, firm, so}
 use Rattle.writelaws.specs.Settled.{lacks}
 use Rattle.writelaws.specs.Given.{chosen, tableFrom}
@@ -69,10 +69,10 @@ module _ (s : Step) where
 
     -- a key whose value is a list
     by-list : (w : Bytes) (key : String) (x : ℤ) (l : List ℤ) → args s ≡ x ∷ l → lacks (is "=") (ascii key) ≡ true
-        → judged (tableFrom w (keyed key (listing (x ∷ l)) ∷ []) (marksOf s)) ≡ answers s → wordsJudged s w (pair key (listing (x ∷ l)) ∷ []) ≡ answers s
+        → judged (tableFrom w (keyed key (listing (x ∷ l)) ∷ []) (marksOf s)) ≡ answers s → wordsJudged s w (keyValue key (listing (x ∷ l)) ∷ []) ≡ answers s
     by-list w key x l z k h =
         let n = listing-lacks x l (own-nines (x ∷ l) z) (is "=") (unfold below so firm known anyOf ascii in refl) refl in
-        by-own w (pair key (listing (x ∷ l)) ∷ []) (keyed key (listing (x ∷ l)) ∷ []) (ap (λ (p : Parameter). p ∷ []) (parameter-pair key (listing (x ∷ l)) k n)) h
+        by-own w (keyValue key (listing (x ∷ l)) ∷ []) (keyed key (listing (x ∷ l)) ∷ []) (ap (λ (p : Parameter). p ∷ []) (parameter-pair key (listing (x ∷ l)) k n)) h
 
     -- operator by operator
     judged-as : (o : Operator) (l : List ℤ) → operator s ≡ o → args s ≡ l → isArgs o l ≡ true → wordsJudged s (nameWord o) (argWords o l) ≡ answers s

@@ -25,7 +25,7 @@ use Rattle.rules.specs.declared.Step.{Step}
 use Rattle.laws.specs.Separators.{and-left, and-right}
 use Rattle.steplaws.specs.Tests.{below, below-at}
 use Rattle.steplaws.specs.Words.{Sized, order-sized}
-use Rattle.writelaws.specs.Writing.{letter, endingOf, fromWord, toWord}
+use Rattle.rules.specs.Write.{letter, endingOf, fromWord, toWord}
 use Rattle.writelaws.specs.Calm.{so, so-at}
 use Rattle.writelaws.specs.Given.{bare, picked, latest, faulty, tableFrom, look, looked, table-judged}
 use Rattle.writelaws.specs.Records.{IsMade, marksOf, marks-bare, record-again}

@@ -1,6 +1,4 @@
 -- The text of a step record, and what preparing makes of it.
-pub mod Writing
-pub mod WritingHolds
 pub mod Calm
 pub mod Settled
 pub mod Bars

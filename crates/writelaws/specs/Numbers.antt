@@ -6,7 +6,7 @@ use mathlib.Core.Option.{none, some}
 use mathlib.Core.List.{List, [], _∷_, _++_, map}
 use native.Mathlib.Nat.{le-refl, div-lt-iff-lt-mul, div-add-mod', mod-lt, pow-suc}
 use native.Mathlib.Omega.{arith}
-use borrow.Author.Tests.{leb-true, le-leb, ltb-true, not-true}
+use borrow.Author.Tests.{leb-true, le-leb, ltb-true, ltb-false, not-true}
 use lib.ListN.{length, length-append}
 use lib.Dec.{leb, ltb, eqb, lit≤}
 use lib.IntN.{ℤ, pos, negsuc}
@@ -20,7 +20,9 @@ use Rattle.rules.specs.declared.Decimal.{Decimal}
 use Rattle.rules.specs.declared.Number.the-variants.{Is}
 use Rattle.laws.specs.Separators.{and-left, and-right}
 use Rattle.steplaws.specs.Tests.{below, below-at, all-so, all-append}
-use Rattle.writelaws.specs.Writing.{digits, spelling, listing}
+use Rattle.rules.specs.Numerals.{digits}
+use Rattle.laws.specs.Numerals.{digits-one, digits-more}
+use Rattle.rules.specs.Write.{spelling, listing}
 use Rattle.writelaws.specs.Calm.{known, firm, middle, follows, so, so-at, firm-so, firm-follows, endOf, quiet, calm, gap, joined-calm}
 use Rattle.writelaws.specs.Settled.{before-none, behind-none, lacks, cut-joined}
 
@@ -63,17 +65,16 @@ next-digit most n t h =
     last : (q r n : ℕ) → q * 10 + r ≡ n → q * 10 + (48 + r - 48) ≡ n
     last q r n e = omega arith
 
--- the law of digits: those of n spell n, where n has no more of them
-pub digits-spell : (k n : ℕ) → n < 10 ^ suc k → Spells (suc k) n (digits k n)
-unfolding digits
-digits-spell zero n h = one-digit 1 n (le-refl 1) h
+-- the law of digits: those of n spell n, and n < 10 ^ k has k at most
+pub digits-spell : (k n : ℕ) → n < 10 ^ suc k → Spells (suc k) n (digits n)
+digits-spell zero n h = rw (digits-one n h) (one-digit 1 n (le-refl 1) h)
 digits-spell (suc k) n h = go (ltb n 10) refl (digits-spell k (n / 10) (div-lt-iff-lt-mul {k = 10} {x = n} {y = 10 ^ suc k} (lit≤ tt) .1 (rw (pow-suc 10 (suc k)) at h)))
   where
-    go : (b : Bool) → ltb n 10 ≡ b → Spells (suc k) (n / 10) (digits k (n / 10)) → Spells (suc (suc k)) n (cond b ((48 + n) ∷ []) (digits k (n / 10) ++ ((48 + n % 10) ∷ [])))
-    go true e r = one-digit (suc (suc k)) n (omega arith) (ltb-true n 10 e)
-    go false e r = next-digit (suc k) n (digits k (n / 10)) r
+    go : (b : Bool) → ltb n 10 ≡ b → Spells (suc k) (n / 10) (digits (n / 10)) → Spells (suc (suc k)) n (digits n)
+    go true e r = let l = ltb-true n 10 e in rw (digits-one n l) (one-digit (suc (suc k)) n (omega arith) l)
+    go false e r = rw (digits-more n (ltb-false n 10 e)) (next-digit (suc k) n (digits (n / 10)) r)
 
-pub nine-spell : (n : ℕ) → n ≤ 999999999 → Spells 9 n (digits 8 n)
+pub nine-spell : (n : ℕ) → n ≤ 999999999 → Spells 9 n (digits n)
 nine-spell n h = digits-spell 8 n (omega arith)
 
 -- what is so of every digit is computed
@@ -115,10 +116,10 @@ pub decimal-spelling : (x : ℤ) → nineDigits x ≡ true → decimal (spelling
 unfolding spelling whole minus nineDigits
 decimal-spelling (pos n) h =
     let s = nine-spell n (leb-true n 999999999 h) in
-    unsigned (digits 8 n) (s .ones) (s .some-of) ∙ plain-digits false n (digits 8 n) s
+    unsigned (digits n) (s .ones) (s .some-of) ∙ plain-digits false n (digits n) s
 decimal-spelling (negsuc n) h =
     let s = nine-spell (suc n) (leb-true (suc n) 999999999 h) in
-    unfold ascii decimal in plain-digits true (suc n) (digits 8 (suc n)) s
+    unfold ascii decimal in plain-digits true (suc n) (digits (suc n)) s
 
 -- ---- lists of them
 
@@ -153,10 +154,10 @@ spelling-firm : (x : ℤ) → nineDigits x ≡ true → Firmly (spelling x)
 unfolding spelling minus nineDigits
 spelling-firm (pos n) h =
     let s = nine-spell n (leb-true n 999999999 h) in
-    record { firmly = firm-digits (digits 8 n) (s .ones); not-empty = s .some-of }
+    record { firmly = firm-digits (digits n) (s .ones); not-empty = s .some-of }
 spelling-firm (negsuc n) h =
     let s = nine-spell (suc n) (leb-true (suc n) 999999999 h) in
-    record { firmly = unfold allOf ascii firm known anyOf in firm-digits (digits 8 (suc n)) (s .ones); not-empty = unfold ascii in omega arith }
+    record { firmly = unfold allOf ascii firm known anyOf in firm-digits (digits (suc n)) (s .ones); not-empty = unfold ascii in omega arith }
 
 firm-on : (x : ℕ) (t : Bytes) → firm x ≡ true → allOf firm t ≡ true → quiet x t && firm (endOf x t) ≡ true
 unfolding allOf quiet endOf

@@ -21,7 +21,7 @@ use Rattle.rules.specs.declared.Step.{Step}
 use Rattle.laws.specs.Separators.{and-left, and-right}
 use Rattle.steplaws.specs.Operators.{number-operator}
 use Rattle.steplaws.specs.Slots.{Kept}
-use Rattle.writelaws.specs.Writing.{markWord, markWords}
+use Rattle.rules.specs.Write.{markWord, markWords}
 use Rattle.writelaws.specs.Given.{Flag, chosen, picked, bareFlags, latest, tableFrom, look, looked}
 use Rattle.writelaws.specs.Settled.{lacks}
 

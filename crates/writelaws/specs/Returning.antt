@@ -10,7 +10,7 @@ use lib.Seq.{take-append-seam}
 use lib.Dec.{ltb}
 use Rattle.rules.specs.Lists.{allOf}
 use Rattle.rules.specs.Text.{Bytes}
-use Rattle.rules.specs.Refusal.{Reply, answers, refuses, lent, written}
+use Rattle.rules.specs.Refusal.{Reply, answers, refuses, lent, written, Lends}
 use Rattle.rules.specs.Record.{made, firstBad, refusal18}
 use Rattle.rules.specs.Prepare.{Prepares}
 use Rattle.rules.specs.declared.Step.{Step}
@@ -18,10 +18,9 @@ use Rattle.rules.specs.declared.Written.{Written}
 use Rattle.rules.specs.declared.Written.the-variants as written-is
 use Rattle.rules.specs.declared.Prepared.{Prepared}
 use Rattle.rules.specs.declared.Prepared.the-variants as prepared-is
-use Rattle.laws.specs.Entry.{Lends}
 use Rattle.laws.specs.Once.{once}
 use Rattle.steplaws.specs.Tests.{never, Every}
-use Rattle.writelaws.specs.Writing.{tableWriting, unless18, write}
+use Rattle.rules.specs.Write.{tableWriting, writtenUnless18, write}
 use Rattle.writelaws.specs.Faithful.{Slots}
 use Rattle.writelaws.specs.Exact.{table-prepares}
 
@@ -66,10 +65,10 @@ pub record IsText (l : List Step) (text : Bytes) : Type 0 where
   pub is : text ≡ tableWriting l
 
 write-answers : (l : List Step) (t : Bytes) → write l ≡ answers t → IsText l t
-unfolding write unless18
+unfolding write writtenUnless18
 write-answers l t h = go (refusal18 l) refl h
   where
-    go : (o : Option ℕ) → refusal18 l ≡ o → unless18 o (tableWriting l) ≡ answers t → IsText l t
+    go : (o : Option ℕ) → refusal18 l ≡ o → writtenUnless18 o (tableWriting l) ≡ answers t → IsText l t
     go none e h = let k = not-18 l e in record { all-made = k .0; few = k .1; is = cc h }
     go (some place) e h = absurd (never (cc h))
 
@@ -86,11 +85,3 @@ pub written-returns : (l : List Step) → Every Slots l → {out : Bytes} {r : �
 written-returns l e {out} {r} {out′} w table room {answer} {table′} p =
     let k = lends-writes l w in
     once p (rw (k .is) (table-prepares l table (record { each = k .all-made; slots = e }) (k .few) room))
-
--- ---- no second outcome meets the promise of `write`
-
-pub write-once : (l : List Step) {out : Bytes} {r r′ : Written} {after after′ : Bytes}
-    → Lends (write l) out r after → Lends (write l) out r′ after′ → (r ≡ r′) × (after ≡ after′)
-write-once l p q =
-    let e = p .exactly ∙ sym (q .exactly) in
-    (ap (λ (x : Written × Bytes). x .0) e, ap (λ (x : Written × Bytes). x .1) e)

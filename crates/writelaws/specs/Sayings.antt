@@ -6,7 +6,7 @@ use mathlib.Core.Bool.{Bool, true, false, not}
 use mathlib.Core.List.{List, [], _∷_, _++_, map, append-nil}
 use native.Mathlib.Nat.{mul-suc}
 use native.Mathlib.Omega.{arith}
-use borrow.Author.Tests.{leb-true, lt-ltb}
+use borrow.Author.Tests.{leb-true}
 use lib.ListN.{length, length-append}
 use lib.Dec.{leb, ltb, lit≤}
 use lib.IntN.{ℤ, pos, negsuc}
@@ -18,7 +18,8 @@ use Rattle.rules.specs.Record.{size, isPlace, isRising, isOrder, nineDigits}
 use Rattle.laws.specs.Separators.{and-left, and-right}
 use Rattle.steplaws.specs.Tests.{below, below-at}
 use Rattle.steplaws.specs.Words.{Sized, order-sized}
-use Rattle.writelaws.specs.Writing.{digits, spelling, listing, pair, flagOf, letter, endingOf, fromWord, toWord}
+use Rattle.laws.specs.Numerals.{digits-one}
+use Rattle.rules.specs.Write.{spelling, listing, keyValue, flagOf, letter, endingOf, fromWord, toWord}
 use Rattle.writelaws.specs.Calm.{known, firm, middle, follows, so, quiet, endOf, calm, gap, joined-calm, both}
 use Rattle.writelaws.specs.Settled.{lacks}
 use Rattle.writelaws.specs.Worded.{worded, worded-calm, worded-dark, worded-bare, lacks-append, lacks-joined}
@@ -36,18 +37,18 @@ firm-worded w h =
     worded-by w (firm-calm w h) (firm-lacks white (unfold below so firm known white anyOf ascii in refl) w (h .firmly)) (firm-lacks (is "|") (unfold below so firm known anyOf ascii in refl) w (h .firmly))
 
 module _ (key : String) (v : Bytes) where
-  pair-calm : calm (ascii key) ≡ true → calm v ≡ true → calm (pair key v) ≡ true
-  unfolding pair afterEach allOf
+  pair-calm : calm (ascii key) ≡ true → calm v ≡ true → calm (keyValue key v) ≡ true
+  unfolding keyValue afterEach allOf
   pair-calm h k =
       rw append-nil at (joined-calm (61 ∷ []) (unfold gap below so firm known follows middle quiet anyOf ascii in refl) (ascii key) (v ∷ []) h (rw k))
 
-  pub pair-lacks : (test : ℕ → Bool) → test 61 ≡ false → lacks test (ascii key) ≡ true → lacks test v ≡ true → lacks test (pair key v) ≡ true
-  unfolding pair
+  pub pair-lacks : (test : ℕ → Bool) → test 61 ≡ false → lacks test (ascii key) ≡ true → lacks test v ≡ true → lacks test (keyValue key v) ≡ true
+  unfolding keyValue
   pair-lacks test t a b = lacks-append test (ascii key) (61 ∷ v) a (unfold lacks anyOf in rw t b)
 
-  pub pair-worded : worded (ascii key) ≡ true → worded v ≡ true → worded (pair key v) ≡ true
+  pub pair-worded : worded (ascii key) ≡ true → worded v ≡ true → worded (keyValue key v) ≡ true
   pair-worded h k =
-      worded-by (pair key v) (pair-calm (worded-calm (ascii key) h) (worded-calm v k))
+      worded-by (keyValue key v) (pair-calm (worded-calm (ascii key) h) (worded-calm v k))
       (pair-lacks white (unfold white in refl) (worded-dark (ascii key) h) (worded-dark v k)) (pair-lacks (is "|") refl (worded-bare (ascii key) h) (worded-bare v k))
 
 -- a list of numbers
@@ -160,6 +161,6 @@ spelling-long (negsuc n) h = omega (arith, nine-spell (suc n) (leb-true (suc n) 
 
 -- one digit
 pub spelling-short : (x : ℤ) → leb (size x) 4 ≡ true → length (spelling x) ≤ 2
-unfolding spelling minus digits ascii
-spelling-short (pos n) h = let l = leb-true n 4 h in rw (lt-ltb n 10 (omega arith)) (lit≤ tt)
-spelling-short (negsuc n) h = let l = leb-true (suc n) 4 h in rw (lt-ltb (suc n) 10 (omega arith)) (lit≤ tt)
+unfolding spelling minus ascii
+spelling-short (pos n) h = let l = leb-true n 4 h in rw (digits-one n (omega arith)) (lit≤ tt)
+spelling-short (negsuc n) h = let l = leb-true (suc n) 4 h in rw (digits-one (suc n) (omega arith)) (lit≤ tt)

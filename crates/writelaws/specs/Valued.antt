@@ -21,7 +21,7 @@ use Rattle.rules.specs.OwnRules.{valueOf, recordOf, recorded, Action, actions, 
 use Rattle.rules.specs.Prepare.{named, judged}
 use Rattle.rules.specs.declared.Step.{Step}
 use Rattle.laws.specs.Separators.{or-left, or-right}
-use Rattle.writelaws.specs.Writing.{spelling, listing, pair}
+use Rattle.rules.specs.Write.{spelling, listing, keyValue}
 use Rattle.writelaws.specs.Settled.{lacks, lacking, before-none}
 use Rattle.writelaws.specs.Given.{bare, picked, latest, faulty, tableFrom, look, looked, table-judged}
 use Rattle.writelaws.specs.Records.{IsMade, marksOf, marks-bare, Unmarked, record-again}
@@ -53,8 +53,8 @@ module _ (test : ℕ → Bool) (b : ℕ) (r : Bytes) (t : test b ≡ true) where
 unfoldable pub keyed : String → Bytes → Parameter
 keyed key v = record { key = ascii key; value = v }
 
-pub parameter-pair : (key : String) (v : Bytes) → lacks (is "=") (ascii key) ≡ true → lacks (is "=") v ≡ true → parameter (pair key v) ≡ keyed key v
-unfolding parameter pair keyed
+pub parameter-pair : (key : String) (v : Bytes) → lacks (is "=") (ascii key) ≡ true → lacks (is "=") v ≡ true → parameter (keyValue key v) ≡ keyed key v
+unfolding parameter keyValue keyed
 parameter-pair key v h k =
     let a = lacking (is "=") (ascii key) h in
     rw (any-at (is "=") 61 v refl (ascii key), before-at (is "=") 61 v refl (ascii key) a, behind-at (is "=") 61 v refl (ascii key) a, before-none (is "=") v (lacking (is "=") v k))

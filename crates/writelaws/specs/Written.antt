@@ -20,7 +20,7 @@ use Rattle.rules.specs.declared.Step.{Step}
 use Rattle.laws.specs.Separators.{and-left, and-right}
 use Rattle.steplaws.specs.Tests.{all-so, all-append}
 use Rattle.steplaws.specs.Slots.{Kept}
-use Rattle.writelaws.specs.Writing.{spelling, listing, pair, flagOf, fromWord, toWord, nameWord, argWords, markWords, stepWords, writing}
+use Rattle.rules.specs.Write.{spelling, listing, keyValue, flagOf, fromWord, toWord, nameWord, argWords, markWords, stepWords, writing}
 use Rattle.writelaws.specs.Calm.{known, firm, middle, follows, quiet, endOf, calm}
 use Rattle.writelaws.specs.Settled.{lacks}
 use Rattle.writelaws.specs.Given.{Flag, chosen}
@@ -44,8 +44,8 @@ flags-total (x ∷ l) = omega (arith, flags-total l)
 
 -- a key and its numbers
 pair-short : (w : Bytes) (key : String) (x : ℤ) (l : List ℤ) → length w + length (ascii key) ≤ 13 → total (map spelling (x ∷ l)) ≤ 24
-    → total (w ∷ pair key (listing (x ∷ l)) ∷ []) ≤ 39
-unfolding total pair listing
+    → total (w ∷ keyValue key (listing (x ∷ l)) ∷ []) ≤ 39
+unfolding total keyValue listing
 pair-short w key x l n h =
     let v = length (listing (x ∷ l)) in
     let e : suc v ≡ total (map spelling (x ∷ l)) = unfold listing ascii in joined-total 44 (spelling x) (map spelling l) in
@@ -92,17 +92,17 @@ one-says : (o : Operator) (l : List ℤ) (w : Bytes) → argWords o l ≡ w ∷ 
 one-says o l w e h t = record { each = rw e (unfold allOf in rw h); few = rw e (lit≤ tt); short = rw e t }
 
 -- a key whose value is a list
-module _ (o : Operator) (key : String) (x : ℤ) (l : List ℤ) (e : argWords o (x ∷ l) ≡ pair key (listing (x ∷ l)) ∷ [])
+module _ (o : Operator) (key : String) (x : ℤ) (l : List ℤ) (e : argWords o (x ∷ l) ≡ keyValue key (listing (x ∷ l)) ∷ [])
     (k : worded (ascii key) ≡ true) (n : length (nameWord o) + length (ascii key) ≤ 13) (h : allOf nineDigits (x ∷ l) ≡ true) where
   list-says : total (map spelling (x ∷ l)) ≤ 24 → Says o (x ∷ l)
-  list-says t = one-says o (x ∷ l) (pair key (listing (x ∷ l))) e (pair-worded key (listing (x ∷ l)) k (listing-worded x l h)) (pair-short (nameWord o) key x l n t)
+  list-says t = one-says o (x ∷ l) (keyValue key (listing (x ∷ l))) e (pair-worded key (listing (x ∷ l)) k (listing-worded x l h)) (pair-short (nameWord o) key x l n t)
 
-pub adapt-words : (l : List ℤ) (p : Adapts l) → argWords Adapt l ≡ pair "from" (fromWord (p .code)) ∷ pair "to" (toWord (p .code) (p .a ∷ p .b ∷ p .c ∷ p .d ∷ [])) ∷ []
+pub adapt-words : (l : List ℤ) (p : Adapts l) → argWords Adapt l ≡ keyValue "from" (fromWord (p .code)) ∷ keyValue "to" (toWord (p .code) (p .a ∷ p .b ∷ p .c ∷ p .d ∷ [])) ∷ []
 unfolding argWords arg
 adapt-words l p = ap (argWords Adapt) (p .are)
 
-pair-total : (key : String) (v : Bytes) (ws : Words) → total (pair key v ∷ ws) ≡ length (ascii key) + length v + 2 + total ws
-unfolding total pair
+pair-total : (key : String) (v : Bytes) (ws : Words) → total (keyValue key v ∷ ws) ≡ length (ascii key) + length v + 2 + total ws
+unfolding total keyValue
 pair-total key v ws = omega (arith, length-append (ascii key) (61 ∷ v))
 
 adapt-says : (l : List ℤ) → Adapts l → Says Adapt l
@@ -119,8 +119,8 @@ adapt-says l p =
       short = rw e (bound from to (from-short (p .code)) (to-short (p .code) (p .a) (p .b) (p .c) (p .d) (p .ordered)));
     }
   where
-    bound : (v w : Bytes) → length v ≤ 8 → length w ≤ 8 → total (nameWord Adapt ∷ pair "from" v ∷ pair "to" w ∷ []) ≤ 39
-    bound v w a b = unfold nameWord ascii total in omega (arith, pair-total "from" v (pair "to" w ∷ []), pair-total "to" w [])
+    bound : (v w : Bytes) → length v ≤ 8 → length w ≤ 8 → total (nameWord Adapt ∷ keyValue "from" v ∷ keyValue "to" w ∷ []) ≤ 39
+    bound v w a b = unfold nameWord ascii total in omega (arith, pair-total "from" v (keyValue "to" w ∷ []), pair-total "to" w [])
 
 pub says : (o : Operator) (l : List ℤ) → length l ≤ 8 → allOf nineDigits l ≡ true → isArgs o l ≡ true → Says o l
 unfolding isArgs argWords nameWord worded calm firm known follows middle quiet endOf lacks white anyOf ascii

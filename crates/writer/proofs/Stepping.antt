@@ -12,14 +12,14 @@ use lib.Dec.{leb, ltb}
 use Rattle.rules.specs.Ascii.{ascii}
 use Rattle.rules.specs.Lists.{allOf}
 use Rattle.rules.specs.Text.{Bytes, afterEach, joinedBy}
-use Rattle.rules.specs.Refusal.{Reply, answers}
+use Rattle.rules.specs.Refusal.{Reply, answers, Lends}
 use Rattle.rules.specs.Record.{operatorOf, operator, args, isArgs, nineDigits, made, firstBad, refusal18, listed}
 use Rattle.rules.specs.declared.Step.{Step}
 use Rattle.rules.specs.declared.Table.{Table}
 use Rattle.rules.specs.declared.Written.{Written}
 use Rattle.rules.specs.declared.Written.the-variants as variant
 use Rattle.laws.specs.Separators.{and-left, and-right}
-use Rattle.laws.specs.Entry.{Lends, lends-refusal, lends-no-room, lends-text}
+use Rattle.laws.specs.Entry.{lends-refusal, lends-no-room, lends-text}
 use Rattle.text.specs.Writing.{Wrote, WroteAt}
 use Rattle.text.proofs.Writing.{wrote-front, wrote-fits, wrote-counts}
 use Rattle.steplaws.specs.Tests.{never}
@@ -27,7 +27,7 @@ use Rattle.sound.specs.Records.{badOf}
 use Rattle.sound.specs.declared.Bad.{Bad}
 use Rattle.sound.specs.declared.Bad.the-variants.{At, Nowhere}
 use Rattle.sound.proofs.Sounding.{Sound}
-use Rattle.writelaws.specs.Writing.{nameWord, writing, tableWriting, unless18, write}
+use Rattle.rules.specs.Write.{nameWord, writing, tableWriting, writtenUnless18, write}
 use Rattle.writelaws.specs.Records.{made-keeps}
 use Rattle.writelaws.specs.Written.{writing-short}
 use Rattle.writelaws.specs.Faithful.{table-short}
@@ -186,11 +186,11 @@ module _ (s : Step) where
   bad-one b e = rw e
 
   pub one-bad : {out : Bytes} → made s ≡ false → Lends (write (s ∷ [])) out (variant.Refused 18 1) out
-  unfolding write unless18 refusal18
+  unfolding write writtenUnless18 refusal18
   one-bad h = lends-refusal (rw (bad-one false h))
 
   pub one-good : made s ≡ true → write (s ∷ []) ≡ answers (writing s)
-  unfolding write unless18 refusal18
+  unfolding write writtenUnless18 refusal18
   one-good h = rw (bad-one true h) (unfold tableWriting joinedBy afterEach in ap answers (append-nil (writing s)))
 
 -- a table
@@ -205,14 +205,14 @@ bad-none none e = refl
 bad-none (some j) e = absurd (never (cc e))
 
 pub table-bad : (l : List Step) {b : Bad} {k : ℕ} {out : Bytes} → b ≡ badOf (refusal18 l) → b ≡ At k → Lends (write l) out (variant.Refused 18 k) out
-unfolding write unless18
+unfolding write writtenUnless18
 table-bad l e f = lends-refusal (rw (bad-at (refusal18 l) (sym e ∙ f)))
 
 pub nowhere-bad : (l : List Step) {b : Bad} → b ≡ badOf (refusal18 l) → b ≡ Nowhere → refusal18 l ≡ none
 nowhere-bad l e f = bad-none (refusal18 l) (sym e ∙ f)
 
 pub table-good : (l : List Step) → refusal18 l ≡ none → write l ≡ answers (tableWriting l)
-unfolding write unless18
+unfolding write writtenUnless18
 table-good l h = rw h
 
 -- it has room in 4,096 bytes

@@ -15,11 +15,10 @@ ghost use mathlib.Core.Option.{none};
 ghost use mathlib.Core.List.{[], _∷_};
 ghost use Prim.Native.Nat.{_<_};
 ghost use lib.Dec.{ltb};
-ghost use Rattle.rules.specs.Refusal.{answers};
+ghost use Rattle.rules.specs.Refusal.{answers, Lends};
 ghost use Rattle.rules.specs.Record.{made, refusal18, listed};
-ghost use Rattle.laws.specs.Entry.{Lends};
 ghost use Rattle.text.specs.Writing.{WroteAt};
-ghost use Rattle.writelaws.specs.Writing.{writing, tableWriting, write};
+ghost use Rattle.rules.specs.Write.{writing, tableWriting, write};
 ghost use Rattle.numerals.specs.Parts.{Room};
 ghost use Rattle.words.specs.Parts.{parted};
 

@@ -3,7 +3,7 @@ use Rattle.adaptwords.proofs.Spelling.{from-is}
 use Rattle.numerals.proofs.Numbers.{put-written}
 use Rattle.numerals.proofs.Putting.{room-as, as-written, first-room, then-room, both-written}
 use Prim.Native.Nat.{_/_}
-use Rattle.writelaws.specs.Writing.{endingOf}
+use Rattle.rules.specs.Write.{endingOf}
 use mathlib.Core.Path.{sym}
 use borrow.Author.Needs.{needs}
 use Rattle.adaptwords.proofs.from_word.Statement.{statement}

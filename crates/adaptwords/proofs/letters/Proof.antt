@@ -1,7 +1,7 @@
 use Rattle.adaptwords.proofs.Spelling.{letters-rest}
 use Rattle.numerals.proofs.Going.{Going, going-start, going-room, going-turn, going-length, going-end}
 use Rattle.adaptwords.specs.Parts.{lettered}
-use Rattle.writelaws.specs.Writing.{letter}
+use Rattle.rules.specs.Write.{letter}
 use mathlib.Core.Bool.{false}
 use mathlib.Core.List.{map}
 use Prim.Native.Nat.{_-_}

@@ -1,7 +1,7 @@
 use Rattle.adaptwords.proofs.Spelling.{to-is}
 use Rattle.numerals.proofs.Numbers.{put-written}
 use Rattle.numerals.proofs.Putting.{room-as, as-written, first-room, then-room, both-written}
-use Rattle.writelaws.specs.Writing.{letter, endingOf}
+use Rattle.rules.specs.Write.{letter, endingOf}
 use denote.Ref.{now}
 use Prim.Native.Nat.{_%_}
 use mathlib.Core.List.{[], _∷_, map}

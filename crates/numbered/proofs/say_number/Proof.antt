@@ -1,6 +1,6 @@
 use Rattle.numbered.proofs.Spelling.{spelt-front}
 use Rattle.numbered.proofs.Saying.{put-at}
-use Rattle.numbered.specs.Numbers.{number}
+use Rattle.rules.specs.Numerals.{digits}
 use borrow.Author.Needs.{needs}
 use Rattle.numbered.proofs.say_number.Statement.{statement}
 use Rattle.numbered.proofs.say_number.Tie as tie
@@ -29,7 +29,7 @@ same-length c = search needs
 
 returns : tie.Need-returns
 returns c =
-    let t = c .before .before .before .before .before .before .before .before .before .before in put-at (number (t .args .n)) (t .args .at) (rw (spelt-front (c .before .before .before .before .before .before .before .spell .ensures)) at (c .before .before .put .ensures))
+    let t = c .before .before .before .before .before .before .before .before .before .before in put-at (digits (t .args .n)) (t .args .at) (rw (spelt-front (c .before .before .before .before .before .before .before .spell .ensures)) at (c .before .before .put .ensures))
 
 pub say-number-spec : {M : Type 1} → statement M
 say-number-spec =

@@ -1,5 +1,5 @@
 use Rattle.numbered.proofs.Saying.{first-room, second-room, both-said}
-use Rattle.numbered.specs.Numbers.{counted, refused}
+use Rattle.rules.specs.Shown.{counted, refusalText}
 use Rattle.rules.specs.Ascii.{ascii}
 use borrow.Author.Needs.{needs}
 use Rattle.numbered.proofs.say_refused.Statement.{statement}
@@ -12,7 +12,7 @@ slice-aggregate-say-counted : tie.Need-slice-aggregate-say-counted
 slice-aggregate-say-counted c = search needs
 
 say-counted-requires : tie.Need-say-counted-requires
-unfolding refused ascii
+unfolding refusalText ascii
 say-counted-requires c κs =
     let t = c .before .before .before .before in rw (c .before .before .wide .ensures) (first-room (counted (ascii "refused ") (t .args .number)) (counted (ascii " ") (t .args .place)) (t .args .out .now) (t .args .at) (t .pre))
 
@@ -20,7 +20,7 @@ slice-aggregate-say-counted-2 : tie.Need-slice-aggregate-say-counted-2
 slice-aggregate-say-counted-2 c = search needs
 
 say-counted-requires-2 : tie.Need-say-counted-requires-2
-unfolding refused ascii
+unfolding refusalText ascii
 say-counted-requires-2 c κs =
     let t = c .before .before .before .before .before .before .before .before .before in second-room (counted (ascii "refused ") (t .args .number)) (counted (ascii " ") (t .args .place)) (t .args .out .now) (t .args .at) (t .pre) (rw (c .before .before .before .before .before .before .before .wide .ensures) at (c .before .before .before .before .say-counted .ensures))
 
@@ -28,7 +28,7 @@ same-length : tie.Need-same-length
 same-length c = search needs
 
 returns : tie.Need-returns
-unfolding refused ascii
+unfolding refusalText ascii
 returns c =
     let t = c .before .before .before .before .before .before .before .before .before .before .before .before in both-said (counted (ascii "refused ") (t .args .number)) (counted (ascii " ") (t .args .place)) (t .args .out .now) (t .args .at) (t .pre) (rw (c .before .before .before .before .before .before .before .before .before .before .wide .ensures) at (c .before .before .before .before .before .before .before .say-counted .ensures)) (c .before .before .say-counted2 .ensures)
 

@@ -1,5 +1,5 @@
 use Rattle.numbered.proofs.Saying.{put-at, first-room, second-room, both-said}
-use Rattle.numbered.specs.Numbers.{counted}
+use Rattle.rules.specs.Shown.{counted}
 use Rattle.rules.specs.Ascii.{ascii}
 use borrow.Author.Needs.{needs}
 use Rattle.numbered.proofs.say_step.Statement.{statement}

@@ -3,7 +3,7 @@ use Prim.Native.Nat.{_+_, _*_, _-_}
 use native.Mathlib.Omega.{arith}
 use lib.ListN.{length}
 use Rattle.rules.specs.Ascii.{ascii}
-use Rattle.numbered.specs.Numbers.{heading}
+use Rattle.rules.specs.Shown.{heading}
 use Rattle.numbered.proofs.Heading.{Heading, heading-start, heading-kept, heading-done, heading-room, heading-said, heading-place, heading-next, heading-byte, less-heading}
 use borrow.Author.Needs.{needs}
 use Rattle.numbered.proofs.say_steps.Statement.{statement}

@@ -42,7 +42,7 @@ digits-put-byte-requires : (t : ℕ) → digits-lts.Need-put-byte-requires (
   digits-below t,
   digits.Post,
 ) (digits-at t) digits.Post
-digits-put-byte-requires t c κs = one-room _ _ (c .before .before .before .pre .1 .1) (c .before .if1 .taken)
+digits-put-byte-requires t c κs = one-room _ (c .before .before .before .pre .1 .1) (c .before .if1 .taken)
 
 digits-same-length : (t : ℕ) → digits-lts.Need-same-length (
   put-byte-reads.Asked,
@@ -58,7 +58,7 @@ digits-returns : (t : ℕ) → digits-lts.Need-returns (
   digits-below t,
   digits.Post,
 ) (digits-at t) digits.Post
-digits-returns t c = one-written _ _ (c .before .before .before .before .before .before .pre .1 .1) (c .before .before .before .before .if1 .taken) (c .before .before .put-byte .ensures)
+digits-returns t c = one-written _ (c .before .before .before .before .before .before .pre .1 .1) (c .before .before .before .before .if1 .taken) (c .before .before .put-byte .ensures)
 
 digits-sub-digits : (t : ℕ) → digits-lts.Need-sub-digits (
   put-byte-reads.Asked,
@@ -74,7 +74,7 @@ digits-digits-requires : (t : ℕ) → digits-lts.Need-digits-requires (
   digits-below t,
   digits.Post,
 ) (digits-at t) digits.Post
-digits-digits-requires t c κs = (omega (arith, c .before .before .before .pre .0, some-more _ _ (c .before .if1 .left) (c .before .before .before .pre .1 .0)), (digits-less _ _ (some-more _ _ (c .before .if1 .left) (c .before .before .before .pre .1 .0)) (c .before .before .before .pre .1 .0), more-room _ _ (c .before .before .before .pre .1 .1) (c .before .if1 .left) (c .before .before .before .pre .1 .0)))
+digits-digits-requires t c κs = (omega (arith, c .before .before .before .pre .0, some-more _ _ (c .before .if1 .left) (c .before .before .before .pre .1 .0)), (digits-less _ _ (some-more _ _ (c .before .if1 .left) (c .before .before .before .pre .1 .0)) (c .before .before .before .pre .1 .0), more-room _ (c .before .before .before .pre .1 .1) (c .before .if1 .left)))
 
 digits-cast-put-byte-2 : (t : ℕ) → digits-lts.Need-cast-put-byte-2 (
   put-byte-reads.Asked,
@@ -98,7 +98,7 @@ digits-put-byte-requires-2 : (t : ℕ) → digits-lts.Need-put-byte-requires-2 (
   digits-below t,
   digits.Post,
 ) (digits-at t) digits.Post
-digits-put-byte-requires-2 t c κs = last-room _ _ (c .before .before .before .before .before .before .before .pre .1 .1) (c .before .before .before .before .before .if1 .left) (c .before .before .before .before .before .before .before .pre .1 .0) (c .before .before .before .digits .ensures)
+digits-put-byte-requires-2 t c κs = last-room _ (c .before .before .before .before .before .before .before .pre .1 .1) (c .before .before .before .before .before .if1 .left) (c .before .before .before .digits .ensures)
 
 digits-same-length-2 : (t : ℕ) → digits-lts.Need-same-length-2 (
   put-byte-reads.Asked,
@@ -114,7 +114,7 @@ digits-returns-2 : (t : ℕ) → digits-lts.Need-returns-2 (
   digits-below t,
   digits.Post,
 ) (digits-at t) digits.Post
-digits-returns-2 t c = more-written _ _ (c .before .before .before .before .before .before .before .before .before .before .pre .1 .1) (c .before .before .before .before .before .before .before .before .if1 .left) (c .before .before .before .before .before .before .before .before .before .before .pre .1 .0) (c .before .before .before .before .before .before .digits .ensures) (c .before .before .put-byte2 .ensures)
+digits-returns-2 t c = more-written _ (c .before .before .before .before .before .before .before .before .before .before .pre .1 .1) (c .before .before .before .before .before .before .before .before .if1 .left) (c .before .before .before .before .before .before .digits .ensures) (c .before .before .put-byte2 .ensures)
 
 pub +digits-spec : {M : Type 1} → statement M
 +digits-spec = close μ-digits λ t. digits-lts.spec (

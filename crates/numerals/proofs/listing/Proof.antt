@@ -1,7 +1,7 @@
 use Rattle.numerals.proofs.Numbers.{listing-rest}
 use Rattle.numerals.proofs.Going.{Going, going-start, going-room, going-turn, going-length, going-end}
 use Rattle.numerals.specs.Parts.{numbered}
-use Rattle.writelaws.specs.Writing.{listing}
+use Rattle.rules.specs.Write.{listing}
 use Prim.Native.Nat.{_-_}
 use lib.ListN.{length}
 use lib.IntN.{pos}

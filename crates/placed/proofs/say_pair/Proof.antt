@@ -1,30 +1,30 @@
 use Rattle.numbered.proofs.Saying.{first-room, second-room, both-said}
-use Rattle.placed.specs.Places.{signed, pair}
+use Rattle.rules.specs.Shown.{signedPlace, twoPlaces}
 use Rattle.rules.specs.Ascii.{ascii}
 use borrow.Author.Needs.{needs}
 use Rattle.placed.proofs.say_pair.Statement.{statement}
 use Rattle.placed.proofs.say_pair.Tie as tie
 
 say-signed-requires : tie.Need-say-signed-requires
-unfolding pair ascii
+unfolding twoPlaces ascii
 say-signed-requires c κs =
-    let t = c .before .before .before in first-room (signed (t .args .word .now) (t .args .p)) (signed (ascii ",") (t .args .q)) (t .args .out .now) (t .args .at) (t .pre)
+    let t = c .before .before .before in first-room (signedPlace (t .args .word .now) (t .args .p)) (signedPlace (ascii ",") (t .args .q)) (t .args .out .now) (t .args .at) (t .pre)
 
 slice-aggregate-say-signed : tie.Need-slice-aggregate-say-signed
 slice-aggregate-say-signed c = search needs
 
 say-signed-requires-2 : tie.Need-say-signed-requires-2
-unfolding pair ascii
+unfolding twoPlaces ascii
 say-signed-requires-2 c κs =
-    let t = c .before .before .before .before .before .before .before .before in second-room (signed (t .args .word .now) (t .args .p)) (signed (ascii ",") (t .args .q)) (t .args .out .now) (t .args .at) (t .pre) (c .before .before .before .before .say-signed .ensures)
+    let t = c .before .before .before .before .before .before .before .before in second-room (signedPlace (t .args .word .now) (t .args .p)) (signedPlace (ascii ",") (t .args .q)) (t .args .out .now) (t .args .at) (t .pre) (c .before .before .before .before .say-signed .ensures)
 
 same-length : tie.Need-same-length
 same-length c = search needs
 
 returns : tie.Need-returns
-unfolding pair ascii
+unfolding twoPlaces ascii
 returns c =
-    let t = c .before .before .before .before .before .before .before .before .before .before .before in both-said (signed (t .args .word .now) (t .args .p)) (signed (ascii ",") (t .args .q)) (t .args .out .now) (t .args .at) (t .pre) (c .before .before .before .before .before .before .before .say-signed .ensures) (c .before .before .say-signed2 .ensures)
+    let t = c .before .before .before .before .before .before .before .before .before .before .before in both-said (signedPlace (t .args .word .now) (t .args .p)) (signedPlace (ascii ",") (t .args .q)) (t .args .out .now) (t .args .at) (t .pre) (c .before .before .before .before .before .before .before .say-signed .ensures) (c .before .before .say-signed2 .ensures)
 
 pub say-pair-spec : {M : Type 1} → statement M
 say-pair-spec =

@@ -1,5 +1,5 @@
 use Rattle.numbered.proofs.Saying.{first-room, second-room, both-said}
-use Rattle.placed.specs.Places.{pair, fourPlaces}
+use Rattle.rules.specs.Shown.{twoPlaces, fourPlaces}
 use Rattle.rules.specs.Ascii.{ascii}
 use Rattle.rules.specs.Check.{nth}
 use borrow.Author.Needs.{needs}
@@ -24,7 +24,7 @@ slice-aggregate-say-pair c = search needs
 say-pair-requires : tie.Need-say-pair-requires
 unfolding fourPlaces ascii
 say-pair-requires c κs =
-    let t = c .before .before .before .before .before .before .before in first-room (pair (ascii " places ") (nth (t .args .t1) 0) (nth (t .args .t1) 1)) (pair (ascii ",") (nth (t .args .t1) 2) (nth (t .args .t1) 3)) (t .args .out .now) (t .args .at) (t .pre)
+    let t = c .before .before .before .before .before .before .before in first-room (twoPlaces (ascii " places ") (nth (t .args .t1) 0) (nth (t .args .t1) 1)) (twoPlaces (ascii ",") (nth (t .args .t1) 2) (nth (t .args .t1) 3)) (t .args .out .now) (t .args .at) (t .pre)
 
 slice-aggregate-say-pair-2 : tie.Need-slice-aggregate-say-pair-2
 slice-aggregate-say-pair-2 c = search needs
@@ -32,7 +32,7 @@ slice-aggregate-say-pair-2 c = search needs
 say-pair-requires-2 : tie.Need-say-pair-requires-2
 unfolding fourPlaces ascii
 say-pair-requires-2 c κs =
-    let t = c .before .before .before .before .before .before .before .before .before .before .before .before in second-room (pair (ascii " places ") (nth (t .args .t1) 0) (nth (t .args .t1) 1)) (pair (ascii ",") (nth (t .args .t1) 2) (nth (t .args .t1) 3)) (t .args .out .now) (t .args .at) (t .pre) (c .before .before .before .before .say-pair .ensures)
+    let t = c .before .before .before .before .before .before .before .before .before .before .before .before in second-room (twoPlaces (ascii " places ") (nth (t .args .t1) 0) (nth (t .args .t1) 1)) (twoPlaces (ascii ",") (nth (t .args .t1) 2) (nth (t .args .t1) 3)) (t .args .out .now) (t .args .at) (t .pre) (c .before .before .before .before .say-pair .ensures)
 
 same-length : tie.Need-same-length
 same-length c = search needs
@@ -40,7 +40,7 @@ same-length c = search needs
 returns : tie.Need-returns
 unfolding fourPlaces ascii
 returns c =
-    let t = c .before .before .before .before .before .before .before .before .before .before .before .before .before .before .before in both-said (pair (ascii " places ") (nth (t .args .t1) 0) (nth (t .args .t1) 1)) (pair (ascii ",") (nth (t .args .t1) 2) (nth (t .args .t1) 3)) (t .args .out .now) (t .args .at) (t .pre) (c .before .before .before .before .before .before .before .say-pair .ensures) (c .before .before .say-pair2 .ensures)
+    let t = c .before .before .before .before .before .before .before .before .before .before .before .before .before .before .before in both-said (twoPlaces (ascii " places ") (nth (t .args .t1) 0) (nth (t .args .t1) 1)) (twoPlaces (ascii ",") (nth (t .args .t1) 2) (nth (t .args .t1) 3)) (t .args .out .now) (t .args .at) (t .pre) (c .before .before .before .before .before .before .before .say-pair .ensures) (c .before .before .say-pair2 .ensures)
 
 pub say-places-spec : {M : Type 1} → statement M
 say-places-spec =

@@ -1,6 +1,6 @@
 use Rattle.numbered.proofs.Saying.{first-room, second-room, both-said}
-use Rattle.numbered.specs.Numbers.{number, counted}
-use Rattle.placed.specs.Places.{signed}
+use Rattle.rules.specs.Numerals.{digits}
+use Rattle.rules.specs.Shown.{counted, signedPlace}
 use Rattle.rules.specs.Ascii.{ascii}
 use mathlib.Core.List.{[], _++_}
 use mathlib.Core.Bool.{cond}
@@ -12,22 +12,22 @@ wide-axis-requires : tie.Need-wide-axis-requires
 wide-axis-requires c κs = search needs
 
 say-marked-requires : tie.Need-say-marked-requires
-unfolding signed counted
+unfolding signedPlace counted
 say-marked-requires c κs =
-    let t = c .before .before .before .before in first-room (t .args .word .now ++ cond (t .args .p .minus) (ascii "-") []) (number (t .args .p .axis)) (t .args .out .now) (t .args .at) (t .pre)
+    let t = c .before .before .before .before in first-room (t .args .word .now ++ cond (t .args .p .minus) (ascii "-") []) (digits (t .args .p .axis)) (t .args .out .now) (t .args .at) (t .pre)
 
 say-number-requires : tie.Need-say-number-requires
-unfolding signed counted
+unfolding signedPlace counted
 say-number-requires c κs =
-    let t = c .before .before .before .before .before .before .before .before in rw (c .before .before .before .before .before .wide-axis .ensures) (second-room (t .args .word .now ++ cond (t .args .p .minus) (ascii "-") []) (number (t .args .p .axis)) (t .args .out .now) (t .args .at) (t .pre) (c .before .before .before .say-marked .ensures))
+    let t = c .before .before .before .before .before .before .before .before in rw (c .before .before .before .before .before .wide-axis .ensures) (second-room (t .args .word .now ++ cond (t .args .p .minus) (ascii "-") []) (digits (t .args .p .axis)) (t .args .out .now) (t .args .at) (t .pre) (c .before .before .before .say-marked .ensures))
 
 same-length : tie.Need-same-length
 same-length c = search needs
 
 returns : tie.Need-returns
-unfolding signed counted
+unfolding signedPlace counted
 returns c =
-    let t = c .before .before .before .before .before .before .before .before .before .before .before in both-said (t .args .word .now ++ cond (t .args .p .minus) (ascii "-") []) (number (t .args .p .axis)) (t .args .out .now) (t .args .at) (t .pre) (c .before .before .before .before .before .before .say-marked .ensures) (rw (c .before .before .before .before .before .before .before .before .wide-axis .ensures) at (c .before .before .say-number .ensures))
+    let t = c .before .before .before .before .before .before .before .before .before .before .before in both-said (t .args .word .now ++ cond (t .args .p .minus) (ascii "-") []) (digits (t .args .p .axis)) (t .args .out .now) (t .args .at) (t .pre) (c .before .before .before .before .before .before .say-marked .ensures) (rw (c .before .before .before .before .before .before .before .before .wide-axis .ensures) at (c .before .before .say-number .ensures))
 
 pub say-signed-spec : {M : Type 1} → statement M
 say-signed-spec =

@@ -1,5 +1,5 @@
 use Rattle.placed.proofs.Saying.{told-room, told-said, untold-said}
-use Rattle.placed.specs.Places.{fourPlaces}
+use Rattle.rules.specs.Shown.{fourPlaces}
 use borrow.Author.Needs.{needs}
 use Rattle.placed.proofs.say_told.Statement.{statement}
 use Rattle.placed.proofs.say_told.Tie as tie

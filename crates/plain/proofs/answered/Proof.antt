@@ -1,5 +1,5 @@
 use mathlib.Core.Path.{sym, ap}
-use Rattle.plain.specs.Replies.{plain}
+use Rattle.rules.specs.Plain.{plainWritten}
 use borrow.Author.Needs.{needs}
 use Rattle.plain.proofs.answered.Statement.{statement}
 use Rattle.plain.proofs.answered.Tie as tie
@@ -11,12 +11,12 @@ enum-known-w-2 : tie.Need-enum-known-w-2
 enum-known-w-2 c = search needs
 
 returns : tie.Need-returns
-unfolding plain
-returns c = sym (ap plain (c .before .w .given .1))
+unfolding plainWritten
+returns c = sym (ap plainWritten (c .before .w .given .1))
 
 returns-2 : tie.Need-returns-2
-unfolding plain
-returns-2 c = sym (ap plain (c .before .w2 .given .1))
+unfolding plainWritten
+returns-2 c = sym (ap plainWritten (c .before .w2 .given .1))
 
 pub answered-spec : {M : Type 1} → statement M
 answered-spec = tie.close (tie.spec enum-known-w enum-known-w-2 returns returns-2)

@@ -1,5 +1,5 @@
 use mathlib.Core.Path.{sym, ap}
-use Rattle.plain.specs.Replies.{plainPrepared}
+use Rattle.rules.specs.Plain.{plainPrepared}
 use borrow.Author.Needs.{needs}
 use Rattle.plain.proofs.counted.Statement.{statement}
 use Rattle.plain.proofs.counted.Tie as tie

@@ -1,6 +1,6 @@
 use mathlib.Core.Path.{refl}
 use borrow.Author.Tests.{eq-eqb, ne-eqb}
-use Rattle.plain.specs.Replies.{directionOf}
+use Rattle.rules.specs.Plain.{directionOf}
 use Rattle.plain.proofs.direction_of.Statement.{statement}
 use Rattle.plain.proofs.direction_of.Tie as tie
 

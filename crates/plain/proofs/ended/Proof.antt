@@ -1,5 +1,5 @@
 use mathlib.Core.Path.{sym, ap}
-use Rattle.plain.specs.Replies.{plainRun}
+use Rattle.rules.specs.Plain.{plainRan}
 use borrow.Author.Needs.{needs}
 use Rattle.plain.proofs.ended.Statement.{statement}
 use Rattle.plain.proofs.ended.Tie as tie
@@ -11,12 +11,12 @@ enum-known-ran-2 : tie.Need-enum-known-ran-2
 enum-known-ran-2 c = search needs
 
 returns : tie.Need-returns
-unfolding plainRun
-returns c = sym (ap plainRun (c .before .ran .given .1))
+unfolding plainRan
+returns c = sym (ap plainRan (c .before .ran .given .1))
 
 returns-2 : tie.Need-returns-2
-unfolding plainRun
-returns-2 c = sym (ap plainRun (c .before .ran2 .given .1))
+unfolding plainRan
+returns-2 c = sym (ap plainRan (c .before .ran2 .given .1))
 
 pub ended-spec : {M : Type 1} → statement M
 ended-spec = tie.close (tie.spec enum-known-ran enum-known-ran-2 returns returns-2)

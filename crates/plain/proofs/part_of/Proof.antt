@@ -1,5 +1,5 @@
 use mathlib.Core.Path.{sym, ap}
-use Rattle.plain.specs.Replies.{plainFound}
+use Rattle.rules.specs.Plain.{plainFound}
 use borrow.Author.Needs.{needs}
 use Rattle.plain.proofs.part_of.Statement.{statement}
 use Rattle.plain.proofs.part_of.Tie as tie

@@ -1,5 +1,5 @@
 use mathlib.Core.Path.{sym, ap}
-use Rattle.plain.specs.Replies.{plainVerdict}
+use Rattle.rules.specs.Plain.{plainVerdict}
 use borrow.Author.Needs.{needs}
 use Rattle.plain.proofs.verdict_of.Statement.{statement}
 use Rattle.plain.proofs.verdict_of.Tie as tie

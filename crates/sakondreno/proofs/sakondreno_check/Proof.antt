@@ -52,10 +52,10 @@ use Rattle.entry.proofs.check.Symbol as row-def
 use Rattle.entry.proofs.check.Symbol.{name as #entry·check}
 use Rattle.entry.proofs.check.Met as row-thm
 use Rattle.plain.proofs.Plainly.{checks-plain}
-use Rattle.plain.specs.Replies.{directionOf, plainCheck, PlainChecks}
-use Rattle.plain.specs.declared.Checked.{Checked}
-use Rattle.plain.proofs.Checked as N
-use Rattle.plain.proofs.Checked.Laws as N′
+use Rattle.rules.specs.Plain.{directionOf, plainCheck, PlainChecks}
+use Rattle.rules.specs.declared.Checked.{Checked}
+use Rattle.rules.proofs.Checked as N
+use Rattle.rules.proofs.Checked.Laws as N′
 use Rattle.plain.proofs.direction_of as direction
 use Rattle.plain.proofs.direction_of.Symbol as direction-def
 use Rattle.plain.proofs.direction_of.Symbol.{name as #plain·direction-of}

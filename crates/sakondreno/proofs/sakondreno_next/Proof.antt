@@ -1,5 +1,5 @@
 use mathlib.Core.Path.{ap, _∙_}
-use Rattle.plain.specs.Replies.{plainFound}
+use Rattle.rules.specs.Plain.{plainFound}
 use borrow.Author.Needs.{needs}
 use Rattle.sakondreno.proofs.sakondreno_next.Statement.{statement}
 use Rattle.sakondreno.proofs.sakondreno_next.Tie as tie

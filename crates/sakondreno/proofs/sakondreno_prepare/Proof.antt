@@ -51,10 +51,10 @@ use Rattle.entry.proofs.prepare as row-prepare
 use Rattle.entry.proofs.prepare.Symbol as row-def
 use Rattle.entry.proofs.prepare.Symbol.{name as #entry·prepare}
 use Rattle.entry.proofs.prepare.Met as row-thm
-use Rattle.plain.specs.Replies.{plainPrepared, recorded}
-use Rattle.plain.specs.declared.Answer.{Answer}
-use Rattle.plain.proofs.Answer as N
-use Rattle.plain.proofs.Answer.Laws as N′
+use Rattle.rules.specs.Plain.{plainPrepared, recordCount}
+use Rattle.rules.specs.declared.Answer.{Answer}
+use Rattle.rules.proofs.Answer as N
+use Rattle.rules.proofs.Answer.Laws as N′
 use Rattle.plain.proofs.counted as counted
 use Rattle.plain.proofs.counted.Symbol as counted-def
 use Rattle.plain.proofs.counted.Symbol.{name as #plain·counted}
@@ -103,7 +103,7 @@ module _ {M : Type 1} (𝓤 : URA M) (H : Heap 𝓤) (A : Atoms 𝓤) (W : Given
   abbrev Post : Val → SProp 𝓤
   Post = walkOf 𝓤 H A call.ended stayed (call.clauses 𝓤 H A mem run) .post ((κs, (q, (q′, tt)), tt, (text, (x, tt)), at), tt)
 
-  exits : (w : Val) (r : Answer) (zs : List Step) → Promised recorded prepare (now text) (now x) r zs → length zs ≡ length (now x)
+  exits : (w : Val) (r : Answer) (zs : List Step) → Promised recordCount prepare (now text) (now x) r zs → length zs ≡ length (now x)
       → ent 𝓤 (⋆ 𝓤 H A (‵ (N.the-row .own r (w ∷ [])) ∷ ‵ (finally R (x .name) zs) ∷ (‵ (flft κ q) ⊛ ‵ (flft κ′ q′) ⊛ ‵ ftrue) ∷ ‵ Text ∷ [])) (Post w)
   exits w r zs e l =
       qed W (‵ (N.the-row .own r (w ∷ [])) ∷ ‵ (finally R (x .name) zs) ∷ (‵ (flft κ q) ⊛ ‵ (flft κ′ q′) ⊛ ‵ ftrue) ∷ ‵ Text ∷ []) ∵
@@ -153,7 +153,7 @@ module _ {M : Type 1} (𝓤 : URA M) (H : Heap 𝓤) (A : Atoms 𝓤) (W : Given
         land ! (from ! (stop !)) (init ! 14 refl (LL.lawful N.the-type N′.the-laws 𝓤 H A W .typed r₁ _ is₁ .0)) $
         returns ! (look ! 14 refl) $ forget ! 4 refl $ forget ! 6 refl $ forget ! 8 refl $ forget ! 10 refl $ forget ! 12 refl $ forget ! 14 refl $
         move ! (14 ∷ 15 ∷ []) $ free1 ! $ move ! (12 ∷ 13 ∷ []) $ free1 ! $ move ! (10 ∷ 11 ∷ []) $ free1 ! $ move ! (8 ∷ 9 ∷ []) $ free1 ! $ move ! (6 ∷ 7 ∷ []) $ free1 ! $ move ! (4 ∷ 5 ∷ []) $ free1 ! $ free0 ! $
-        by ! (exits w₁ r₁ (ws .1 .0) (subst (λ (a : Answer). Promised recorded prepare (now text) (now x) a (ws .1 .0)) (sym e₁) (in-other-words plainPrepared e)) l))))))))))))
+        by ! (exits w₁ r₁ (ws .1 .0) (subst (λ (a : Answer). Promised recordCount prepare (now text) (now x) a (ws .1 .0)) (sym e₁) (in-other-words plainPrepared e)) l))))))))))))
 
 module _ {M : Type 1} (𝓤 : URA M) (H : Heap 𝓤) (A : Atoms 𝓤) (W : Given 𝓤 H A) (mem : Memory → SProp 𝓤) (run : Routine → Fun 𝓤) (𝓣 : Tables 𝓤 H)
     (known-row : Triple 𝓤 (𝓣 .C #entry·prepare) (RowPrepare 𝓤 H A mem run)) (known-counted : Triple 𝓤 (𝓣 .C #plain·counted) (Counted 𝓤 H A mem run)) where

@@ -56,10 +56,10 @@ use Rattle.entry.proofs.run.Symbol as row-def
 use Rattle.entry.proofs.run.Symbol.{name as #entry·run}
 use Rattle.entry.proofs.run.Met as row-thm
 use Rattle.plain.proofs.Plainly.{runs-plain}
-use Rattle.plain.specs.Replies.{directionOf, plainRun, PlainRuns}
-use Rattle.plain.specs.declared.Done.{Done}
-use Rattle.plain.proofs.Done as N
-use Rattle.plain.proofs.Done.Laws as N′
+use Rattle.rules.specs.Plain.{directionOf, plainRan, PlainRuns}
+use Rattle.rules.specs.declared.Done.{Done}
+use Rattle.rules.proofs.Done as N
+use Rattle.rules.proofs.Done.Laws as N′
 use Rattle.plain.proofs.direction_of as direction
 use Rattle.plain.proofs.direction_of.Symbol as direction-def
 use Rattle.plain.proofs.direction_of.Symbol.{name as #plain·direction-of}
@@ -176,7 +176,7 @@ module _ {M : Type 1} (𝓤 : URA M) (H : Heap 𝓤) (A : Atoms 𝓤) (W : Given
         land ! (from ! (stop !)) (init ! 12 refl (EL.lawful P.the-type P′.the-laws 𝓤 H A W tt .typed o _ is₁ .0)) $
         rewrite ! 12 (λ (z : Val). ‵ (fat fullShare P′.mir l₆ 0 z)) (result-is Out out-val (EL.tells P.the-type P′.the-laws) o o w₁ is₁ refl) refl $
         use0 W (raw (Ended 𝓤 H A mem run .pre (to-ended o))) (goes-ended o (result-has Out out-val (EL.tells P.the-type P′.the-laws) o o w₁ is₁ refl)) $
-        calls-known ! (fmOf 𝓤 H (W .laws) 𝓣) ended.ended (ended.clauses 𝓤 H A mem run) known-ended (to-ended o) (λ z. z ≡ plainRun o) (λ z _. id⊢ 𝓤 _)
+        calls-known ! (fmOf 𝓤 H (W .laws) 𝓣) ended.ended (ended.clauses 𝓤 H A mem run) known-ended (to-ended o) (λ z. z ≡ plainRan o) (λ z _. id⊢ 𝓤 _)
         (and-then ! (load ! (from ! (stop !)) (look ! 13 refl)) (no-more !)) (λ w₂ r e₂.
         drop ! $ peeks ! N.the-row (Is N.the-row) (shows 𝓤 H A N.the-row) r (w₂ ∷ []) (λ is₂.
         -- [the result; the last columns; the last tuples; the tokens; what the row owns; _10; …; …; room for _0; …]

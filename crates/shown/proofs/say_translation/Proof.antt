@@ -1,5 +1,5 @@
 use Rattle.text.proofs.Placing.{line-room, line-place, line-done}
-use Rattle.shown.specs.Showing.{translation}
+use Rattle.rules.specs.Shown.{translatedLine}
 use Rattle.rules.specs.Ascii.{ascii}
 use mathlib.Core.List.{_++_}
 use borrow.Author.Needs.{needs}
@@ -10,17 +10,17 @@ slice-aggregate-say-words : tie.Need-slice-aggregate-say-words
 slice-aggregate-say-words c = search needs
 
 say-words-requires : tie.Need-say-words-requires
-unfolding translation ascii
+unfolding translatedLine ascii
 say-words-requires c κs =
     let t = c .before .before .before .before in line-room (ascii "translated: " ++ t .args .text .now) (t .args .out .now) (t .args .at) (t .pre)
 
 slice-write-out : tie.Need-slice-write-out
-unfolding translation ascii
+unfolding translatedLine ascii
 slice-write-out c =
     let t = c .before .before .before .before .before .before .before in line-place (ascii "translated: " ++ t .args .text .now) (t .args .out .now) (t .args .at) (t .pre) (c .before .before .say-words .ensures) .0
 
 add-result : tie.Need-add-result
-unfolding translation ascii
+unfolding translatedLine ascii
 add-result c =
     let t = c .before .before .before .before .before .before .before in let h = line-place (ascii "translated: " ++ t .args .text .now) (t .args .out .now) (t .args .at) (t .pre) (c .before .before .say-words .ensures) .1 in search needs
 
@@ -28,7 +28,7 @@ same-length : tie.Need-same-length
 same-length c = search needs
 
 returns : tie.Need-returns
-unfolding translation ascii
+unfolding translatedLine ascii
 returns c =
     let t = c .before .before .before .before .before .before .before in line-done (ascii "translated: " ++ t .args .text .now) (t .args .out .now) (t .args .at) (t .pre) (c .before .before .say-words .ensures)
 

@@ -1,7 +1,6 @@
 use Rattle.shown.proofs.Calling.{room-so, said-so, front-so, called-fits, called-counts, called-wrote, called-refused, text-refused, text-wrote}
 use Rattle.shown.proofs.Sizes.{shown-room}
-use Rattle.numbered.specs.Numbers.{refused}
-use Rattle.shown.specs.Showing.{shownSteps, translation, shown}
+use Rattle.rules.specs.Shown.{refusalText, shownSteps, translatedLine, shown}
 use Rattle.rules.specs.Split.{line}
 use mathlib.Core.List.{_++_}
 use lib.ListN.{take}
@@ -25,14 +24,14 @@ slice-aggregate-show-translation c =
 
 show-translation-requires : tie.Need-show-translation-requires
 show-translation-requires c κs =
-    let t = c .before .before .before .before .before .before .before .before .before .before .before .before .before .before in (t .pre .1 .0, room-so (shown (t .args .text .now)) (translation (take (c .before .before .before .before .written .given .0 .0) (c .before .before .before .before .before .before .before .before .translate .last .1 .0)) ++ shownSteps (take (c .before .before .before .before .written .given .0 .0) (c .before .before .before .before .before .before .before .before .translate .last .1 .0))) (t .args .out .now) 0 (text-wrote (t .args .text .now) (called-wrote (c .before .before .before .before .written .given .1) (c .before .before .before .before .before .before .before .before .translate .ensures) (t .pre .0) (c .before .before .before .before .before .before .before .before .translate .kept .1 .0))) (shown-room (t .args .text .now) (t .args .out .now) (t .pre .1 .1)))
+    let t = c .before .before .before .before .before .before .before .before .before .before .before .before .before .before in (t .pre .1 .0, room-so (shown (t .args .text .now)) (translatedLine (take (c .before .before .before .before .written .given .0 .0) (c .before .before .before .before .before .before .before .before .translate .last .1 .0)) ++ shownSteps (take (c .before .before .before .before .written .given .0 .0) (c .before .before .before .before .before .before .before .before .translate .last .1 .0))) (t .args .out .now) 0 (text-wrote (t .args .text .now) (called-wrote (c .before .before .before .before .written .given .1) (c .before .before .before .before .before .before .before .before .translate .ensures) (t .pre .0) (c .before .before .before .before .before .before .before .before .translate .kept .1 .0))) (shown-room (t .args .text .now) (t .args .out .now) (t .pre .1 .1)))
 
 enum-known-written-2 : tie.Need-enum-known-written-2
 enum-known-written-2 c = search needs
 
 say-refusal-requires : tie.Need-say-refusal-requires
 say-refusal-requires c κs =
-    let t = c .before .before .before .before .before .before .before .before .before .before .before .before in room-so (shown (t .args .text .now)) (line (refused (c .before .before .written2 .given .0 .0) (c .before .before .written2 .given .0 .1 .0))) (t .args .out .now) 0 (text-refused (t .args .text .now) (called-refused (c .before .before .written2 .given .1) (c .before .before .before .before .before .before .translate .ensures) (t .pre .0))) (shown-room (t .args .text .now) (t .args .out .now) (t .pre .1 .1))
+    let t = c .before .before .before .before .before .before .before .before .before .before .before .before in room-so (shown (t .args .text .now)) (line (refusalText (c .before .before .written2 .given .0 .0) (c .before .before .written2 .given .0 .1 .0))) (t .args .out .now) 0 (text-refused (t .args .text .now) (called-refused (c .before .before .written2 .given .1) (c .before .before .before .before .before .before .translate .ensures) (t .pre .0))) (shown-room (t .args .text .now) (t .args .out .now) (t .pre .1 .1))
 
 same-length : tie.Need-same-length
 same-length c = search needs
@@ -45,7 +44,7 @@ same-length-3 c = search needs
 
 returns : tie.Need-returns
 returns c =
-    let t = c .before .before .before .before .before .before .before .before .before .before .before .before .before .before .before .before .before .before .before in front-so (said-so (shown (t .args .text .now)) (translation (take (c .before .before .before .before .before .before .before .before .before .written .given .0 .0) (c .before .before .before .before .before .before .before .before .before .before .before .before .before .translate .last .1 .0)) ++ shownSteps (take (c .before .before .before .before .before .before .before .before .before .written .given .0 .0) (c .before .before .before .before .before .before .before .before .before .before .before .before .before .translate .last .1 .0))) (t .args .out .now) 0 (text-wrote (t .args .text .now) (called-wrote (c .before .before .before .before .before .before .before .before .before .written .given .1) (c .before .before .before .before .before .before .before .before .before .before .before .before .before .translate .ensures) (t .pre .0) (c .before .before .before .before .before .before .before .before .before .before .before .before .before .translate .kept .1 .0))) (c .before .before .before .before .show-translation .ensures))
+    let t = c .before .before .before .before .before .before .before .before .before .before .before .before .before .before .before .before .before .before .before in front-so (said-so (shown (t .args .text .now)) (translatedLine (take (c .before .before .before .before .before .before .before .before .before .written .given .0 .0) (c .before .before .before .before .before .before .before .before .before .before .before .before .before .translate .last .1 .0)) ++ shownSteps (take (c .before .before .before .before .before .before .before .before .before .written .given .0 .0) (c .before .before .before .before .before .before .before .before .before .before .before .before .before .translate .last .1 .0))) (t .args .out .now) 0 (text-wrote (t .args .text .now) (called-wrote (c .before .before .before .before .before .before .before .before .before .written .given .1) (c .before .before .before .before .before .before .before .before .before .before .before .before .before .translate .ensures) (t .pre .0) (c .before .before .before .before .before .before .before .before .before .before .before .before .before .translate .kept .1 .0))) (c .before .before .before .before .show-translation .ensures))
 
 same-length-4 : tie.Need-same-length-4
 same-length-4 c = search needs
@@ -55,7 +54,7 @@ same-length-5 c = search needs
 
 returns-2 : tie.Need-returns-2
 returns-2 c =
-    let t = c .before .before .before .before .before .before .before .before .before .before .before .before .before .before .before in front-so (said-so (shown (t .args .text .now)) (line (refused (c .before .before .before .before .before .written2 .given .0 .0) (c .before .before .before .before .before .written2 .given .0 .1 .0))) (t .args .out .now) 0 (text-refused (t .args .text .now) (called-refused (c .before .before .before .before .before .written2 .given .1) (c .before .before .before .before .before .before .before .before .before .translate .ensures) (t .pre .0))) (c .before .before .say-refusal .ensures))
+    let t = c .before .before .before .before .before .before .before .before .before .before .before .before .before .before .before in front-so (said-so (shown (t .args .text .now)) (line (refusalText (c .before .before .before .before .before .written2 .given .0 .0) (c .before .before .before .before .before .written2 .given .0 .1 .0))) (t .args .out .now) 0 (text-refused (t .args .text .now) (called-refused (c .before .before .before .before .before .written2 .given .1) (c .before .before .before .before .before .before .before .before .before .translate .ensures) (t .pre .0))) (c .before .before .say-refusal .ensures))
 
 pub show-spec : {M : Type 1} → statement M
 show-spec =

@@ -1,8 +1,6 @@
 use Rattle.shown.proofs.Calling.{room-so, said-so, checks-refused, checks-told}
 use Rattle.shown.proofs.Recording.{prepare-refused, prepare-steps}
-use Rattle.numbered.specs.Numbers.{refused}
-use Rattle.shown.specs.Showing.{shownChecks}
-use Rattle.verdicts.specs.Verdicts.{bothChecks}
+use Rattle.rules.specs.Shown.{refusalText, shownChecks, bothChecks}
 use Rattle.rules.specs.Record.{listed}
 use Rattle.rules.specs.Split.{line}
 use borrow.Author.Needs.{needs}
@@ -30,7 +28,7 @@ enum-known-answer-2 c = search needs
 
 say-refusal-requires : tie.Need-say-refusal-requires
 say-refusal-requires c κs =
-    let t = c .before .before .before .before .before .before .before .before in room-so (shownChecks (t .args .text .now)) (line (refused (c .before .before .answer2 .given .0 .0) (c .before .before .answer2 .given .0 .1 .0))) (t .args .out .now) (t .args .at) (checks-refused (t .args .text .now) (prepare-refused (t .args .text .now) (c .before .before .before .before .before .empty .ensures) (c .before .before .before .before .prepare .ensures) (c .before .before .answer2 .given .1))) (t .pre)
+    let t = c .before .before .before .before .before .before .before .before in room-so (shownChecks (t .args .text .now)) (line (refusalText (c .before .before .answer2 .given .0 .0) (c .before .before .answer2 .given .0 .1 .0))) (t .args .out .now) (t .args .at) (checks-refused (t .args .text .now) (prepare-refused (t .args .text .now) (c .before .before .before .before .before .empty .ensures) (c .before .before .before .before .prepare .ensures) (c .before .before .answer2 .given .1))) (t .pre)
 
 same-length : tie.Need-same-length
 same-length c = search needs
@@ -44,7 +42,7 @@ same-length-2 c = search needs
 
 returns-2 : tie.Need-returns-2
 returns-2 c =
-    let t = c .before .before .before .before .before .before .before .before .before .before .before in said-so (shownChecks (t .args .text .now)) (line (refused (c .before .before .before .before .before .answer2 .given .0 .0) (c .before .before .before .before .before .answer2 .given .0 .1 .0))) (t .args .out .now) (t .args .at) (checks-refused (t .args .text .now) (prepare-refused (t .args .text .now) (c .before .before .before .before .before .before .before .before .empty .ensures) (c .before .before .before .before .before .before .before .prepare .ensures) (c .before .before .before .before .before .answer2 .given .1))) (c .before .before .say-refusal .ensures)
+    let t = c .before .before .before .before .before .before .before .before .before .before .before in said-so (shownChecks (t .args .text .now)) (line (refusalText (c .before .before .before .before .before .answer2 .given .0 .0) (c .before .before .before .before .before .answer2 .given .0 .1 .0))) (t .args .out .now) (t .args .at) (checks-refused (t .args .text .now) (prepare-refused (t .args .text .now) (c .before .before .before .before .before .before .before .before .empty .ensures) (c .before .before .before .before .before .before .before .prepare .ensures) (c .before .before .before .before .before .answer2 .given .1))) (c .before .before .say-refusal .ensures)
 
 pub show-checks-spec : {M : Type 1} → statement M
 show-checks-spec =

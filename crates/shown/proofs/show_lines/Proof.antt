@@ -1,6 +1,5 @@
 use Rattle.numbered.proofs.Saying.{first-room, second-room, both-said}
-use Rattle.numbered.specs.Numbers.{headed}
-use Rattle.shown.specs.Showing.{shownChecks}
+use Rattle.rules.specs.Shown.{headed, shownChecks}
 use mathlib.Core.Bool.{false}
 use borrow.Author.Needs.{needs}
 use Rattle.shown.proofs.show_lines.Statement.{statement}

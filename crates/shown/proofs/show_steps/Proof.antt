@@ -1,6 +1,5 @@
 use Rattle.shown.proofs.Calling.{room-so, said-so, called-fits, called-counts, called-wrote, called-refused, steps-refused, steps-wrote}
-use Rattle.numbered.specs.Numbers.{refused, headed}
-use Rattle.shown.specs.Showing.{shownChecks, shownSteps}
+use Rattle.rules.specs.Shown.{refusalText, headed, shownChecks, shownSteps}
 use Rattle.rules.specs.Split.{line}
 use mathlib.Core.Bool.{false}
 use mathlib.Core.List.{_++_}
@@ -32,7 +31,7 @@ enum-known-written-2 c = search needs
 
 say-refusal-requires : tie.Need-say-refusal-requires
 say-refusal-requires c κs =
-    let t = c .before .before .before .before .before .before .before .before .before .before .before in room-so (shownSteps (t .args .text .now)) (line (refused (c .before .before .written2 .given .0 .0) (c .before .before .written2 .given .0 .1 .0))) (t .args .out .now) (t .args .at) (steps-refused (t .args .text .now) (called-refused (c .before .before .written2 .given .1) (c .before .before .before .before .before .before .split .ensures) (t .pre .0))) (t .pre .1)
+    let t = c .before .before .before .before .before .before .before .before .before .before .before in room-so (shownSteps (t .args .text .now)) (line (refusalText (c .before .before .written2 .given .0 .0) (c .before .before .written2 .given .0 .1 .0))) (t .args .out .now) (t .args .at) (steps-refused (t .args .text .now) (called-refused (c .before .before .written2 .given .1) (c .before .before .before .before .before .before .split .ensures) (t .pre .0))) (t .pre .1)
 
 same-length : tie.Need-same-length
 same-length c = search needs
@@ -52,7 +51,7 @@ same-length-4 c = search needs
 
 returns-2 : tie.Need-returns-2
 returns-2 c =
-    let t = c .before .before .before .before .before .before .before .before .before .before .before .before .before .before in said-so (shownSteps (t .args .text .now)) (line (refused (c .before .before .before .before .before .written2 .given .0 .0) (c .before .before .before .before .before .written2 .given .0 .1 .0))) (t .args .out .now) (t .args .at) (steps-refused (t .args .text .now) (called-refused (c .before .before .before .before .before .written2 .given .1) (c .before .before .before .before .before .before .before .before .before .split .ensures) (t .pre .0))) (c .before .before .say-refusal .ensures)
+    let t = c .before .before .before .before .before .before .before .before .before .before .before .before .before .before in said-so (shownSteps (t .args .text .now)) (line (refusalText (c .before .before .before .before .before .written2 .given .0 .0) (c .before .before .before .before .before .written2 .given .0 .1 .0))) (t .args .out .now) (t .args .at) (steps-refused (t .args .text .now) (called-refused (c .before .before .before .before .before .written2 .given .1) (c .before .before .before .before .before .before .before .before .before .split .ensures) (t .pre .0))) (c .before .before .say-refusal .ensures)
 
 pub show-steps-spec : {M : Type 1} → statement M
 show-steps-spec =

@@ -1,5 +1,5 @@
 use Rattle.text.proofs.Placing.{line-room, line-place, line-done}
-use Rattle.verdicts.specs.Verdicts.{judged, verdictLine}
+use Rattle.rules.specs.Shown.{verdictText, verdictLine}
 use mathlib.Core.List.{_++_}
 use borrow.Author.Needs.{needs}
 use Rattle.verdicts.proofs.say_check.Statement.{statement}
@@ -8,17 +8,17 @@ use Rattle.verdicts.proofs.say_check.Tie as tie
 say-verdict-requires : tie.Need-say-verdict-requires
 unfolding verdictLine
 say-verdict-requires c κs =
-    let t = c .before .before .before in line-room (t .args .direction .now ++ judged (t .args .f .verdict) (t .args .f)) (t .args .out .now) (t .args .at) (t .pre)
+    let t = c .before .before .before in line-room (t .args .direction .now ++ verdictText (t .args .f .verdict) (t .args .f)) (t .args .out .now) (t .args .at) (t .pre)
 
 slice-write-out : tie.Need-slice-write-out
 unfolding verdictLine
 slice-write-out c =
-    let t = c .before .before .before .before .before .before in line-place (t .args .direction .now ++ judged (t .args .f .verdict) (t .args .f)) (t .args .out .now) (t .args .at) (t .pre) (c .before .before .say-verdict .ensures) .0
+    let t = c .before .before .before .before .before .before in line-place (t .args .direction .now ++ verdictText (t .args .f .verdict) (t .args .f)) (t .args .out .now) (t .args .at) (t .pre) (c .before .before .say-verdict .ensures) .0
 
 add-result : tie.Need-add-result
 unfolding verdictLine
 add-result c =
-    let t = c .before .before .before .before .before .before in let h = line-place (t .args .direction .now ++ judged (t .args .f .verdict) (t .args .f)) (t .args .out .now) (t .args .at) (t .pre) (c .before .before .say-verdict .ensures) .1 in search needs
+    let t = c .before .before .before .before .before .before in let h = line-place (t .args .direction .now ++ verdictText (t .args .f .verdict) (t .args .f)) (t .args .out .now) (t .args .at) (t .pre) (c .before .before .say-verdict .ensures) .1 in search needs
 
 same-length : tie.Need-same-length
 same-length c = search needs
@@ -26,7 +26,7 @@ same-length c = search needs
 returns : tie.Need-returns
 unfolding verdictLine
 returns c =
-    let t = c .before .before .before .before .before .before in line-done (t .args .direction .now ++ judged (t .args .f .verdict) (t .args .f)) (t .args .out .now) (t .args .at) (t .pre) (c .before .before .say-verdict .ensures)
+    let t = c .before .before .before .before .before .before in line-done (t .args .direction .now ++ verdictText (t .args .f .verdict) (t .args .f)) (t .args .out .now) (t .args .at) (t .pre) (c .before .before .say-verdict .ensures)
 
 pub say-check-spec : {M : Type 1} → statement M
 say-check-spec =

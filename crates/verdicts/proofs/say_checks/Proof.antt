@@ -1,5 +1,5 @@
 use Rattle.numbered.proofs.Saying.{first-room, second-room, both-said}
-use Rattle.verdicts.specs.Verdicts.{verdictLine, bothChecks}
+use Rattle.rules.specs.Shown.{verdictLine, bothChecks}
 use Rattle.rules.specs.Ascii.{ascii}
 use Rattle.rules.specs.Record.{listed}
 use Rattle.rules.specs.Check.{check}

@@ -1,5 +1,5 @@
 use Rattle.verdicts.proofs.Saying.{judged-room, judged-said}
-use Rattle.verdicts.specs.Verdicts.{judged}
+use Rattle.rules.specs.Shown.{verdictText}
 use Rattle.rules.specs.Ascii.{ascii}
 use Rattle.rules.specs.declared.Verdict.the-variants.{Passes, TooFew, TooMany, Refused}
 use borrow.Author.Needs.{needs}
@@ -10,7 +10,7 @@ enum-told : tie.Need-enum-told
 enum-told c = search needs
 
 say-passed-requires : tie.Need-say-passed-requires
-unfolding judged ascii
+unfolding verdictText ascii
 say-passed-requires c κs =
     let t = c .before .before .before .before in judged-room (t .args .f .verdict) (Passes) (t .args .f) (t .args .out .now) (t .args .at) (c .before .enum-told .given .1) (t .pre)
 
@@ -21,7 +21,7 @@ slice-aggregate-say-step : tie.Need-slice-aggregate-say-step
 slice-aggregate-say-step c = search needs
 
 say-step-requires : tie.Need-say-step-requires
-unfolding judged ascii
+unfolding verdictText ascii
 say-step-requires c κs =
     let t = c .before .before .before .before .before .before in judged-room (t .args .f .verdict) (TooFew (c .before .before .before .v .given .0 .0)) (t .args .f) (t .args .out .now) (t .args .at) (c .before .before .before .v .given .1) (t .pre)
 
@@ -32,7 +32,7 @@ slice-aggregate-say-step-2 : tie.Need-slice-aggregate-say-step-2
 slice-aggregate-say-step-2 c = search needs
 
 say-step-requires-2 : tie.Need-say-step-requires-2
-unfolding judged ascii
+unfolding verdictText ascii
 say-step-requires-2 c κs =
     let t = c .before .before .before .before .before .before in judged-room (t .args .f .verdict) (TooMany (c .before .before .before .v2 .given .0 .0)) (t .args .f) (t .args .out .now) (t .args .at) (c .before .before .before .v2 .given .1) (t .pre)
 
@@ -40,7 +40,7 @@ enum-known-v-3 : tie.Need-enum-known-v-3
 enum-known-v-3 c = search needs
 
 say-refused-requires : tie.Need-say-refused-requires
-unfolding judged ascii
+unfolding verdictText ascii
 say-refused-requires c κs =
     let t = c .before .before .before .before .before in judged-room (t .args .f .verdict) (Refused (c .before .before .v3 .given .0 .0) (c .before .before .v3 .given .0 .1 .0)) (t .args .f) (t .args .out .now) (t .args .at) (c .before .before .v3 .given .1) (t .pre)
 
@@ -48,7 +48,7 @@ same-length : tie.Need-same-length
 same-length c = search needs
 
 returns : tie.Need-returns
-unfolding judged ascii
+unfolding verdictText ascii
 returns c =
     let t = c .before .before .before .before .before .before .before in judged-said (t .args .f .verdict) (Passes) (t .args .f) (t .args .out .now) (t .args .at) (c .before .before .before .before .enum-told .given .1) (c .before .before .say-passed .ensures)
 
@@ -56,7 +56,7 @@ same-length-2 : tie.Need-same-length-2
 same-length-2 c = search needs
 
 returns-2 : tie.Need-returns-2
-unfolding judged ascii
+unfolding verdictText ascii
 returns-2 c =
     let t = c .before .before .before .before .before .before .before .before .before in judged-said (t .args .f .verdict) (TooFew (c .before .before .before .before .before .before .v .given .0 .0)) (t .args .f) (t .args .out .now) (t .args .at) (c .before .before .before .before .before .before .v .given .1) (c .before .before .say-step .ensures)
 
@@ -64,7 +64,7 @@ same-length-3 : tie.Need-same-length-3
 same-length-3 c = search needs
 
 returns-3 : tie.Need-returns-3
-unfolding judged ascii
+unfolding verdictText ascii
 returns-3 c =
     let t = c .before .before .before .before .before .before .before .before .before in judged-said (t .args .f .verdict) (TooMany (c .before .before .before .before .before .before .v2 .given .0 .0)) (t .args .f) (t .args .out .now) (t .args .at) (c .before .before .before .before .before .before .v2 .given .1) (c .before .before .say-step2 .ensures)
 
@@ -72,7 +72,7 @@ same-length-4 : tie.Need-same-length-4
 same-length-4 c = search needs
 
 returns-4 : tie.Need-returns-4
-unfolding judged ascii
+unfolding verdictText ascii
 returns-4 c =
     let t = c .before .before .before .before .before .before .before .before in judged-said (t .args .f .verdict) (Refused (c .before .before .before .before .before .v3 .given .0 .0) (c .before .before .before .before .before .v3 .given .0 .1 .0)) (t .args .f) (t .args .out .now) (t .args .at) (c .before .before .before .before .before .v3 .given .1) (c .before .before .say-refused .ensures)
 

@@ -1,7 +1,5 @@
 use Rattle.numbered.proofs.Saying.{first-room, second-room, both-said}
-use Rattle.numbered.specs.Numbers.{counted}
-use Rattle.placed.specs.Places.{fourPlaces}
-use Rattle.verdicts.specs.Verdicts.{passed}
+use Rattle.rules.specs.Shown.{counted, fourPlaces, passText}
 use Rattle.rules.specs.Ascii.{ascii}
 use mathlib.Core.List.{[], _++_}
 use mathlib.Core.Bool.{cond}
@@ -10,12 +8,12 @@ use Rattle.verdicts.proofs.say_passed.Statement.{statement}
 use Rattle.verdicts.proofs.say_passed.Tie as tie
 
 say-depths-requires : tie.Need-say-depths-requires
-unfolding passed
+unfolding passText
 say-depths-requires c κs =
     let t = c .before .before .before in first-room (counted (ascii "deepest ") (t .args .f .deepest) ++ counted (ascii " left ") (t .args .f .left)) (cond (t .args .f .told) (fourPlaces (t .args .f .places)) []) (t .args .out .now) (t .args .at) (t .pre)
 
 say-told-requires : tie.Need-say-told-requires
-unfolding passed
+unfolding passText
 say-told-requires c κs =
     let t = c .before .before .before .before .before .before .before in second-room (counted (ascii "deepest ") (t .args .f .deepest) ++ counted (ascii " left ") (t .args .f .left)) (cond (t .args .f .told) (fourPlaces (t .args .f .places)) []) (t .args .out .now) (t .args .at) (t .pre) (c .before .before .before .say-depths .ensures)
 
@@ -23,7 +21,7 @@ same-length : tie.Need-same-length
 same-length c = search needs
 
 returns : tie.Need-returns
-unfolding passed
+unfolding passText
 returns c =
     let t = c .before .before .before .before .before .before .before .before .before .before in both-said (counted (ascii "deepest ") (t .args .f .deepest) ++ counted (ascii " left ") (t .args .f .left)) (cond (t .args .f .told) (fourPlaces (t .args .f .places)) []) (t .args .out .now) (t .args .at) (t .pre) (c .before .before .before .before .before .before .say-depths .ensures) (c .before .before .say-told .ensures)
 

@@ -3,7 +3,7 @@ use Rattle.words.proofs.Texts.{flags-text, flags-rule, adapt-rule, adap
 use Rattle.words.specs.Parts.{piece}
 use Rattle.numerals.proofs.Putting.{room-as, as-written, first-room, then-room, both-written}
 use Rattle.rules.specs.Ascii.{ascii}
-use Rattle.writelaws.specs.Writing.{listing}
+use Rattle.rules.specs.Write.{listing}
 use denote.Ref.{now}
 use mathlib.Core.Path.{sym}
 use borrow.Author.Needs.{needs}

@@ -1,7 +1,7 @@
 use Rattle.words.proofs.Flagging.{flags-rest}
 use Rattle.numerals.proofs.Going.{Going, going-start, going-room, going-turn, going-length, going-end}
 use Rattle.words.specs.Parts.{flagged}
-use Rattle.writelaws.specs.Writing.{flagOf}
+use Rattle.rules.specs.Write.{flagOf}
 use Rattle.rules.specs.Text.{afterEach}
 use mathlib.Core.Bool.{false}
 use mathlib.Core.List.{[], _∷_, map}

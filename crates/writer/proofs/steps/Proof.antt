@@ -1,7 +1,7 @@
 use Rattle.writer.proofs.Stepping.{rows-rest, row-room, row-turn, rows-end}
 use Rattle.numerals.proofs.Going.{Going, going-start, going-length, going-end}
 use Rattle.words.specs.Parts.{parted}
-use Rattle.writelaws.specs.Writing.{tableWriting}
+use Rattle.rules.specs.Write.{tableWriting}
 use Rattle.sound.proofs.Sounding.{Sound, sound-so}
 use Rattle.rules.specs.Record.{listed}
 use lib.ListN.{take, length-map}

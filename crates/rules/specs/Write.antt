@@ -1,29 +1,24 @@
--- The text of a step record: the operator's name, its arguments, its marks, with one space between.
+-- The text of a step record: the operator's name, its arguments, its marks, with one space between. And the call `write`.
 use Prim.Native.Nat.{ℕ, zero, suc, _+_, _-_, _/_, _%_}
 use Prim.Native.String.{String}
 use mathlib.Core.Bool.{cond}
 use mathlib.Core.Option.{Option, none, some}
 use mathlib.Core.List.{List, [], _∷_, _++_, map}
 use lib.ListN.{take, getD}
-use lib.Dec.{ltb}
 use lib.IntN.{ℤ}
 use Rattle.rules.specs.Ascii.{ascii}
 use Rattle.rules.specs.Text.{Bytes, Words, joinedBy, joined}
 use Rattle.rules.specs.Refusal.{Reply, answers, refuses}
 use Rattle.rules.specs.Decimal.{minus}
+use Rattle.rules.specs.Numerals.{digits}
 use Rattle.rules.specs.Record.{Operator, Push, Pop, StackPush, StackPop, StackFlip, StackRoll, StackUnroll, StackSwap, StackDrop, Axisswap, Adapt, size, arg, operator, args, isSet, refusal18}
 use Rattle.rules.specs.declared.Step.{Step}
 
 -- ---- numbers
 
--- the digits of a number that has at most so many and one more
-unfoldable pub digits : ℕ → ℕ → Bytes
-digits zero n = (48 + n) ∷ []
-digits (suc more) n = cond (ltb n 10) ((48 + n) ∷ []) (digits more (n / 10) ++ ((48 + n % 10) ∷ []))
-
--- a whole number of nine digits at most
+-- a whole number: its sign, if it is below zero, and its digits
 unfoldable pub spelling : ℤ → Bytes
-spelling x = cond (minus x) (ascii "-") [] ++ digits 8 (size x)
+spelling x = cond (minus x) (ascii "-") [] ++ digits (size x)
 
 -- numbers with a comma between
 unfoldable pub listing : List ℤ → Bytes
@@ -32,8 +27,8 @@ listing l = joinedBy (ascii ",") (map spelling l)
 -- ---- words
 
 -- `key=value`
-unfoldable pub pair : String → Bytes → Bytes
-pair key value = ascii key ++ (61 ∷ value)
+unfoldable pub keyValue : String → Bytes → Bytes
+keyValue key value = ascii key ++ (61 ∷ value)
 
 -- push, pop: the flag of an axis
 unfoldable pub flagOf : ℤ → Bytes
@@ -73,15 +68,15 @@ nameWord Adapt = ascii "adapt"
 unfoldable pub argWords : Operator → List ℤ → Words
 argWords Push l = map flagOf l
 argWords Pop l = map flagOf l
-argWords StackPush l = pair "push" (listing l) ∷ []
-argWords StackPop l = pair "pop" (listing l) ∷ []
-argWords StackFlip l = pair "flip" (listing l) ∷ []
-argWords StackRoll l = pair "roll" (listing l) ∷ []
-argWords StackUnroll l = pair "unroll" (listing l) ∷ []
+argWords StackPush l = keyValue "push" (listing l) ∷ []
+argWords StackPop l = keyValue "pop" (listing l) ∷ []
+argWords StackFlip l = keyValue "flip" (listing l) ∷ []
+argWords StackRoll l = keyValue "roll" (listing l) ∷ []
+argWords StackUnroll l = keyValue "unroll" (listing l) ∷ []
 argWords StackSwap l = ascii "swap" ∷ []
 argWords StackDrop l = ascii "drop" ∷ []
-argWords Axisswap l = pair "order" (listing l) ∷ []
-argWords Adapt l = pair "from" (fromWord (size (arg 5 l))) ∷ pair "to" (toWord (size (arg 5 l)) (take 4 l)) ∷ []
+argWords Axisswap l = keyValue "order" (listing l) ∷ []
+argWords Adapt l = keyValue "from" (fromWord (size (arg 5 l))) ∷ keyValue "to" (toWord (size (arg 5 l)) (take 4 l)) ∷ []
 
 -- a mark that is set
 unfoldable pub markWord : String → ℕ → Words
@@ -105,9 +100,9 @@ tableWriting l = joinedBy (ascii " | ") (map writing l)
 -- ---- the call `write`
 
 -- 18 at its place, and else the text
-unfoldable pub unless18 : Option ℕ → Bytes → Reply Bytes
-unless18 none text = answers text
-unless18 (some place) text = refuses 18 place
+unfoldable pub writtenUnless18 : Option ℕ → Bytes → Reply Bytes
+writtenUnless18 none text = answers text
+writtenUnless18 (some place) text = refuses 18 place
 
 unfoldable pub write : List Step → Reply Bytes
-write l = unless18 (refusal18 l) (tableWriting l)
+write l = writtenUnless18 (refusal18 l) (tableWriting l)

@@ -1,2 +1,0 @@
--- Signed places, as the program `steps` prints them.
-pub mod Places

@@ -1,2 +1,0 @@
--- What the program `steps` prints of the checks.
-pub mod Verdicts
