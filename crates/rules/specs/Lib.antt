@@ -27,6 +27,8 @@ pub mod Check
 pub mod Write
 pub mod Shown
 pub mod Plain
+pub mod Demands
+pub mod Contract
 pub mod Examples
 pub mod Opened
 pub mod ExamplesHold

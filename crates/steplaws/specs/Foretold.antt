@@ -121,6 +121,11 @@ check-refused d t n k h = go (refusal18 t) h
     go none h = absurd (no-refusal (running d t) begin n k (sym (answered-verdict (verdict (running d t) begin) (running d t)) ∙ h))
     go (some p) h = let e : p ≡ k = cc h in (cc h, ap some e)
 
+-- After a pass the places are told exactly where no `adapt` step runs.
+pub told-exactly : (d : Direction) (t : List Step) → check d t .verdict ≡ Passes → check d t .told ≡ not (anyAdapt (running d t))
+unfolding foretold
+told-exactly d t h = ap (λ (f : Foretold). f .told) (passed d t h .answer)
+
 -- What a pass foretells of the run on any list:
 pub record Foretells (d : Direction) (t : List Step) (xs : List Float) : Type 0 where
   -- the depth after each step run, deepest, left;

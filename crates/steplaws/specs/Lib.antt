@@ -11,6 +11,10 @@ pub mod Lengths
 pub mod Foretold
 pub mod Exactly
 pub mod Runs
+pub mod OwnNumbers
+pub mod Bits
+pub mod Ending
+pub mod Exported
 pub mod Walk
 pub mod Operators
 pub mod Series

@@ -1,9 +1,11 @@
 -- What a run that is not refused answers and leaves, and what a pass of the check tells of it.
 use mathlib.Core.Path.{_≡_, refl, sym, ap, _∙_}
-use Prim.Native.Nat.{ℕ, _*_, _/_}
-use mathlib.Core.Bool.{Bool, true, false, cond, false≢true}
+use Prim.Native.Nat.{ℕ, _*_, _/_, _%_, _≤_}
+use mathlib.Core.Bool.{Bool, true, false, not, cond, false≢true}
 use mathlib.Core.Option.{Option, none, some}
 use mathlib.Core.List.{List, map}
+use native.Mathlib.Omega.{arith}
+use borrow.Author.Tests.{eqb-true, not-false, le-ltb}
 use lib.ListN.{length}
 use lib.Dec.{ltb, eqb}
 use lib.Ieee.{Float}
@@ -21,7 +23,9 @@ use Rattle.rules.specs.declared.Ran.the-variants.{Done, Refused}
 use Rattle.rules.specs.declared.Verdict.the-variants.{Passes}
 use Rattle.steplaws.specs.Tests.{never}
 use Rattle.steplaws.specs.Places.{shown}
-use Rattle.steplaws.specs.Foretold.{foretells}
+use Rattle.laws.specs.Separators.{or-left}
+use Rattle.steplaws.specs.Lengths.{list-length}
+use Rattle.steplaws.specs.Foretold.{passed, foretells}
 
 -- ---- a run that answers
 
@@ -134,3 +138,34 @@ as-foretold d t xs store c n passes done =
       left = a .columns-left ∙ f .left-after;
       list = λ told. a .list-after ∙ ap numbers (f .tuples-after told);
     }
+
+-- Such a run is given for every list of whole tuples, 65,536 at most, with room in the store for the deepest.
+short : (xs : List Float) → length xs % 4 ≡ 0 → length xs / 4 ≤ 65536 → badList xs ≡ false
+unfolding badList
+short xs h k = rw (h, le-ltb 65536 (length xs / 4) k)
+
+pub accepts : (d : Direction) (t : List Step) (xs store : List Float) → check d t .verdict ≡ Passes → length xs % 4 ≡ 0 → length xs / 4 ≤ 65536
+    → check d t .deepest * (length xs / 4) ≤ length store → (c : ℕ) × (n : ℕ) × (runs d t xs store .answer ≡ Done c n)
+unfolding runs unless18 unless15 unless16 finished
+accepts d t xs store h four few room =
+    let f = foretells d t xs h in
+    let r = passed d t h .records in
+    let e : used d t xs ≤ length store = rw (f .deepest-after) room in (
+      count (running d t) (start xs),
+      length (end d t xs .columns),
+      rw (r, short xs four few, f .within, le-ltb (length store) (used d t xs) e),
+    )
+
+-- ---- how many numbers a run leaves
+
+pub fourfold : (xs : List Float) → badList xs ≡ false → length xs % 4 ≡ 0
+unfolding badList
+fourfold xs h = eqb-true (length xs % 4) 0 (not-false (eqb (length xs % 4) 0) (or-left (not (eqb (length xs % 4) 0)) _ h))
+
+-- as many as before, four for each tuple
+pub as-many : (d : Direction) (t : List Step) (xs store : List Float) (c n : ℕ) → runs d t xs store .answer ≡ Done c n
+    → (length (runs d t xs store .list) ≡ length xs) × (length xs / 4 * 4 ≡ length xs)
+as-many d t xs store c n done =
+    let a = answered d t xs store c n done in
+    let w = fourfold xs (a .fourfold) in
+    (ap length (a .list-after) ∙ list-length (running d t) xs w, omega arith)

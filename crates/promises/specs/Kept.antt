@@ -1,0 +1,163 @@
+-- Every promise of specs/Promises.antt is kept: a line for each, which cites where it is proved. Of a call's code that is the theorem that the prover
+-- has of the function itself.
+use mathlib.Core.Path.{_≡_, refl, sym, ap, _∙_}
+use Prim.Native.Nat.{ℕ, _*_, _/_, _%_, _≤_}
+use mathlib.Core.Bool.{Bool, true, false}
+use mathlib.Core.List.{List, [], _∷_}
+use lib.Dec.{T}
+use lib.ListN.{length}
+use lib.Ieee.{Float, binary64, neg, mul, fits}
+use borrow.Fn.World.{World}
+use Rattle.rules.specs.Lists.{anyOf}
+use Rattle.rules.specs.Refusal.{written, prepared}
+use Rattle.rules.specs.Coordinate.{turn, one}
+use Rattle.rules.specs.Normal.{normalise}
+use Rattle.rules.specs.Split.{split}
+use Rattle.rules.specs.Parameters.{parameters}
+use Rattle.rules.specs.Translate.{translate}
+use Rattle.rules.specs.Prepare.{prepare}
+use Rattle.rules.specs.Run.{Outcome, runs, Runs}
+use Rattle.rules.specs.Act.{running}
+use Rattle.rules.specs.Check.{anyAdapt, check, Checks}
+use Rattle.rules.specs.Write.{write}
+use Rattle.rules.specs.Plain.{plainWritten, directionOf, plainPrepared}
+use Rattle.rules.specs.ExamplesHold.{examples-hold}
+use Rattle.rules.specs.declared.Step.{Step}
+use Rattle.rules.specs.declared.Direction.{Direction}
+use Rattle.rules.specs.declared.Foretold.{Foretold}
+use Rattle.rules.specs.declared.Ran.{Ran}
+use Rattle.rules.specs.declared.Ran.the-variants.{Done}
+use Rattle.rules.specs.declared.Verdict.the-variants.{Passes}
+use Rattle.laws.specs.Entry.{answers-so}
+use Rattle.laws.specs.Once.{once, lends-once, check-once, run-once}
+use Rattle.steplaws.specs.Made.{table-prepared, check-never-18, run-never-18}
+use Rattle.steplaws.specs.Ieee.{turn-mul}
+use Rattle.steplaws.specs.Foretold.{told-exactly, foretells}
+use Rattle.steplaws.specs.Exactly.{passes-exactly, few-exactly, many-exactly, refused-exactly}
+use Rattle.steplaws.specs.Runs.{answered, accepts, as-foretold, as-many}
+use Rattle.steplaws.specs.OwnNumbers.{is-named, own-number}
+use Rattle.steplaws.specs.Bits.{has-bits, alike}
+use Rattle.steplaws.specs.Ending.{ends, lent-ends, normalise-among, split-among, parameters-among, translate-among, prepare-among, write-among, check-ends, run-ends, next-ends}
+use Rattle.steplaws.specs.Exported.{behind, behind-pass, behind-run}
+use Rattle.sakondreno.proofs as code
+use Rattle.reader.proofs as reading
+use Rattle.promises.specs.Promises.{Calls, Demand1, Demand2, AsForetold, FromThePlacesNamed, Demand3, Exports}
+
+pub calls : (w : World) → Calls w
+calls w = record {
+  normalise-keeps = code.normalise.Met.met (w .𝓤) (w .H) (w .𝓜) (w .𝓖) (w .𝓡);
+  split-keeps = code.split.Met.met (w .𝓤) (w .H) (w .𝓜) (w .𝓖) (w .𝓡);
+  parameters-keeps = code.parameters.Met.met (w .𝓤) (w .H) (w .𝓜) (w .𝓖) (w .𝓡);
+  translate-keeps = code.translate.Met.met (w .𝓤) (w .H) (w .𝓜) (w .𝓖) (w .𝓡);
+  prepare-keeps = code.prepare.Met.met (w .𝓤) (w .H) (w .𝓜) (w .𝓖) (w .𝓡);
+  check-keeps = code.check.Met.met (w .𝓤) (w .H) (w .𝓜) (w .𝓖) (w .𝓡);
+  run-keeps = code.run.Met.met (w .𝓤) (w .H) (w .𝓜) (w .𝓖) (w .𝓡);
+  next-keeps = reading.Reader.next.Met.met (w .𝓤) (w .H) (w .𝓜) (w .𝓖) (w .𝓡);
+  next-from-keeps = code.next_from.Met.met (w .𝓤) (w .H) (w .𝓜) (w .𝓖) (w .𝓡);
+  write-keeps = code.write.Met.met (w .𝓤) (w .H) (w .𝓜) (w .𝓖) (w .𝓡);
+  write-step-keeps = code.write_step.Met.met (w .𝓤) (w .H) (w .𝓜) (w .𝓖) (w .𝓡);
+  sakondreno-normalise-keeps = code.sakondreno_normalise.Met.met (w .𝓤) (w .H) (w .𝓜) (w .𝓖) (w .𝓡);
+  sakondreno-split-keeps = code.sakondreno_split.Met.met (w .𝓤) (w .H) (w .𝓜) (w .𝓖) (w .𝓡);
+  sakondreno-parameters-keeps = code.sakondreno_parameters.Met.met (w .𝓤) (w .H) (w .𝓜) (w .𝓖) (w .𝓡);
+  sakondreno-translate-keeps = code.sakondreno_translate.Met.met (w .𝓤) (w .H) (w .𝓜) (w .𝓖) (w .𝓡);
+  sakondreno-next-keeps = code.sakondreno_next.Met.met (w .𝓤) (w .H) (w .𝓜) (w .𝓖) (w .𝓡);
+  sakondreno-prepare-keeps = code.sakondreno_prepare.Met.met (w .𝓤) (w .H) (w .𝓜) (w .𝓖) (w .𝓡);
+  sakondreno-check-keeps = code.sakondreno_check.Met.met (w .𝓤) (w .H) (w .𝓜) (w .𝓖) (w .𝓡);
+  sakondreno-run-keeps = code.sakondreno_run.Met.met (w .𝓤) (w .H) (w .𝓜) (w .𝓖) (w .𝓡);
+}
+
+pub demand1 : Demand1
+unfolding written prepared anyOf
+demand1 = record {
+  normalise-ends = ends written (1 ∷ 2 ∷ 7 ∷ []) refl normalise refl refl (normalise-among (1 ∷ 2 ∷ 7 ∷ []) _);
+  split-ends = ends written (1 ∷ 2 ∷ 6 ∷ 7 ∷ 8 ∷ []) refl split refl refl (split-among (1 ∷ 2 ∷ 6 ∷ 7 ∷ 8 ∷ []) refl refl _);
+  parameters-ends = ends written (1 ∷ 2 ∷ 6 ∷ 7 ∷ 9 ∷ []) refl parameters refl refl (parameters-among (1 ∷ 2 ∷ 6 ∷ 7 ∷ 9 ∷ []) refl refl _);
+  translate-ends = ends written (1 ∷ 2 ∷ 3 ∷ 4 ∷ 5 ∷ 7 ∷ []) refl translate refl refl (translate-among (1 ∷ 2 ∷ 3 ∷ 4 ∷ 5 ∷ 7 ∷ []) refl refl refl _);
+  write-ends = λ table p. lent-ends written (7 ∷ 18 ∷ []) refl (write table) _ _ _ (write-among (7 ∷ 18 ∷ []) refl table) (p .exactly);
+  prepare-ends =
+      ends prepared (1 ∷ 2 ∷ 6 ∷ 7 ∷ 8 ∷ 9 ∷ 10 ∷ 11 ∷ 12 ∷ 13 ∷ 14 ∷ []) refl prepare refl refl
+      (prepare-among (1 ∷ 2 ∷ 6 ∷ 7 ∷ 8 ∷ 9 ∷ 10 ∷ 11 ∷ 12 ∷ 13 ∷ 14 ∷ []) refl refl refl refl refl refl refl refl refl _);
+  check-ends = check-ends;
+  run-ends = run-ends;
+  next-ends = next-ends;
+  text-once = once;
+  write-once = lends-once;
+  check-once = check-once;
+  run-once = run-once;
+  next-once = λ text at p q. p ∙ sym q;
+}
+
+-- what the equation of a run says of its answer and of its list
+ran-answer : {d : Direction} {t : List Step} {xs store : List Float} {r : Ran} {xs′ store′ : List Float} → Runs d t xs store r xs′ store′ → runs d t xs store .answer ≡ r
+ran-answer ran = sym (ap (λ (o : Outcome). o .answer) (ran .exactly))
+
+ran-list : {d : Direction} {t : List Step} {xs store : List Float} {r : Ran} {xs′ store′ : List Float} → Runs d t xs store r xs′ store′ → xs′ ≡ runs d t xs store .list
+ran-list ran = ap (λ (o : Outcome). o .list) (ran .exactly)
+
+turned : (minus : Bool) (x : Float) → T (fits binary64 x) → turn minus x ≡ mul binary64 x (turn minus one)
+unfolding turn neg
+turned true x h = turn-mul binary64 true x h
+turned false x h = turn-mul binary64 false x h
+
+pub demand2 : Demand2
+demand2 = record {
+  text-answer = λ p. answers-so p .answer;
+  records-answer = table-prepared;
+  run-answer = λ ran. let a = answered _ _ _ _ _ _ (ran-answer ran) in (ran-list ran ∙ a .list-after, a .counted, a .columns-left);
+  sign-is-product = turned;
+  examples-hold = examples-hold;
+}
+
+-- a check that passes, and a run
+module _ {d : Direction} {t : List Step} {f : Foretold} (checks : Checks d t f) (passes : f .verdict ≡ Passes) where
+  pass : check d t .verdict ≡ Passes
+  pass = rw (checks .exactly) at passes
+
+  accepted : {xs store : List Float} {r : Ran} {xs′ store′ : List Float} → Runs d t xs store r xs′ store′ → length xs % 4 ≡ 0 → length xs / 4 ≤ 65536
+      → f .deepest * (length xs / 4) ≤ length store → (c : ℕ) × (n : ℕ) × (r ≡ Done c n)
+  accepted {xs} {store} ran four few room =
+      let a = accepts d t xs store pass four few (rw (checks .exactly) at room) in
+      (a .0, a .1, sym (ran-answer ran) ∙ a .2)
+
+  module _ {xs store : List Float} {c n : ℕ} {xs′ store′ : List Float} (ran : Runs d t xs store (Done c n) xs′ store′) where
+    foretold : AsForetold d t f xs n
+    foretold =
+        let g = foretells d t xs pass in
+        rw (checks .exactly)
+        (record {
+          depth-after-each-step = g .depths-after;
+          deepest-of-all = g .deepest-after;
+          columns-left = as-foretold d t xs store c n pass (ran-answer ran) .left;
+          told-unless-adapt = told-exactly d t pass;
+        })
+
+    from-its-place : anyAdapt (running d t) ≡ false → FromThePlacesNamed f xs xs′
+    from-its-place plain =
+        rw (checks .exactly, ran-list ran)
+        (record {
+          four-for-each-tuple = as-many d t xs store c n (ran-answer ran);
+          one-of-four = λ j. let k = is-named d t pass plain j in (k .least, k .most);
+          bit-for-bit = λ j a b i h p q P Q. alike _ P Q (own-number d t pass plain xs store c n (ran-answer ran) i h j a b);
+        })
+
+pub demand3 : Demand3
+demand3 = record {
+  check-takes-what-is-prepared = λ k p checks h. check-never-18 _ _ (table-prepared p) _ 18 k (rw (checks .exactly) at h);
+  run-takes-what-is-prepared = λ k p ran. run-never-18 _ _ (table-prepared p) _ _ _ k (ran-answer ran);
+  passes-exactly-when = λ checks xs. rw (checks .exactly) (passes-exactly _ _ xs);
+  too-few-exactly-when = λ checks xs k. rw (checks .exactly) (few-exactly _ _ xs k);
+  too-many-exactly-when = λ checks xs k. rw (checks .exactly) (many-exactly _ _ xs k);
+  refused-exactly-when = λ checks number k. rw (checks .exactly) (refused-exactly _ _ [] number k);
+  run-accepts = λ checks passes ran four few room. accepted checks passes ran four few room;
+  after-a-pass = λ checks passes ran. foretold checks passes ran;
+  after-a-pass-without-adapt = λ checks passes plain ran. from-its-place checks passes ran plain;
+  has-bits = has-bits;
+}
+
+pub exports : Exports
+exports = record {
+  text-exports = behind written plainWritten _ _ _;
+  prepare-export = behind prepared plainPrepared prepare _ _;
+  check-export = λ p. (check _ _, record { exactly = refl }, p .exactly, behind-pass _ _ _ p);
+  run-export = behind-run;
+}

@@ -1,0 +1,203 @@
+-- What is signed: the release's three demands, each sentence above what is proved of it. Statements, and nothing else; specs/Kept.antt proves every one. They
+-- speak of what a caller holds, results and lent storage before and after, through the calls' contracts, in the words of crates/rules.
+use mathlib.Core.Path.{_≡_}
+use mathlib.Core.Logic.{_↔_, _⊎_}
+use Prim.Native.Nat.{ℕ, _*_, _/_, _%_, _≤_, _<_}
+use mathlib.Core.Bool.{Bool, true, false, not}
+use mathlib.Core.Option.{none, some}
+use mathlib.Core.List.{List, [], _∷_, _++_}
+use lib.Dec.{T}
+use lib.ListN.{length, take, drop}
+use lib.Ieee.{Float, binary64, mul, fits, toBits}
+use borrow.Fn.World.{World}
+use denote.Ref.{now}
+use Rattle.rules.specs.Text.{Bytes}
+use Rattle.rules.specs.Refusal.{Reply, answers, Promised, Writes, Lends, outcome, written, prepared, lent}
+use Rattle.rules.specs.Normal.{normalise}
+use Rattle.rules.specs.Split.{split}
+use Rattle.rules.specs.Parameters.{parameters}
+use Rattle.rules.specs.Translate.{translate}
+use Rattle.rules.specs.Reader.{step, next}
+use Rattle.rules.specs.Prepare.{prepare, Prepares}
+use Rattle.rules.specs.Record.{refusal18, listed}
+use Rattle.rules.specs.Act.{running}
+use Rattle.rules.specs.Coordinate.{turn, one}
+use Rattle.rules.specs.Columns.{after, depths, deepest}
+use Rattle.rules.specs.Tuples.{numbers, acted}
+use Rattle.rules.specs.Run.{start, count, Runs}
+use Rattle.rules.specs.Check.{place, anyAdapt, Checks}
+use Rattle.rules.specs.Write.{write}
+use Rattle.rules.specs.Plain.{plainWritten, plainPrepared, replied, recordCount, plainFound, directionOf, plainCheck, PlainChecks, plainRan, PlainRuns}
+use Rattle.rules.specs.Examples.{examples, also, printed, rewritten, AllHold}
+use Rattle.rules.specs.declared.Step.{Step}
+use Rattle.rules.specs.declared.Direction.{Direction}
+use Rattle.rules.specs.declared.Written.{Written}
+use Rattle.rules.specs.declared.Written.the-variants as written-is
+use Rattle.rules.specs.declared.Prepared.{Prepared}
+use Rattle.rules.specs.declared.Prepared.the-variants as prepared-is
+use Rattle.rules.specs.declared.Found.{Found}
+use Rattle.rules.specs.declared.Found.the-variants.{End}
+use Rattle.rules.specs.declared.Foretold.{Foretold}
+use Rattle.rules.specs.declared.Verdict.the-variants.{Passes, TooFew, TooMany, Refused}
+use Rattle.rules.specs.declared.Ran.{Ran}
+use Rattle.rules.specs.declared.Ran.the-variants as ran-is
+use Rattle.rules.specs.declared.Answer.{Answer}
+use Rattle.rules.specs.declared.Part.{Part}
+use Rattle.rules.specs.declared.Checked.{Checked}
+use Rattle.rules.specs.declared.Done as plain-run
+use Rattle.rules.specs.Contract.{Keeps}
+use Rattle.sakondreno.proofs as calls
+use Rattle.reader.proofs as reading
+use Rattle.rules.specs.Demands.{Ends, RunEnds, CheckEnds, NextEnds, EachWell, Few, Many, FirstAtFault, numberAt, Bits, Alike}
+
+-- ==== The public calls. "Every entry point ends on every text, step table and list .. No caller is asked to have looked first": each call's own code,
+-- whatever it is given, returns; its contract asks nothing; and what it says is one equation with the written rule, of the result and of all that was lent.
+-- (`before` are the arguments, the first `.0`, the second `.1 .0` and so on; `after` are the same at exit; `now` is what a reference lends; `r` is the result.)
+
+pub record Calls (w : World) : Type 1 where
+  pub normalise-keeps : Keeps w calls.normalise.ended calls.normalise.Symbol.routine
+      (λ l before r after. Writes normalise (now (before .0)) (now (before .1 .0)) r (now (after .1 .0)))
+  pub split-keeps : Keeps w calls.split.ended calls.split.Symbol.routine
+      (λ l before r after. Writes split (now (before .0)) (now (before .1 .0)) r (now (after .1 .0)))
+  pub parameters-keeps : Keeps w calls.parameters.ended calls.parameters.Symbol.routine
+      (λ l before r after. Writes parameters (now (before .0)) (now (before .1 .0)) r (now (after .1 .0)))
+  pub translate-keeps : Keeps w calls.translate.ended calls.translate.Symbol.routine
+      (λ l before r after. Writes translate (now (before .0)) (now (before .1 .0)) r (now (after .1 .0)))
+  pub prepare-keeps : Keeps w calls.prepare.ended calls.prepare.Symbol.routine
+      (λ l before r after. Prepares (now (before .0)) (now (before .1 .0)) r (now (after .1 .0)))
+  pub check-keeps : Keeps w calls.check.ended calls.check.Symbol.routine
+      (λ l before r after. Checks (before .1 .0) (now (before .0)) r)
+  pub run-keeps : Keeps w calls.run.ended calls.run.Symbol.routine
+      (λ l before r after. Runs (before .1 .0) (now (before .0)) (now (before .1 .1 .0)) (now (before .1 .1 .1 .0)) r (now (after .1 .1 .0)) (now (after .1 .1 .1 .0)))
+  pub next-keeps : Keeps w reading.Reader.next.ended reading.Reader.next.Symbol.routine
+      (λ l before r after. r ≡ next (now (before .0 .text)) (before .0 .at))
+  pub next-from-keeps : Keeps w calls.next_from.ended calls.next_from.Symbol.routine
+      (λ l before r after. r ≡ next (now (before .0)) (before .1 .0))
+  pub write-keeps : Keeps w calls.write.ended calls.write.Symbol.routine
+      (λ l before r after. Lends (write (listed (before .0))) (now (before .1 .0)) r (now (after .1 .0)))
+  pub write-step-keeps : Keeps w calls.write_step.ended calls.write_step.Symbol.routine
+      (λ l before r after. Lends (write (before .0 ∷ [])) (now (before .1 .0)) r (now (after .1 .0)))
+  -- the same for C and Rust, in the words of plain records
+  pub sakondreno-normalise-keeps : Keeps w calls.sakondreno_normalise.ended calls.sakondreno_normalise.Symbol.routine
+      (λ l before r after. Promised replied normalise (now (before .0)) (now (before .1 .0)) r (now (after .1 .0)))
+  pub sakondreno-split-keeps : Keeps w calls.sakondreno_split.ended calls.sakondreno_split.Symbol.routine
+      (λ l before r after. Promised replied split (now (before .0)) (now (before .1 .0)) r (now (after .1 .0)))
+  pub sakondreno-parameters-keeps : Keeps w calls.sakondreno_parameters.ended calls.sakondreno_parameters.Symbol.routine
+      (λ l before r after. Promised replied parameters (now (before .0)) (now (before .1 .0)) r (now (after .1 .0)))
+  pub sakondreno-translate-keeps : Keeps w calls.sakondreno_translate.ended calls.sakondreno_translate.Symbol.routine
+      (λ l before r after. Promised replied translate (now (before .0)) (now (before .1 .0)) r (now (after .1 .0)))
+  pub sakondreno-next-keeps : Keeps w calls.sakondreno_next.ended calls.sakondreno_next.Symbol.routine
+      (λ l before r after. r ≡ plainFound (next (now (before .0)) (before .1 .0)))
+  pub sakondreno-prepare-keeps : Keeps w calls.sakondreno_prepare.ended calls.sakondreno_prepare.Symbol.routine
+      (λ l before r after. Promised recordCount prepare (now (before .0)) (now (before .1 .0)) r (now (after .1 .0)))
+  pub sakondreno-check-keeps : Keeps w calls.sakondreno_check.ended calls.sakondreno_check.Symbol.routine
+      (λ l before r after. PlainChecks (before .1 .0) (now (before .0)) r)
+  pub sakondreno-run-keeps : Keeps w calls.sakondreno_run.ended calls.sakondreno_run.Symbol.routine
+      (λ l before r after. PlainRuns (before .1 .0) (now (before .0)) (now (before .1 .1 .0)) (now (before .1 .1 .1 .0)) r (now (after .1 .1 .0)) (now (after .1 .1 .1 .0)))
+
+-- ==== Demand 1. "It answers, or refuses with a number from the documents' tables, and a refused call alters nothing it was lent."
+
+pub record Demand1 : Type 1 where
+  -- the text calls, each with its numbers; an answer writes nothing past its own end
+  pub normalise-ends : {text out : Bytes} {r : Written} {out′ : Bytes} → Writes normalise text out r out′
+      → Ends written-is.Wrote written-is.Refused (1 ∷ 2 ∷ 7 ∷ []) out r out′
+  pub split-ends : {text out : Bytes} {r : Written} {out′ : Bytes} → Writes split text out r out′
+      → Ends written-is.Wrote written-is.Refused (1 ∷ 2 ∷ 6 ∷ 7 ∷ 8 ∷ []) out r out′
+  pub parameters-ends : {text out : Bytes} {r : Written} {out′ : Bytes} → Writes parameters text out r out′
+      → Ends written-is.Wrote written-is.Refused (1 ∷ 2 ∷ 6 ∷ 7 ∷ 9 ∷ []) out r out′
+  pub translate-ends : {text out : Bytes} {r : Written} {out′ : Bytes} → Writes translate text out r out′
+      → Ends written-is.Wrote written-is.Refused (1 ∷ 2 ∷ 3 ∷ 4 ∷ 5 ∷ 7 ∷ []) out r out′
+  pub write-ends : {out : Bytes} {r : Written} {out′ : Bytes} (table : List Step) → Lends (write table) out r out′
+      → Ends written-is.Wrote written-is.Refused (7 ∷ 18 ∷ []) out r out′
+  -- the calls on step tables, and the reader
+  pub prepare-ends : {text : Bytes} {table : List Step} {r : Prepared} {table′ : List Step} → Prepares text table r table′
+      → Ends prepared-is.Steps prepared-is.Refused (1 ∷ 2 ∷ 6 ∷ 7 ∷ 8 ∷ 9 ∷ 10 ∷ 11 ∷ 12 ∷ 13 ∷ 14 ∷ []) table r table′
+  pub check-ends : {d : Direction} {t : List Step} {f : Foretold} → Checks d t f → CheckEnds f
+  pub run-ends : {d : Direction} {t : List Step} {xs store : List Float} {r : Ran} {xs′ store′ : List Float} → Runs d t xs store r xs′ store′
+      → RunEnds (15 ∷ 16 ∷ 17 ∷ 18 ∷ []) (deepest (depths acted (running d t) (start xs)) * (length xs / 4)) xs store r xs′ store′
+  pub next-ends : {text : Bytes} {at : ℕ} {r : Found} → r ≡ next text at → NextEnds text at r
+  -- No second outcome meets a contract: of a text call or of preparing, in Rattle's words or in the exports',
+  pub text-once : {A R : Type 0} {inWords : Reply ℕ → R} {own : Bytes → Reply (List A)} {text : Bytes} {storage storage′ storage″ : List A} {r s : R}
+      → Promised inWords own text storage r storage′ → Promised inWords own text storage s storage″ → (r ≡ s) × (storage′ ≡ storage″)
+  -- of writing, of the check and of the run, and of the reader.
+  pub write-once : {reply : Reply Bytes} {out out′ out″ : Bytes} {r s : Written} → Lends reply out r out′ → Lends reply out s out″ → (r ≡ s) × (out′ ≡ out″)
+  pub check-once : {d : Direction} {t : List Step} {f g : Foretold} → Checks d t f → Checks d t g → f ≡ g
+  pub run-once : {d : Direction} {t : List Step} {xs store : List Float} {r s : Ran} {xs′ xs″ store′ store″ : List Float}
+      → Runs d t xs store r xs′ store′ → Runs d t xs store s xs″ store″ → (r ≡ s) × (xs′ ≡ xs″) × (store′ ≡ store″)
+  pub next-once : {r s : Found} (text : Bytes) (at : ℕ) → r ≡ next text at → s ≡ next text at → r ≡ s
+
+-- ==== Demand 2. "Within document 01's domain, normalised text, steps, parameters, PROJ translation, transformed tuples and success count equal the
+-- Rust's, bit for bit .. Each is also proved against definitions". What is proved: a call's answer is the written rule's, and by demand 1 no other. That
+-- the written rules are the Rust's is tested, on ten million inputs: docs/DIFFERENCES.md.
+
+pub record Demand2 : Type 0 where
+  -- the bytes that a text call answers, and the records that preparing answers, are those of its rule
+  pub text-answer : {own : Bytes → Reply Bytes} {text out : Bytes} {n : ℕ} {out′ : Bytes} → Writes own text out (written-is.Wrote n) out′ → own text ≡ answers (take n out′)
+  pub records-answer : {text : Bytes} {table : List Step} {n : ℕ} {table′ : List Step} → Prepares text table (prepared-is.Steps n) table′ → prepare text ≡ answers (take n table′)
+  -- the tuples after a run, the success count and the columns left are those of the steps one after the other
+  pub run-answer : {d : Direction} {t : List Step} {xs store : List Float} {c n : ℕ} {xs′ store′ : List Float} → Runs d t xs store (ran-is.Done c n) xs′ store′
+      → let end = after acted (running d t) (start xs) in (xs′ ≡ numbers (end .tuples)) × (c ≡ count (running d t) (start xs)) × (n ≡ length (end .columns))
+  -- a sign that is turned or kept is the Rust's product with -1 or 1, for every f64 (IEEE 754 as the kit defines it)
+  pub sign-is-product : (minus : Bool) (x : Float) → T (fits binary64 x) → turn minus x ≡ mul binary64 x (turn minus one)
+  -- and document 01's examples are so
+  pub examples-hold : AllHold examples × AllHold also × AllHold printed × AllHold rewritten
+
+-- ==== Demand 3. "A check reads a prepared pipeline and a direction, never the data."
+
+-- "After a pass, on every list the run accepts, the depth after each step is the one foretold"; so are the deepest and the columns left, and the check
+-- tells the four places unless an `adapt` step runs
+pub record AsForetold (d : Direction) (t : List Step) (f : Foretold) (xs : List Float) (left : ℕ) : Type 0 where
+  pub depth-after-each-step : depths acted (running d t) (start xs) ≡ take (f .run) (f .depths)
+  pub deepest-of-all : deepest (depths acted (running d t) (start xs)) ≡ f .deepest
+  pub columns-left : left ≡ f .left
+  pub told-unless-adapt : f .told ≡ not (anyAdapt (running d t))
+
+-- "every output number is one of its own tuple's four inputs, sign kept or turned, from the place the check named for all tuples alike": number j of tuple i
+pub record FromThePlacesNamed (f : Foretold) (xs xs′ : List Float) : Type 0 where
+  pub four-for-each-tuple : (length xs′ ≡ length xs) × (length xs / 4 * 4 ≡ length xs)
+  pub one-of-four : (j : ℕ) → (1 ≤ place j (f .places) .axis) × (place j (f .places) .axis ≤ 4)
+  pub bit-for-bit : (j : ℕ) → 1 ≤ j → j ≤ 4 → (i : ℕ) → i < length xs / 4
+      → (p q : ℕ) → Bits p (numberAt xs i (place j (f .places) .axis)) → Bits q (numberAt xs′ i j) → Alike (place j (f .places) .minus) p q
+
+pub record Demand3 : Type 0 where
+  -- Whatever preparing leaves is never refused 18, by a check or by a run.
+  pub check-takes-what-is-prepared : {text : Bytes} {table table′ : List Step} {n : ℕ} {d : Direction} {f : Foretold} (k : ℕ)
+      → Prepares text table (prepared-is.Steps n) table′ → Checks d (take n table′) f → f .verdict ≡ Refused 18 k → ⊥
+  pub run-takes-what-is-prepared : {text : Bytes} {table table′ : List Step} {n : ℕ} {d : Direction} {xs store xs′ store′ : List Float} (k : ℕ)
+      → Prepares text table (prepared-is.Steps n) table′ → Runs d (take n table′) xs store (ran-is.Refused 18 k) xs′ store′ → ⊥
+  -- "It passes exactly when no step finds fewer columns than it takes and the depth never exceeds 64": no record is bad, and so it is of every step that
+  -- runs, on any one list or on all;
+  pub passes-exactly-when : {d : Direction} {t : List Step} {f : Foretold} → Checks d t f → (xs : List Float)
+      → (f .verdict ≡ Passes) ↔ ((refusal18 t ≡ none) × EachWell (running d t) xs)
+  -- "else it names the first step at fault in running order", and which of the two it is
+  pub too-few-exactly-when : {d : Direction} {t : List Step} {f : Foretold} → Checks d t f → (xs : List Float) (k : ℕ)
+      → (f .verdict ≡ TooFew k) ↔ ((refusal18 t ≡ none) × FirstAtFault (Few xs) k (running d t) xs)
+  pub too-many-exactly-when : {d : Direction} {t : List Step} {f : Foretold} → Checks d t f → (xs : List Float) (k : ℕ)
+      → (f .verdict ≡ TooMany k) ↔ ((refusal18 t ≡ none) × FirstAtFault (Many xs) k (running d t) xs)
+  -- (or the first record that no preparation makes)
+  pub refused-exactly-when : {d : Direction} {t : List Step} {f : Foretold} → Checks d t f → (number k : ℕ)
+      → (f .verdict ≡ Refused number k) ↔ ((number ≡ 18) × (refusal18 t ≡ some k))
+  -- "on every list the run accepts": after a pass that is every list of whole tuples, 65,536 at most, with a store for the deepest
+  pub run-accepts : {d : Direction} {t : List Step} {f : Foretold} {xs store : List Float} {r : Ran} {xs′ store′ : List Float} → Checks d t f → f .verdict ≡ Passes
+      → Runs d t xs store r xs′ store′ → length xs % 4 ≡ 0 → length xs / 4 ≤ 65536 → f .deepest * (length xs / 4) ≤ length store
+      → (c : ℕ) × (n : ℕ) × (r ≡ ran-is.Done c n)
+  pub after-a-pass : {d : Direction} {t : List Step} {f : Foretold} {xs store : List Float} {c n : ℕ} {xs′ store′ : List Float} → Checks d t f → f .verdict ≡ Passes
+      → Runs d t xs store (ran-is.Done c n) xs′ store′ → AsForetold d t f xs n
+  -- "and if no `adapt` step runs"
+  pub after-a-pass-without-adapt : {d : Direction} {t : List Step} {f : Foretold} {xs store : List Float} {c n : ℕ} {xs′ store′ : List Float} → Checks d t f
+      → f .verdict ≡ Passes → anyAdapt (running d t) ≡ false → Runs d t xs store (ran-is.Done c n) xs′ store′ → FromThePlacesNamed f xs xs′
+  -- (every f64 has such bits)
+  pub has-bits : (x : Float) → T (fits binary64 x) → Bits (toBits binary64 x) x
+
+-- ==== From C and from Rust: behind each answer of an export there is one of the call that it exports, with the same storage afterwards, so all of the above
+-- holds there too. Number 0 is an answer, a pass, or a run that is done.
+
+pub record Exports : Type 0 where
+  pub text-exports : {own : Bytes → Reply Bytes} {text out : Bytes} {r : Answer} {out′ : Bytes} → Promised replied own text out r out′
+      → (w : Written) × Writes own text out w out′ × (r ≡ plainWritten w)
+  pub prepare-export : {text : Bytes} {table : List Step} {r : Answer} {table′ : List Step} → Promised recordCount prepare text table r table′
+      → (w : Prepared) × Prepares text table w table′ × (r ≡ plainPrepared w)
+  pub check-export : {inverse : ℕ} {t : List Step} {r : Checked} → PlainChecks inverse t r
+      → (f : Foretold) × Checks (directionOf inverse) t f × (r ≡ plainCheck f) × (r .said .number ≡ 0 → f .verdict ≡ Passes)
+  pub run-export : {inverse : ℕ} {t : List Step} {xs store : List Float} {r : plain-run.Done} {xs′ store′ : List Float} → PlainRuns inverse t xs store r xs′ store′
+      → (w : Ran) × Runs (directionOf inverse) t xs store w xs′ store′ × (r ≡ plainRan w) × (r .number ≡ 0 → w ≡ ran-is.Done (r .count) (r .left))
