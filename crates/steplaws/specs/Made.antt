@@ -94,15 +94,16 @@ steps-made place (t ∷ ts) l h =
     let e : f .0 ∷ g .0 ≡ l = cc (g .2) in
     rw (← e) (record { each = rw (step-made place t (f .0) (f .1)) (k .each); many = ap suc (k .many) })
 
--- splitting gives 64 steps at most
-split-few : (ss : Steps) (ts : List Bytes) → splitSteps ss ≡ answers ts → length ts ≤ 64
+-- splitting gives each step's text, 64 at most
+pub split-few : (ss : Steps) (ts : List Bytes) → splitSteps ss ≡ answers ts → (length ts ≡ length ss) × (length ts ≤ 64)
 unfolding splitSteps
 split-few ss ts h = go (anyOf onlyModifiers ss) (ltb 64 (length ss)) refl h
   where
-    go : (a b : Bool) → ltb 64 (length ss) ≡ b → cond a (refuses 6 (placeOf onlyModifiers ss)) (cond b (refuses 8 0) (answers (map stepText ss))) ≡ answers ts → length ts ≤ 64
+    go : (a b : Bool) → ltb 64 (length ss) ≡ b → cond a (refuses 6 (placeOf onlyModifiers ss)) (cond b (refuses 8 0) (answers (map stepText ss))) ≡ answers ts
+        → (length ts ≡ length ss) × (length ts ≤ 64)
     go true b e h = absurd (never (cc h))
     go false true e h = absurd (never (cc h))
-    go false false e h = let same : map stepText ss ≡ ts = cc h in rw (← same, length-map ss stepText) (ltb-false 64 (length ss) e)
+    go false false e h = let same : map stepText ss ≡ ts = cc h in rw (← same, length-map ss stepText) (refl, ltb-false 64 (length ss) e)
 
 none-bad : (k : ℕ) (l : List Step) → allOf made l ≡ true → firstBad k l ≡ none
 unfolding firstBad allOf
@@ -115,7 +116,7 @@ unfolding prepare
 prepare-made t l h =
     let f = then-answers (splitSteps (steps t)) (prepareSteps 1) l h in
     let k = steps-made 1 (f .0) l (f .2) in
-    (k .each, omega (arith, k .many, split-few (steps t) (f .0) (f .1)))
+    (k .each, omega (arith, k .many, split-few (steps t) (f .0) (f .1) .1))
 
 -- Refusal 18 does not apply to them,
 pub never-18 : (t : Bytes) (l : List Step) → prepare t ≡ answers l → refusal18 l ≡ none
