@@ -5,6 +5,7 @@ pub mod Entry
 pub mod Numerals
 pub mod Passes
 pub mod Sizes
+pub mod Refusals
 pub mod Separators
 pub mod Table
 pub mod Walk

@@ -1,5 +1,5 @@
 -- The digits of a number, one after the other: a number below ten is one digit (`digits-one`), and any other is the digits of its tenth
--- part and then its last digit (`digits-more`).
+-- part and then its last digit (`digits-more`). So a number below 10 ^ k has k digits at most.
 use mathlib.Core.Path.{_≡_, refl, sym, ap, _∙_, subst}
 use Prim.Native.Nat.{ℕ, zero, suc, _+_, _*_, _/_, _%_, _^_, _≤_, _<_}
 use native.Mathlib.Nat.{le-trans, le-suc, lt-of-lt-of-le, div-lt-iff-lt-mul, div-div-eq-div-mul, zero-div, pow-suc, pow-succ', pow-le-pow-left, pow-le-pow-right}
@@ -7,6 +7,7 @@ use native.Mathlib.Omega.{arith}
 use mathlib.Core.Bool.{Bool, true, false, cond}
 use mathlib.Core.List.{List, [], _∷_, _++_}
 use borrow.Author.Tests.{ltb-true, ltb-false, lt-ltb, le-ltb, ne-eqb}
+use lib.ListN.{length, length-append}
 use lib.Dec.{ltb, eqb, lit≤}
 use lib.Ieee.{size as binaryDigits}
 use lib.Ieee.Digits.{size-lt}
@@ -80,7 +81,7 @@ upTo-some : (t : Bytes) (x : ℕ) → Some (t ++ (x ∷ []))
 upTo-some [] x = (x, [], refl)
 upTo-some (y ∷ t) x = (y, t ++ (x ∷ []), refl)
 
-tenth-less : (n k : ℕ) → n < 10 ^ suc (suc k) → n / 10 < 10 ^ suc k
+pub tenth-less : (n k : ℕ) → n < 10 ^ suc (suc k) → n / 10 < 10 ^ suc k
 tenth-less n k h = div-lt-iff-lt-mul {k = 10} {x = n} {y = 10 ^ suc k} (lit≤ tt) .1 (rw (pow-suc 10 (suc k)) at h)
 
 -- one below ten that is not 0 is left whole
@@ -158,3 +159,11 @@ digits-more n h =
     within (suc k) n l
     ∙ e
     ∙ ap (λ (t : Bytes). t ++ ((48 + n % 10) ∷ [])) (sym (within k (n / 10) (tenth-less n k l)))
+
+pub digits-length : (k n : ℕ) → n < 10 ^ suc k → length (digits n) ≤ suc k
+digits-length zero n h = rw (digits-one n h) (omega arith)
+digits-length (suc k) n h = go (ltb n 10) refl (digits-length k (n / 10) (tenth-less n k h))
+  where
+    go : (b : Bool) → ltb n 10 ≡ b → length (digits (n / 10)) ≤ suc k → length (digits n) ≤ suc (suc k)
+    go true e r = rw (digits-one n (ltb-true n 10 e)) (omega arith)
+    go false e r = rw (digits-more n (ltb-false n 10 e)) (omega (arith, length-append (digits (n / 10)) ((48 + n % 10) ∷ [])))

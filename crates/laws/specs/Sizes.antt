@@ -1,18 +1,19 @@
--- How long a normal form can be: at most ten times its text, and so is every text on the way.
+-- How long a normal form can be: at most ten times its text, and so is every text on the way. And how many steps can be cut from it.
 use mathlib.Core.Path.{_≡_, refl, sym, ap}
 use Prim.Native.Nat.{ℕ, zero, suc, _+_, _-_, _*_, _≤_, _<_}
 use mathlib.Core.Bool.{Bool, true, false, cond, _&&_, _||_, not, false≢true}
-use mathlib.Core.List.{List, [], _∷_, _++_, flatMap}
+use mathlib.Core.List.{List, [], _∷_, _++_, map, flatMap}
 use native.Mathlib.Omega.{arith}
 use borrow.Author.Tests.{eqb-true, ltb-true, leb-true}
-use lib.ListN.{length, drop}
+use lib.ListN.{length, drop, length-map}
 use lib.Dec.{eqb, leb, ltb}
 use Rattle.rules.specs.Ascii.{ascii, is}
-use Rattle.rules.specs.Lists.{allOf, kept, nonEmpty}
+use Rattle.rules.specs.Lists.{allOf, kept, placeOf, nonEmpty}
 use Rattle.rules.specs.Text.{Bytes, Words, white, starts, replaceFrom, replace, trimStart, trimEnd, trimmed, before, onto, cut, words, afterEach, joinedBy, joined}
 use Rattle.rules.specs.Normal.{Replacement, run, becomes, subscriptBecomes, replacements, squeezed, continued, normal}
 use Rattle.rules.specs.Comments.{newlines, uncommented, lined, stripped}
-use Rattle.rules.specs.Proj.{unplussed}
+use Rattle.rules.specs.Split.{stepsOf, steps}
+use Rattle.rules.specs.Proj.{unplussed, isStep, cutAtStep, withoutNoise, projSteps}
 use Rattle.laws.specs.Passes.{inWord, grow, words-cons}
 
 -- `>` and `<` count for the ten bytes that they become
@@ -264,3 +265,72 @@ proj-length t =
     let a = newlines t in
     let b = unplussed a in
     omega (arith, length-weight (normal (lined b)), lined-weight b, unplussed-weight a, newlines-weight t, weight-length t)
+
+-- ---- how many words and steps there are
+
+module _ {A : Type 0} where
+  kept-few : (test : A → Bool) (l : List A) → length (kept test l) ≤ length l
+  unfolding kept
+  kept-few test [] = omega arith
+  kept-few test (x ∷ l) = go (test x) (kept-few test l)
+    where
+      go : (b : Bool) → length (kept test l) ≤ length l → length (cond b (x ∷ kept test l) (kept test l)) ≤ suc (length l)
+      go true h = omega arith
+      go false h = omega arith
+
+  -- the place of the first that passes a test is one of the list's
+  pub place-within : (test : A → Bool) (l : List A) → placeOf test l ≤ length l
+  unfolding placeOf
+  place-within test [] = omega arith
+  place-within test (x ∷ l) = go (test x) (place-within test l)
+    where
+      go : (b : Bool) → placeOf test l ≤ length l → cond b 1 (suc (placeOf test l)) ≤ suc (length l)
+      go true h = omega arith
+      go false h = omega arith
+
+  -- a piece more, or x put onto the first
+  piece-few : (b : Bool) (x : A) (ps qs : List (List A)) (n : ℕ) → length ps ≤ suc n → length qs ≤ suc n → length (cond b ([] ∷ ps) (onto x qs)) ≤ suc (suc n)
+  unfolding onto
+  piece-few true x ps qs n h k = omega arith
+  piece-few false x ps [] n h k = omega arith
+  piece-few false x ps (q ∷ qs) n h k = omega arith
+
+cut-few : (test : ℕ → Bool) (t : Bytes) → length (cut test t) ≤ suc (length t)
+unfolding cut
+cut-few test [] = omega arith
+cut-few test (x ∷ t) = piece-few (test x) x (cut test t) (cut test t) (length t) (cut-few test t) (cut-few test t)
+
+at-step-few : (rightAfter : Bool) (ws : Words) → length (cutAtStep rightAfter ws) ≤ suc (length ws)
+unfolding cutAtStep
+at-step-few b [] = omega arith
+at-step-few true (w ∷ ws) = piece-few false w (cutAtStep true ws) (cutAtStep false ws) (length ws) (at-step-few true ws) (at-step-few false ws)
+at-step-few false (w ∷ ws) = piece-few (isStep w) w (cutAtStep true ws) (cutAtStep false ws) (length ws) (at-step-few true ws) (at-step-few false ws)
+
+grow-few : (x : ℕ) (b : Bool) (ws : Words) → length (grow x b ws) ≤ suc (length ws)
+unfolding grow
+grow-few x true [] = omega arith
+grow-few x true (w ∷ ws) = omega arith
+grow-few x false ws = omega arith
+
+pub words-few : (t : Bytes) → length (words t) ≤ length t
+words-few [] = unfold words kept nonEmpty cut in omega arith
+words-few (x ∷ t) = rw (words-cons x t) (go (white x) (words-few t))
+  where
+    go : (b : Bool) → length (words t) ≤ length t → length (cond b (words t) (grow x (inWord t) (words t))) ≤ suc (length t)
+    go true h = omega arith
+    go false h = omega (arith, grow-few x (inWord t) (words t))
+
+-- of a text, and of a PROJ text
+pub steps-few : (t : Bytes) → length (steps t) ≤ suc (10 * length t)
+unfolding steps stepsOf
+steps-few t =
+    let n = normal (stripped t) in
+    let ps = cut (is "|") n in
+    omega (arith, kept-few nonEmpty (map words ps), length-map ps words, cut-few (is "|") n, steps-length t)
+
+pub proj-few : (t : Bytes) → length (projSteps t) ≤ suc (10 * length t)
+unfolding projSteps
+proj-few t =
+    let n = normal (lined (unplussed (newlines t))) in
+    let ps = cutAtStep false (words n) in
+    omega (arith, kept-few nonEmpty (map withoutNoise ps), length-map ps withoutNoise, at-step-few false (words n), words-few n, proj-length t)

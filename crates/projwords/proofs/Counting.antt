@@ -6,13 +6,12 @@ use Prim.Native.Nat.{ℕ, zero, suc, _+_, _≤_, _<_}
 use native.Mathlib.Omega.{arith}
 use lib.ListN.{length, drop}
 use Rattle.rules.specs.Lists.{anyOf, allOf, nonEmpty}
-use Rattle.rules.specs.Text.{Bytes, Words, white, starts, words}
+use Rattle.rules.specs.Text.{Bytes, Words, starts, words}
 use Rattle.rules.specs.Ascii.{ascii}
 use Rattle.rules.specs.Proj.{isProj, firstProj, inItsPlace, exchanged}
 use Rattle.rules.specs.Translate.{isInv}
 use Rattle.rules.specs.Reader.{part}
-use Rattle.laws.specs.Passes.{inWord, grow, words-cons}
-use Rattle.walk.proofs.Leading.{words-nil}
+use Rattle.laws.specs.Sizes.{words-few}
 use Rattle.laws.specs.Separators.{same-is}
 use Rattle.projlaws.specs.Tests.{or-no, or-yes, or-assoc, and-yes, and-no, and-assoc}
 use Rattle.projlaws.specs.Tidying.{countOf, lastFrom}
@@ -95,20 +94,6 @@ pub element-less : {s : Bytes} {h : Head} {stage k from to then next : ℕ} → 
 element-less {s} {h} {stage} {k} {from} {to} {then} {next} e = omega (arith, ap length (e .here))
 
 -- ---- how many words there are
-
-grow-few : (x : ℕ) (b : Bool) (ws : Words) → length (grow x b ws) ≤ suc (length ws)
-unfolding grow
-grow-few x true [] = omega arith
-grow-few x true (w ∷ ws) = omega arith
-grow-few x false ws = omega arith
-
-words-few : (t : Bytes) → length (words t) ≤ length t
-words-few [] = rw words-nil (omega arith)
-words-few (x ∷ t) = rw (words-cons x t) (go (white x) (words-few t))
-  where
-    go : (b : Bool) → length (words t) ≤ length t → length (cond b (words t) (grow x (inWord t) (words t))) ≤ suc (length t)
-    go true h = omega arith
-    go false h = omega (arith, grow-few x (inWord t) (words t))
 
 place-few : (v : Bytes) (ws : Words) → length (inItsPlace v ws) ≡ length ws
 unfolding inItsPlace

@@ -3,24 +3,18 @@
 use mathlib.Core.Path.{_≡_, refl, sym, ap, _∙_}
 use Prim.Native.Nat.{ℕ, _*_, _/_, _%_, _≤_}
 use mathlib.Core.Bool.{Bool, true, false}
-use mathlib.Core.List.{List, [], _∷_}
+use mathlib.Core.List.{List, []}
 use lib.Dec.{T}
 use lib.ListN.{length}
 use lib.Ieee.{Float, binary64, neg, mul, fits}
 use borrow.Fn.World.{World}
-use Rattle.rules.specs.Lists.{anyOf}
 use Rattle.rules.specs.Refusal.{written, prepared}
 use Rattle.rules.specs.Coordinate.{turn, one}
-use Rattle.rules.specs.Normal.{normalise}
-use Rattle.rules.specs.Split.{split}
-use Rattle.rules.specs.Parameters.{parameters}
-use Rattle.rules.specs.Translate.{translate}
 use Rattle.rules.specs.Prepare.{prepare}
 use Rattle.rules.specs.Run.{Outcome, runs, Runs}
 use Rattle.rules.specs.Act.{running}
 use Rattle.rules.specs.Check.{anyAdapt, check, Checks}
-use Rattle.rules.specs.Write.{write}
-use Rattle.rules.specs.Plain.{plainWritten, directionOf, plainPrepared}
+use Rattle.rules.specs.Plain.{plainWritten, plainPrepared}
 use Rattle.rules.specs.ExamplesHold.{examples-hold}
 use Rattle.rules.specs.declared.Step.{Step}
 use Rattle.rules.specs.declared.Direction.{Direction}
@@ -37,11 +31,12 @@ use Rattle.steplaws.specs.Exactly.{passes-exactly, few-exactly, many-exactly, r
 use Rattle.steplaws.specs.Runs.{answered, accepts, as-foretold, as-many}
 use Rattle.steplaws.specs.OwnNumbers.{is-named, own-number}
 use Rattle.steplaws.specs.Bits.{has-bits, alike}
-use Rattle.steplaws.specs.Ending.{ends, lent-ends, normalise-among, split-among, parameters-among, translate-among, prepare-among, write-among, check-ends, run-ends, next-ends}
+use Rattle.steplaws.specs.Ending.{normalise-ends, split-ends, parameters-ends, translate-ends, write-ends, prepare-ends, check-ends, run-ends, next-ends}
 use Rattle.steplaws.specs.Exported.{behind, behind-pass, behind-run}
 use Rattle.sakondreno.proofs as code
 use Rattle.reader.proofs as reading
-use Rattle.promises.specs.Promises.{Calls, Demand1, Demand2, AsForetold, FromThePlacesNamed, Demand3, Exports}
+use Rattle.shown.proofs as program
+use Rattle.promises.specs.Promises.{Calls, Demand1, Demand2, AsForetold, FromThePlacesNamed, Demand3, Exports, Promises}
 
 pub calls : (w : World) → Calls w
 calls w = record {
@@ -64,19 +59,17 @@ calls w = record {
   sakondreno-prepare-keeps = code.sakondreno_prepare.Met.met (w .𝓤) (w .H) (w .𝓜) (w .𝓖) (w .𝓡);
   sakondreno-check-keeps = code.sakondreno_check.Met.met (w .𝓤) (w .H) (w .𝓜) (w .𝓖) (w .𝓡);
   sakondreno-run-keeps = code.sakondreno_run.Met.met (w .𝓤) (w .H) (w .𝓜) (w .𝓖) (w .𝓡);
+  steps-prints = program.show.Met.met (w .𝓤) (w .H) (w .𝓜) (w .𝓖) (w .𝓡);
 }
 
 pub demand1 : Demand1
-unfolding written prepared anyOf
 demand1 = record {
-  normalise-ends = ends written (1 ∷ 2 ∷ 7 ∷ []) refl normalise refl refl (normalise-among (1 ∷ 2 ∷ 7 ∷ []) _);
-  split-ends = ends written (1 ∷ 2 ∷ 6 ∷ 7 ∷ 8 ∷ []) refl split refl refl (split-among (1 ∷ 2 ∷ 6 ∷ 7 ∷ 8 ∷ []) refl refl _);
-  parameters-ends = ends written (1 ∷ 2 ∷ 6 ∷ 7 ∷ 9 ∷ []) refl parameters refl refl (parameters-among (1 ∷ 2 ∷ 6 ∷ 7 ∷ 9 ∷ []) refl refl _);
-  translate-ends = ends written (1 ∷ 2 ∷ 3 ∷ 4 ∷ 5 ∷ 7 ∷ []) refl translate refl refl (translate-among (1 ∷ 2 ∷ 3 ∷ 4 ∷ 5 ∷ 7 ∷ []) refl refl refl _);
-  write-ends = λ table p. lent-ends written (7 ∷ 18 ∷ []) refl (write table) _ _ _ (write-among (7 ∷ 18 ∷ []) refl table) (p .exactly);
-  prepare-ends =
-      ends prepared (1 ∷ 2 ∷ 6 ∷ 7 ∷ 8 ∷ 9 ∷ 10 ∷ 11 ∷ 12 ∷ 13 ∷ 14 ∷ []) refl prepare refl refl
-      (prepare-among (1 ∷ 2 ∷ 6 ∷ 7 ∷ 8 ∷ 9 ∷ 10 ∷ 11 ∷ 12 ∷ 13 ∷ 14 ∷ []) refl refl refl refl refl refl refl refl refl _);
+  normalise-ends = normalise-ends;
+  split-ends = split-ends;
+  parameters-ends = parameters-ends;
+  translate-ends = translate-ends;
+  write-ends = write-ends;
+  prepare-ends = prepare-ends;
   check-ends = check-ends;
   run-ends = run-ends;
   next-ends = next-ends;
@@ -161,3 +154,6 @@ exports = record {
   check-export = λ p. (check _ _, record { exactly = refl }, p .exactly, behind-pass _ _ _ p);
   run-export = behind-run;
 }
+
+pub kept : (w : World) → Promises w
+kept w = record { calls = calls w; demand1 = demand1; demand2 = demand2; demand3 = demand3; exports = exports }

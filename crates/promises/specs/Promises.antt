@@ -12,7 +12,7 @@ use lib.Ieee.{Float, binary64, mul, fits, toBits}
 use borrow.Fn.World.{World}
 use denote.Ref.{now}
 use Rattle.rules.specs.Text.{Bytes}
-use Rattle.rules.specs.Refusal.{Reply, answers, Promised, Writes, Lends, outcome, written, prepared, lent}
+use Rattle.rules.specs.Refusal.{Reply, answers, Promised, Writes, Lends, Wrote, outcome, written, prepared, lent}
 use Rattle.rules.specs.Normal.{normalise}
 use Rattle.rules.specs.Split.{split}
 use Rattle.rules.specs.Parameters.{parameters}
@@ -28,7 +28,7 @@ use Rattle.rules.specs.Run.{start, count, Runs}
 use Rattle.rules.specs.Check.{place, anyAdapt, Checks}
 use Rattle.rules.specs.Write.{write}
 use Rattle.rules.specs.Plain.{plainWritten, plainPrepared, replied, recordCount, plainFound, directionOf, plainCheck, PlainChecks, plainRan, PlainRuns}
-use Rattle.rules.specs.Examples.{examples, also, printed, rewritten, AllHold}
+use Rattle.rules.specs.Examples.{examples, also, printed, rewritten, demanded, AllHold}
 use Rattle.rules.specs.declared.Step.{Step}
 use Rattle.rules.specs.declared.Direction.{Direction}
 use Rattle.rules.specs.declared.Written.{Written}
@@ -45,9 +45,11 @@ use Rattle.rules.specs.declared.Answer.{Answer}
 use Rattle.rules.specs.declared.Part.{Part}
 use Rattle.rules.specs.declared.Checked.{Checked}
 use Rattle.rules.specs.declared.Done as plain-run
-use Rattle.rules.specs.Contract.{Keeps}
+use Rattle.rules.specs.Contract.{Keeps, KeepsIf}
+use Rattle.rules.specs.Shown.{shown}
 use Rattle.sakondreno.proofs as calls
 use Rattle.reader.proofs as reading
+use Rattle.shown.proofs as program
 use Rattle.rules.specs.Demands.{Ends, RunEnds, CheckEnds, NextEnds, EachWell, Few, Many, FirstAtFault, numberAt, Bits, Alike}
 
 -- ==== The public calls. "Every entry point ends on every text, step table and list .. No caller is asked to have looked first": each call's own code,
@@ -94,6 +96,10 @@ pub record Calls (w : World) : Type 1 where
       (λ l before r after. PlainChecks (before .1 .0) (now (before .0)) r)
   pub sakondreno-run-keeps : Keeps w calls.sakondreno_run.ended calls.sakondreno_run.Symbol.routine
       (λ l before r after. PlainRuns (before .1 .0) (now (before .0)) (now (before .1 .1 .0)) (now (before .1 .1 .1 .0)) r (now (after .1 .1 .0)) (now (after .1 .1 .1 .0)))
+  -- The program `steps` prints `shown text` of what it reads: this is the function that it prints by, lent buffers of these lengths.
+  pub steps-prints : KeepsIf w program.show.ended program.show.Symbol.routine
+      (λ l before. (length (now (before .1 .0)) ≡ 65536) ∷ (length (now (before .1 .1 .0)) ≡ 65536) ∷ (139264 ≤ length (now (before .1 .1 .1 .0))) ∷ [])
+      (λ l before r after. Wrote (shown (now (before .0))) (now (before .1 .1 .1 .0)) r (now (after .1 .1 .1 .0)))
 
 -- ==== Demand 1. "It answers, or refuses with a number from the documents' tables, and a refused call alters nothing it was lent."
 
@@ -140,7 +146,7 @@ pub record Demand2 : Type 0 where
   -- a sign that is turned or kept is the Rust's product with -1 or 1, for every f64 (IEEE 754 as the kit defines it)
   pub sign-is-product : (minus : Bool) (x : Float) → T (fits binary64 x) → turn minus x ≡ mul binary64 x (turn minus one)
   -- and document 01's examples are so
-  pub examples-hold : AllHold examples × AllHold also × AllHold printed × AllHold rewritten
+  pub examples-hold : AllHold examples × AllHold also × AllHold printed × AllHold rewritten × AllHold demanded
 
 -- ==== Demand 3. "A check reads a prepared pipeline and a direction, never the data."
 
@@ -201,3 +207,12 @@ pub record Exports : Type 0 where
       → (f : Foretold) × Checks (directionOf inverse) t f × (r ≡ plainCheck f) × (r .said .number ≡ 0 → f .verdict ≡ Passes)
   pub run-export : {inverse : ℕ} {t : List Step} {xs store : List Float} {r : plain-run.Done} {xs′ store′ : List Float} → PlainRuns inverse t xs store r xs′ store′
       → (w : Ran) × Runs (directionOf inverse) t xs store w xs′ store′ × (r ≡ plainRan w) × (r .number ≡ 0 → w ≡ ran-is.Done (r .count) (r .left))
+
+-- ==== All of it.
+
+pub record Promises (w : World) : Type 1 where
+  pub calls : Calls w
+  pub demand1 : Demand1
+  pub demand2 : Demand2
+  pub demand3 : Demand3
+  pub exports : Exports

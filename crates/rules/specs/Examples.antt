@@ -1,5 +1,6 @@
 -- Document 01's examples, input beside outcome: P1 to P13 in one table, the line below them in a second, what the program `steps`
--- prints in a third, what `write` answers in a fourth. That every row of them holds is the one statement of specs/ExamplesHold.antt.
+-- prints in a third, what `write` answers in a fourth; and a few of the words in which the demands are said. That every row of them holds is
+-- the one statement of specs/ExamplesHold.antt.
 use mathlib.Core.Path.{_≡_}
 use Prim.Native.Nat.{ℕ}
 use Prim.Native.String.{String}
@@ -7,7 +8,7 @@ use mathlib.Core.Bool.{true}
 use mathlib.Core.List.{List, [], _∷_, _++_, map, flatMap}
 use lib.ListN.{replicate}
 use lib.IntN.{ℤ, pos}
-use lib.Ieee.{Float, binary64, ofInt}
+use lib.Ieee.{Float, binary64, ofInt, toBits}
 use Rattle.rules.specs.Ascii.{ascii}
 use Rattle.rules.specs.Text.{Bytes}
 use Rattle.rules.specs.Refusal.{Reply, answers, refuses, tested}
@@ -21,6 +22,7 @@ use Rattle.rules.specs.Run.{Outcome, runs}
 use Rattle.rules.specs.Check.{check}
 use Rattle.rules.specs.Write.{write}
 use Rattle.rules.specs.Shown.{shown}
+use Rattle.rules.specs.Demands.{numberAt, signTurned}
 use Rattle.rules.specs.declared.Step.{Step}
 use Rattle.rules.specs.declared.Direction.{Direction}
 use Rattle.rules.specs.declared.Direction.the-variants.{Forward, Inverse}
@@ -187,6 +189,15 @@ rewritten =
     ∷ rewrites "adapt from=nwuf" "adapt from=enuf to=nwuf"
     ∷ rewrites "adapt from=neuf_deg to=pass" "adapt from=enuf_deg to=neuf"
     ∷ rewrites "adapt from=wsdp_gon to=pden_deg" "adapt from=enuf_gon to=fuws_deg"
+    ∷ []
+
+-- ---- the words of the demands
+
+unfoldable pub demanded : List Example
+demanded =
+    says "the sign of 1 turned: the bits of -1" (signTurned (toBits binary64 (ofInt binary64 (pos 1)))) (toBits binary64 (ofInt binary64 minus1))
+    ∷ says "and back" (signTurned (toBits binary64 (ofInt binary64 minus1))) (toBits binary64 (ofInt binary64 (pos 1)))
+    ∷ says "number 2 of tuple 1" (numberAt (floats (pos 1 ∷ pos 2 ∷ pos 3 ∷ pos 4 ∷ pos 5 ∷ pos 6 ∷ pos 7 ∷ pos 8 ∷ [])) 1 2) (ofInt binary64 (pos 6))
     ∷ []
 
 -- ---- the statement

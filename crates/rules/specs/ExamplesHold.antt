@@ -2,13 +2,14 @@
 -- table's, and its n-th `refl` is that of row n.
 use mathlib.Core.Path.{refl}
 use Rattle.rules.specs.Opened.{opened}
-use Rattle.rules.specs.Examples.{examples, also, printed, rewritten, AllHold}
+use Rattle.rules.specs.Examples.{examples, also, printed, rewritten, demanded, AllHold}
 
-pub examples-hold : AllHold examples × AllHold also × AllHold printed × AllHold rewritten
+pub examples-hold : AllHold examples × AllHold also × AllHold printed × AllHold rewritten × AllHold demanded
 unfolding opened
 examples-hold = (
   (refl, (refl, (refl, (refl, (refl, (refl, (refl, (refl, (refl, (refl, (refl, (refl, (refl, (refl, (refl, (refl, tt)))))))))))))))),
   (refl, (refl, (refl, (refl, (refl, (refl, (refl, (refl, (refl, (refl, (refl, (refl, (refl, (refl, (refl, (refl, (refl, (refl, tt)))))))))))))))))),
   (refl, (refl, (refl, (refl, (refl, (refl, (refl, (refl, tt)))))))),
   (refl, (refl, (refl, (refl, (refl, (refl, (refl, (refl, (refl, (refl, tt)))))))))),
+  (refl, (refl, (refl, tt))),
 )

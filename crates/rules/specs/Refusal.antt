@@ -66,3 +66,9 @@ Writes own text buffer result buffer′ = Promised written own text buffer resul
 -- what a call that reads no text promises: its reply, brought into the lent buffer
 pub record Lends (reply : Reply Bytes) (buffer : Bytes) (result : Written) (buffer′ : Bytes) : Type 0 where
   pub exactly : _≡_ {A = Written × Bytes} (result, buffer′) (lent written reply buffer)
+
+-- What a function leaves in a buffer that has room for it: the text stands at the front, the rest is as it was, and the text's length
+-- is returned.
+pub record Wrote (text buffer : Bytes) (result : ℕ) (buffer′ : Bytes) : Type 0 where
+  pub count : result ≡ length text
+  pub whole : buffer′ ≡ text ++ drop result buffer

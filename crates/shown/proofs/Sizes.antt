@@ -1,8 +1,8 @@
--- How much can be printed: out has room for it.
+-- How much can be printed: out has room for it. No number that is printed has more than five digits.
 use mathlib.Core.Path.{_≡_, refl, ap}
 use mathlib.Core.Bool.{Bool, true, false, cond}
 use mathlib.Core.List.{List, [], _∷_, _++_, flatMap}
-use Prim.Native.Nat.{ℕ, zero, suc, _+_, _*_, _/_, _%_, _≤_}
+use Prim.Native.Nat.{ℕ, suc, _+_, _*_, _^_, _≤_, _<_}
 use native.Mathlib.Omega.{arith}
 use borrow.Author.Tests.{ltb-false}
 use lib.ListN.{length, length-append}
@@ -18,38 +18,41 @@ use Rattle.rules.specs.Prepare.{prepare}
 use Rattle.rules.specs.Check.{nth, check}
 use Rattle.rules.specs.declared.Step.{Step}
 use Rattle.rules.specs.declared.Place.{Place}
+use Rattle.rules.specs.declared.Direction.{Direction}
 use Rattle.rules.specs.declared.Direction.the-variants.{Forward, Inverse}
 use Rattle.rules.specs.declared.Verdict.{Verdict}
 use Rattle.rules.specs.declared.Verdict.the-variants.{Passes, TooFew, TooMany, Refused}
 use Rattle.rules.specs.declared.Foretold.{Foretold}
 use Rattle.rules.specs.Numerals.{digits}
 use Rattle.rules.specs.Shown.{counted, refusalText, heading, headed, orRefused, called, shownChecks, shownSteps, translatedLine, shown, signedPlace, twoPlaces, fourPlaces, passText, verdictText, verdictLine, bothChecks}
-use Rattle.shown.proofs.Replies.{Of, of-refusal, of-then, of-tested, Made, split-made, AtMost, prepared-few}
+use Rattle.laws.specs.Numerals.{digits-length}
+use Rattle.laws.specs.Sizes.{steps-few, proj-few}
+use Rattle.laws.specs.Refusals.{Refusing, OfAStep, then-refuses, tested-refuses, split-refuses, translate-refuses, prepare-refuses}
+use Rattle.steplaws.specs.Named.{Named, FourNamed}
+use Rattle.steplaws.specs.Foretold.{foretells}
+use Rattle.steplaws.specs.Made.{prepare-made, check-never-18, tested-answers}
+use Rattle.steplaws.specs.Limits.{few-within, many-within, pass-within}
+use Rattle.shown.proofs.Replies.{Of, of-refusal, of-answers, of-then, of-tested, Made, split-made}
 use Rattle.shown.specs.Lines.{numbered, steps-numbered}
 
 -- ---- numbers and words
 
-digits-length : (k n : ℕ) → length (digits k n) ≤ suc k
-unfolding digits
-digits-length zero n = omega arith
-digits-length (suc k) n = go (ltb n 10) (digits-length k (n / 10))
-  where
-    go : (b : Bool) → length (digits k (n / 10)) ≤ suc k → length (cond b ((48 + n) ∷ []) (digits k (n / 10) ++ ((48 + n % 10) ∷ []))) ≤ suc (suc k)
-    go true h = omega arith
-    go false h = omega (arith, length-append (digits k (n / 10)) ((48 + n % 10) ∷ []), h)
+-- five digits at most
+abbrev Small : ℕ → Type 0
+Small n = n < 10 ^ 5
 
-counted-length : (w : Bytes) (n : ℕ) → length (counted w n) ≤ length w + 20
-unfolding counted number
-counted-length w n = omega (arith, length-append w (digits 19 n), digits-length 19 n)
+counted-length : (w : Bytes) (n : ℕ) → Small n → length (counted w n) ≤ length w + 5
+unfolding counted
+counted-length w n h = omega (arith, length-append w (digits n), digits-length 4 n h)
 
 line-length : (t : Bytes) → length (line t) ≡ length t + 1
 unfolding line ascii
 line-length t = length-append t (10 ∷ [])
 
-refused-length : (n place : ℕ) → length (refusalText n place) ≤ 49
+refused-length : (n place : ℕ) → Small n → Small place → length (refusalText n place) ≤ 19
 unfolding refusalText ascii
-refused-length n place =
-    omega (arith, length-append (counted (ascii "refused ") n) (counted (ascii " ") place), counted-length (ascii "refused ") n, counted-length (ascii " ") place)
+refused-length n place h k =
+    omega (arith, length-append (counted (ascii "refused ") n) (counted (ascii " ") place), counted-length (ascii "refused ") n h, counted-length (ascii " ") place k)
 
 -- ---- a check's line
 
@@ -58,74 +61,91 @@ unfolding ascii
 mark-length true = omega arith
 mark-length false = omega arith
 
-signed-length : (w : Bytes) (p : Place) → length (signedPlace w p) ≤ length w + 21
+signed-length : (w : Bytes) (p : Place) → Named p → length (signedPlace w p) ≤ length w + 6
 unfolding signedPlace
-signed-length w p =
-    omega (arith, counted-length (w ++ cond (p .minus) (ascii "-") []) (p .axis), length-append w (cond (p .minus) (ascii "-") []), mark-length (p .minus))
+signed-length w p h =
+    let l : Small (p .axis) = omega (arith, h .most) in
+    omega (arith, counted-length (w ++ cond (p .minus) (ascii "-") []) (p .axis) l, length-append w (cond (p .minus) (ascii "-") []), mark-length (p .minus))
 
-pair-length : (w : Bytes) (p q : Place) → length (twoPlaces w p q) ≤ length w + 43
+pair-length : (w : Bytes) (p q : Place) → Named p → Named q → length (twoPlaces w p q) ≤ length w + 13
 unfolding twoPlaces ascii
-pair-length w p q = omega (arith, length-append (signedPlace w p) (signedPlace (ascii ",") q), signed-length w p, signed-length (ascii ",") q)
+pair-length w p q h k = omega (arith, length-append (signedPlace w p) (signedPlace (ascii ",") q), signed-length w p h, signed-length (ascii ",") q k)
 
-places-length : (b : Bool) (l : List Place) → length (cond b (fourPlaces l) []) ≤ 95
+places-length : (b : Bool) (l : List Place) → (b ≡ true → FourNamed l) → length (cond b (fourPlaces l) []) ≤ 35
 unfolding fourPlaces ascii
-places-length true l =
+places-length true l h =
+    let n = h refl in
     let x = twoPlaces (ascii " places ") (nth l 0) (nth l 1) in
     let y = twoPlaces (ascii ",") (nth l 2) (nth l 3) in
-    omega (arith, length-append x y, pair-length (ascii " places ") (nth l 0) (nth l 1), pair-length (ascii ",") (nth l 2) (nth l 3))
-places-length false l = omega arith
+    let a = pair-length (ascii " places ") (nth l 0) (nth l 1) (n .first) (n .second) in
+    let b = pair-length (ascii ",") (nth l 2) (nth l 3) (n .third) (n .fourth) in
+    omega (arith, length-append x y)
+places-length false l h = omega arith
 
-passed-length : (f : Foretold) → length (passText f) ≤ 149
+passed-length : (f : Foretold) → Small (f .deepest) → Small (f .left) → (f .told ≡ true → FourNamed (f .places)) → length (passText f) ≤ 59
 unfolding passText ascii
-passed-length f =
+passed-length f h k n =
     let x = counted (ascii "deepest ") (f .deepest) in
     let y = counted (ascii " left ") (f .left) in
     let z = cond (f .told) (fourPlaces (f .places)) [] in
-    omega (arith, length-append (x ++ y) z, length-append x y, counted-length (ascii "deepest ") (f .deepest), counted-length (ascii " left ") (f .left), places-length (f .told) (f .places))
+    let a = counted-length (ascii "deepest ") (f .deepest) h in
+    let b = counted-length (ascii " left ") (f .left) k in
+    omega (arith, length-append (x ++ y) z, length-append x y, places-length (f .told) (f .places) n)
 
-step-length : (k : ℕ) (w : Bytes) → length (counted (ascii "step ") k ++ w) ≤ length w + 25
+step-length : (k : ℕ) (w : Bytes) → Small k → length (counted (ascii "step ") k ++ w) ≤ length w + 10
 unfolding ascii
-step-length k w = omega (arith, length-append (counted (ascii "step ") k) w, counted-length (ascii "step ") k)
+step-length k w h = omega (arith, length-append (counted (ascii "step ") k) w, counted-length (ascii "step ") k h)
 
-judged-length : (v : Verdict) (f : Foretold) → length (verdictText v f) ≤ 149
-unfolding verdictText ascii
-judged-length Passes f = passed-length f
-judged-length (TooFew k) f = omega (arith, step-length k (ascii " too few"))
-judged-length (TooMany k) f = omega (arith, step-length k (ascii " too many"))
-judged-length (Refused n k) f = omega (arith, refused-length n k)
+-- of a table that was prepared
+module _ (t : Bytes) (ss : List Step) (e : prepare t ≡ answers ss) where
+  step-small : (k : ℕ) → k ≤ length ss → Small k
+  step-small k h = omega (arith, prepare-made t ss e .1)
 
-verdict-length : (w : Bytes) (f : Foretold) → length (verdictLine w f) ≤ length w + 150
-unfolding verdictLine
-verdict-length w f = omega (arith, line-length (w ++ verdictText (f .verdict) f), length-append w (verdictText (f .verdict) f), judged-length (f .verdict) f)
+  judged-length : (d : Direction) (v : Verdict) → check d ss .verdict ≡ v → length (verdictText v (check d ss)) ≤ 59
+  unfolding verdictText ascii
+  judged-length d Passes h =
+      let w = pass-within d ss h in
+      passed-length (check d ss) (omega arith) (omega arith) (foretells d ss [] h .named)
+  judged-length d (TooFew k) h = omega (arith, step-length k (ascii " too few") (step-small k (few-within d ss k h)))
+  judged-length d (TooMany k) h = omega (arith, step-length k (ascii " too many") (step-small k (many-within d ss k h)))
+  judged-length d (Refused n k) h = absurd (check-never-18 t ss e d n k h)
 
-checks-length : (ss : List Step) → length (bothChecks ss) ≤ 318
-unfolding bothChecks ascii
-checks-length ss =
-    let x = verdictLine (ascii "forward: ") (check Forward ss) in
-    let y = verdictLine (ascii "inverse: ") (check Inverse ss) in
-    omega (arith, length-append x y, verdict-length (ascii "forward: ") (check Forward ss), verdict-length (ascii "inverse: ") (check Inverse ss))
+  verdict-length : (w : Bytes) (d : Direction) → length (verdictLine w (check d ss)) ≤ length w + 60
+  unfolding verdictLine
+  verdict-length w d =
+      let u = verdictText (check d ss .verdict) (check d ss) in
+      omega (arith, line-length (w ++ u), length-append w u, judged-length d (check d ss .verdict) refl)
+
+  checks-length : length (bothChecks ss) ≤ 138
+  unfolding bothChecks ascii
+  checks-length =
+      let x = verdictLine (ascii "forward: ") (check Forward ss) in
+      let y = verdictLine (ascii "inverse: ") (check Inverse ss) in
+      omega (arith, length-append x y, verdict-length (ascii "forward: ") Forward, verdict-length (ascii "inverse: ") Inverse)
 
 -- ---- the steps' lines
 
-heading-length : (k : ℕ) → length (heading k) ≤ 27
+heading-length : (k : ℕ) → Small k → length (heading k) ≤ 12
 unfolding heading ascii
-heading-length k = omega (arith, step-length k (ascii ": "))
+heading-length k h = omega (arith, step-length k (ascii ": ") h)
 
-numbered-length : (k : ℕ) (ts : List Bytes) → length (numbered k ts) ≤ length (flatMap line ts) + 27 * length ts
+numbered-length : (k : ℕ) (ts : List Bytes) → k + length ts ≤ 10 ^ 5 → length (numbered k ts) ≤ length (flatMap line ts) + 12 * length ts
 unfolding flatMap numbered
-numbered-length k [] = omega arith
-numbered-length k (t ∷ ts) =
-    omega (arith, length-append (heading k ++ line t) (numbered (suc k) ts), length-append (heading k) (line t), length-append (line t) (flatMap line ts), heading-length k, numbered-length (suc k) ts)
+numbered-length k [] h = omega arith
+numbered-length k (t ∷ ts) h =
+    let a = heading-length k (omega arith) in
+    let b = numbered-length (suc k) ts (omega arith) in
+    omega (arith, length-append (heading k ++ line t) (numbered (suc k) ts), length-append (heading k) (line t), length-append (line t) (flatMap line ts))
 
 -- the lines of a split: at most 64
 record Lines (lines : Bytes) : Type 0 where
-  fits : length (headed 1 false lines) ≤ length lines + 1728
+  fits : length (headed 1 false lines) ≤ length lines + 768
 
 made-lines : (t : Bytes) (texts : List Bytes) → Made (steps t) texts → Lines (flatMap line texts)
 unfolding steps
 made-lines t texts m =
     let f : headed 1 false (flatMap line texts) ≡ numbered 1 texts = rw (m .are) (steps-numbered (normal (stripped t))) in
-    record { fits = omega (arith, ap length f, numbered-length 1 texts, m .few) }
+    record { fits = omega (arith, ap length f, numbered-length 1 texts (omega arith), m .few) }
 
 split-lines : (t : Bytes) → Of Lines (split t)
 unfolding split
@@ -148,20 +168,62 @@ called-fits P own t h =
     go x p true e = of-refusal (Fits P) 7 0
     go x p false e = unfold Of in record { size = ltb-false 65536 (length x) e; holds = p }
 
--- what is printed of a reply: so much of an answer, and 50 bytes of a refusal
-printed : {A : Type 0} (P : A → Type 0) (r : Reply A) (next : A → Bytes) (m : ℕ) → 50 ≤ m → Of P r → ((x : A) → P x → length (next x) ≤ m) → length (orRefused r next) ≤ m
-unfolding orRefused Of
-printed P (answers x) next m k h f = f x h
-printed P (refuses n place) next m k h f = omega (arith, line-length (refusalText n place), refused-length n place, k)
+-- what is printed of a reply: so much of an answer, and 20 bytes of a refusal
+abbrev BothSmall : ℕ → ℕ → Type 0
+BothSmall n place = Small n × Small place
 
-shown-checks-length : (t : Bytes) → length (shownChecks t) ≤ 318
+printed : {A : Type 0} (P : A → Type 0) (r : Reply A) (next : A → Bytes) (m : ℕ) → 20 ≤ m → Refusing BothSmall r → Of P r → ((x : A) → P x → length (next x) ≤ m)
+    → length (orRefused r next) ≤ m
+unfolding orRefused Of Refusing
+printed P (answers x) next m k w h f = f x h
+printed P (refuses n place) next m k w h f = omega (arith, line-length (refusalText n place), refused-length n place (w .0) (w .1))
+
+called-small : (own : Bytes → Reply Bytes) (t : Bytes) → (length t ≤ 4096 → Refusing BothSmall (own t)) → Refusing BothSmall (called own t)
+unfolding Refusing called
+called-small own t h =
+    then-refuses BothSmall (tested own t) (λ x. cond (ltb 65536 (length x)) (refuses 7 0) (answers x)) (tested-refuses BothSmall own t (omega arith) (omega arith) h)
+    (λ x e. go x (ltb 65536 (length x)))
+  where
+    go : (x : Bytes) (b : Bool) → Refusing BothSmall (cond b (refuses 7 0) (answers x))
+    go x true = omega arith
+    go x false = tt
+
+-- Of 4,096 bytes, at most 40,961 steps are tried.
+translate-small : (t : Bytes) → length t ≤ 4096 → Refusing BothSmall (translate t)
+translate-small t l = translate-refuses BothSmall t (λ k h. let s : Small k = omega (arith, proj-few t) in ((omega arith, s), (omega arith, s), (omega arith, s)))
+
+split-small : (t : Bytes) → length t ≤ 4096 → Refusing BothSmall (split t)
+split-small t l = split-refuses BothSmall t (λ k h. (omega arith, omega (arith, steps-few t))) (omega arith)
+
+of-a-step : (k : ℕ) → Small k → OfAStep BothSmall k
+of-a-step k s =
+    record {
+      long = (omega arith, s);
+      modifiers = (omega arith, s);
+      keys = (omega arith, s);
+      name = (omega arith, s);
+      unknown-key = (omega arith, s);
+      no-number = (omega arith, s);
+      series = (omega arith, s);
+      own = (omega arith, s);
+    }
+
+prepare-small : (t : Bytes) → length t ≤ 4096 → Refusing BothSmall (prepare t)
+prepare-small t l = prepare-refuses BothSmall t (λ k h. of-a-step k (omega (arith, steps-few t))) (omega arith)
+
+shown-checks-length : (t : Bytes) → length (shownChecks t) ≤ 138
 unfolding shownChecks
-shown-checks-length t = printed (AtMost 64) (tested prepare t) bothChecks 318 (omega arith) (prepared-few t) (λ ss m. checks-length ss)
+shown-checks-length t =
+    let r = tested prepare t in
+    let Is : List Step → Type 0 = λ ss. r ≡ answers ss in
+    printed Is r bothChecks 138 (omega arith) (tested-refuses BothSmall prepare t (omega arith) (omega arith) (prepare-small t)) (of-answers Is r (λ ss e. e))
+    (λ ss e. checks-length t ss (tested-answers t ss e))
 
-shown-steps-length : (t : Bytes) → length (shownSteps t) ≤ 67582
+shown-steps-length : (t : Bytes) → length (shownSteps t) ≤ 66442
 unfolding shownSteps
 shown-steps-length t =
-    printed (Fits Lines) (called split t) (λ lines. headed 1 false lines ++ shownChecks t) 67582 (omega arith) (called-fits Lines split t (split-lines t))
+    printed (Fits Lines) (called split t) (λ lines. headed 1 false lines ++ shownChecks t) 66442 (omega arith) (called-small split t (split-small t))
+    (called-fits Lines split t (split-lines t))
     (λ lines m. omega (arith, length-append (headed 1 false lines) (shownChecks t), m .size, m .holds .fits, shown-checks-length t))
 
 -- any text
@@ -178,6 +240,7 @@ pub shown-length : (text : Bytes) → length (shown text) ≤ 139264
 unfolding shown
 shown-length text =
     printed (Fits (λ t. 0 ≤ length t)) (called translate text) (λ t. translatedLine t ++ shownSteps t) 139264 (omega arith)
+    (called-small translate text (translate-small text))
     (called-fits (λ t. 0 ≤ length t) translate text (any-text (translate text)))
     (λ t m. omega (arith, length-append (translatedLine t) (shownSteps t), translation-length t, m .size, shown-steps-length t))
 

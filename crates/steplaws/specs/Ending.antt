@@ -1,74 +1,63 @@
--- Demand 1: which numbers each call refuses with, by its written rule; that a refusal alters nothing; and that an answer alters nothing past
--- its own end.
+-- Demand 1: how each call ends. It answers, and alters nothing past its own end; or it refuses with one of its own numbers, and alters nothing.
 use mathlib.Core.Path.{_≡_, refl, sym, ap, _∙_}
-use Prim.Native.Nat.{ℕ, suc, _+_, _-_, _≤_, _<_, _*_, _/_}
-use mathlib.Core.Bool.{Bool, true, false, cond, not, _||_, _&&_}
+use Prim.Native.Nat.{ℕ, _+_, _-_, _≤_, _*_, _/_}
+use mathlib.Core.Bool.{Bool, true, false, cond}
 use mathlib.Core.Option.{Option, none, some}
 use mathlib.Core.List.{List, [], _∷_, _++_, flatMap, reverse, append-assoc}
 use native.Mathlib.Omega.{arith}
 use borrow.Author.Tests.{ltb-false}
-use lib.Dec.{ltb, eqb}
+use lib.Dec.{ltb}
 use lib.ListN.{length, drop, replicate, length-append, length-drop, length-replicate}
 use lib.Seq.{drop-at}
 use lib.IntN.{pos}
 use lib.Ieee.{Float, fin}
-use Rattle.rules.specs.Ascii.{ascii, is}
 use Rattle.rules.specs.Lists.{anyOf}
-use Rattle.rules.specs.Text.{Bytes, Steps, inDomain, words, contains}
-use Rattle.rules.specs.Refusal.{Reply, answers, refuses, andThen, tested, lent, outcome, Promised}
-use Rattle.rules.specs.Normal.{normal, normalise}
-use Rattle.rules.specs.Split.{onlyModifiers, steps, splitSteps, split}
-use Rattle.rules.specs.Parameters.{Parameter, tableOf, stepTable, textTable, parametersOf, parameters}
-use Rattle.rules.specs.Proj.{projSteps}
-use Rattle.rules.specs.Translate.{Pipeline, pipeline, isPipeline, initFirst, onlyInv, firstFault, translation, translated, translate}
-use Rattle.rules.specs.Keys.{Name, kindOf, unknown, misspelt, tooLong}
-use Rattle.rules.specs.OwnRules.{valueOf, ownRule}
-use Rattle.rules.specs.Prepare.{judged14, judged11, named, judged10, judged, atStep, prepareStep, prepareSteps, prepare}
+use Rattle.rules.specs.Text.{Bytes}
+use Rattle.rules.specs.Refusal.{Reply, answers, refuses, tested, lent, outcome, Promised, written, prepared, Writes, Lends}
+use Rattle.rules.specs.Normal.{normalise}
+use Rattle.rules.specs.Split.{split}
+use Rattle.rules.specs.Parameters.{parameters}
+use Rattle.rules.specs.Translate.{translate}
+use Rattle.rules.specs.Reader.{next}
+use Rattle.rules.specs.Prepare.{prepare, Prepares}
 use Rattle.rules.specs.Record.{refusal18}
 use Rattle.rules.specs.Act.{Numbered, running}
 use Rattle.rules.specs.Columns.{after, depths, deepest}
 use Rattle.rules.specs.Tuples.{acted}
 use Rattle.rules.specs.Run.{Outcome, start, count, passes64, badList, storeAfter, refused, finished, unless16, unless15, unless18, runs, Runs}
+use Rattle.rules.specs.Check.{Checks}
+use Rattle.rules.specs.Write.{tableWriting, writtenUnless18, write}
+use Rattle.rules.specs.Demands.{OneOf, Ends, RunEnds, CheckEnds, NextEnds}
 use Rattle.rules.specs.declared.Step.{Step}
 use Rattle.rules.specs.declared.Direction.{Direction}
-use Rattle.rules.specs.Reader.{step, next}
+use Rattle.rules.specs.declared.Written.{Written}
+use Rattle.rules.specs.declared.Written.the-variants as written-is
+use Rattle.rules.specs.declared.Prepared.{Prepared}
+use Rattle.rules.specs.declared.Prepared.the-variants as prepared-is
 use Rattle.rules.specs.declared.Found.{Found}
 use Rattle.rules.specs.declared.Found.the-variants.{End}
 use Rattle.rules.specs.declared.Found.the-variants as found-is
+use Rattle.rules.specs.declared.Foretold.{Foretold}
 use Rattle.rules.specs.declared.Verdict.{Verdict}
 use Rattle.rules.specs.declared.Verdict.the-variants as verdict-is
-use Rattle.laws.specs.Walk.{walk-ahead}
 use Rattle.rules.specs.declared.Ran.{Ran}
 use Rattle.rules.specs.declared.Ran.the-variants.{Done, Refused}
-use Rattle.rules.specs.Check.{Checks}
-use Rattle.rules.specs.declared.Foretold.{Foretold}
+use Rattle.laws.specs.Refusals.{Refusing, OfAStep, tested-refuses, normalise-refuses, split-refuses, parameters-refuses, translate-refuses, prepare-refuses}
+use Rattle.laws.specs.Walk.{walk-ahead}
 use Rattle.steplaws.specs.Foretold.{check-refused}
 use Rattle.steplaws.specs.Lengths.{store-length}
 use Rattle.steplaws.specs.Runs.{end, used, answered, as-many}
-use Rattle.rules.specs.Write.{tableWriting, writtenUnless18, write}
-use Rattle.rules.specs.Demands.{OneOf, Ends, RunEnds, CheckEnds, NextEnds}
 
--- a reply that refuses with no other number
-unfoldable pub Among : {A : Type 0} → List ℕ → Reply A → Type 0
-Among numbers (answers x) = Unit {0}
-Among numbers (refuses number place) = OneOf numbers number
+-- ---- a reply brought into lent storage
 
-module _ (l : List ℕ) where
-  choose : {A : Type 0} (b : Bool) (x y : Reply A) → Among l x → Among l y → Among l (cond b x y)
-  choose true x y h k = h
-  choose false x y h k = k
-
-  then : {A B : Type 0} (r : Reply B) (next : B → Reply A) → Among l r → ((x : B) → Among l (next x)) → Among l (andThen r next)
-  unfolding andThen Among
-  then (answers x) next h k = k x
-  then (refuses number place) next h k = h
-
--- ---- a call that reads a text and writes into lent storage
+-- a refusal with one of these numbers, wherever
+abbrev By : List ℕ → ℕ → ℕ → Type 0
+By numbers number place = OneOf numbers number
 
 module _ {A R : Type 0} (inWords : Reply ℕ → R) (l : List ℕ) (seven : OneOf l 7) where
-  pub lent-ends : (reply : Reply (List A)) (storage : List A) (r : R) (storage′ : List A) → Among l reply → _≡_ {A = R × List A} (r, storage′) (lent inWords reply storage)
+  lent-ends : (reply : Reply (List A)) (storage : List A) (r : R) (storage′ : List A) → Refusing (By l) reply → _≡_ {A = R × List A} (r, storage′) (lent inWords reply storage)
       → Ends (λ n. inWords (answers n)) (λ number place. inWords (refuses number place)) l storage r storage′
-  unfolding lent Among
+  unfolding lent Refusing
   lent-ends (refuses number place) storage r storage′ h e = Ends.refuses number place (ap (λ (x : R × List A). x .0) e) h (ap (λ (x : R × List A). x .1) e)
   lent-ends (answers xs) storage r storage′ h e = go (ltb (length storage) (length xs)) refl e
     where
@@ -82,100 +71,49 @@ module _ {A R : Type 0} (inWords : Reply ℕ → R) (l : List ℕ) (seven : OneO
           Ends.answers (length xs) (ap (λ (x : R × List A). x .0) e) fits (rw w (simp (length-append, length-drop) (omega arith)))
           (rw w (drop-at xs (drop (length xs) storage) (length xs) refl))
 
-  pub ends : (own : Bytes → Reply (List A)) {text : Bytes} {storage : List A} {r : R} {storage′ : List A} → OneOf l 1 → OneOf l 2 → Among l (own text)
+  -- a call that reads a text
+  ends : (own : Bytes → Reply (List A)) {text : Bytes} {storage : List A} {r : R} {storage′ : List A} → OneOf l 1 → OneOf l 2 → Refusing (By l) (own text)
       → Promised inWords own text storage r storage′ → Ends (λ n. inWords (answers n)) (λ number place. inWords (refuses number place)) l storage r storage′
-  unfolding outcome tested Among
+  unfolding outcome
   ends own {text} {storage} {r} {storage′} one two h p =
-      lent-ends (tested own text) storage r storage′ (choose l (ltb 4096 (length text)) _ _ one (choose l (not (inDomain text)) _ _ two h)) (p .exactly)
+      lent-ends (tested own text) storage r storage′ (tested-refuses (By l) own text one two (λ short. h)) (p .exactly)
 
--- ---- the calls' own rules
+module _ {text out : Bytes} {r : Written} {out′ : Bytes} where
+  pub normalise-ends : Writes normalise text out r out′ → Ends written-is.Wrote written-is.Refused (1 ∷ 2 ∷ 7 ∷ []) out r out′
+  unfolding written anyOf
+  normalise-ends = ends written (1 ∷ 2 ∷ 7 ∷ []) refl normalise refl refl (normalise-refuses (By (1 ∷ 2 ∷ 7 ∷ [])) text)
 
-module _ (l : List ℕ) where
-  pub normalise-among : (t : Bytes) → Among l (normalise t)
-  unfolding normalise Among
-  normalise-among t = tt
+  pub split-ends : Writes split text out r out′ → Ends written-is.Wrote written-is.Refused (1 ∷ 2 ∷ 6 ∷ 7 ∷ 8 ∷ []) out r out′
+  unfolding written anyOf
+  split-ends = ends written (1 ∷ 2 ∷ 6 ∷ 7 ∷ 8 ∷ []) refl split refl refl (split-refuses (By (1 ∷ 2 ∷ 6 ∷ 7 ∷ 8 ∷ [])) text (λ p l. refl) refl)
 
-  cut-among : OneOf l 6 → OneOf l 8 → (ss : Steps) → Among l (splitSteps ss)
-  unfolding splitSteps Among
-  cut-among six eight ss = choose l (anyOf onlyModifiers ss) _ _ six (choose l (ltb 64 (length ss)) _ _ eight tt)
+  pub parameters-ends : Writes parameters text out r out′ → Ends written-is.Wrote written-is.Refused (1 ∷ 2 ∷ 6 ∷ 7 ∷ 9 ∷ []) out r out′
+  unfolding written anyOf
+  parameters-ends = ends written (1 ∷ 2 ∷ 6 ∷ 7 ∷ 9 ∷ []) refl parameters refl refl (parameters-refuses (By (1 ∷ 2 ∷ 6 ∷ 7 ∷ 9 ∷ [])) text refl refl)
 
-  pub split-among : OneOf l 6 → OneOf l 8 → (t : Bytes) → Among l (split t)
-  unfolding split Among
-  split-among six eight t = then l (splitSteps (steps t)) _ (cut-among six eight (steps t)) (λ x. tt)
+  pub translate-ends : Writes translate text out r out′ → Ends written-is.Wrote written-is.Refused (1 ∷ 2 ∷ 3 ∷ 4 ∷ 5 ∷ 7 ∷ []) out r out′
+  unfolding written anyOf
+  translate-ends =
+      ends written (1 ∷ 2 ∷ 3 ∷ 4 ∷ 5 ∷ 7 ∷ []) refl translate refl refl
+      (translate-refuses (By (1 ∷ 2 ∷ 3 ∷ 4 ∷ 5 ∷ 7 ∷ [])) text (λ k l. (refl, refl, refl)))
 
-  table-among : OneOf l 6 → OneOf l 9 → (t : Bytes) → Among l (parametersOf t)
-  unfolding parametersOf textTable stepTable Among
-  table-among six nine t =
-      choose l (anyOf (is "|") (normal t)) _ _ tt
-      (choose l (onlyModifiers (words (normal t))) _ _ six
-      (choose l (ltb 32 (length (tableOf (words (normal t))))) _ _ nine tt))
+pub prepare-ends : {text : Bytes} {table : List Step} {r : Prepared} {table′ : List Step} → Prepares text table r table′
+    → Ends prepared-is.Steps prepared-is.Refused (1 ∷ 2 ∷ 6 ∷ 7 ∷ 8 ∷ 9 ∷ 10 ∷ 11 ∷ 12 ∷ 13 ∷ 14 ∷ []) table r table′
+unfolding prepared anyOf
+prepare-ends {text} =
+    let l : List ℕ = 1 ∷ 2 ∷ 6 ∷ 7 ∷ 8 ∷ 9 ∷ 10 ∷ 11 ∷ 12 ∷ 13 ∷ 14 ∷ [] in
+    let each : (k : ℕ) → OfAStep (By l) k = λ k.
+    record { long = refl; modifiers = refl; keys = refl; name = refl; unknown-key = refl; no-number = refl; series = refl; own = refl } in
+    ends prepared l refl prepare refl refl (prepare-refuses (By l) text (λ k h. each k) refl)
 
-  pub parameters-among : OneOf l 6 → OneOf l 9 → (t : Bytes) → Among l (parameters t)
-  unfolding parameters Among
-  parameters-among six nine t = then l (parametersOf t) _ (table-among six nine t) (λ x. tt)
-
-  module _ (three : OneOf l 3) (four : OneOf l 4) (five : OneOf l 5) where
-    fault-among : (p : Pipeline) (place : ℕ) (ss : Steps) (otherwise : Reply Bytes) → Among l otherwise → Among l (firstFault p place ss otherwise)
-    unfolding firstFault Among
-    fault-among p place [] otherwise h = h
-    fault-among p place (s ∷ ss) otherwise h =
-        choose l (initFirst s) _ _ three
-        (choose l (ltb 1 place && isPipeline s) _ _ four
-        (choose l (onlyInv p s) _ _ five
-        (fault-among p (suc place) ss otherwise h)))
-
-    pub translate-among : (t : Bytes) → Among l (translate t)
-    unfolding translate translated Among
-    translate-among t =
-        choose l (anyOf (is "|") t || not (contains (ascii "proj") t)) _ _ tt
-        (fault-among (pipeline (projSteps t)) 1 (projSteps t) (answers (translation (pipeline (projSteps t)) (projSteps t))) tt)
-
-  module _ (ten : OneOf l 10) (eleven : OneOf l 11) (twelve : OneOf l 12) (thirteen : OneOf l 13) (fourteen : OneOf l 14) where
-    rule-among : (o : Option Step) → Among l (judged14 o)
-    unfolding judged14 Among
-    rule-among none = fourteen
-    rule-among (some s) = tt
-
-    keys-among : (o : Option Name) (ps : List Parameter) → Among l (judged10 o ps)
-    unfolding judged10 judged11 Among
-    keys-among none ps = ten
-    keys-among (some n) ps =
-        choose l (anyOf (unknown n) ps) _ _ eleven
-        (choose l (anyOf (λ (p : Parameter). misspelt (kindOf n p) (p .value)) ps) _ _ twelve
-        (choose l (anyOf (λ (p : Parameter). tooLong (kindOf n p) (p .value)) ps) _ _ thirteen
-        (rule-among (ownRule n ps))))
-
-    at-among : (place : ℕ) (r : Reply Step) → Among l r → Among l (atStep place r)
-    unfolding atStep Among
-    at-among place (answers s) h = h
-    at-among place (refuses number nowhere) h = h
-
-    module _ (one : OneOf l 1) (six : OneOf l 6) (eight : OneOf l 8) (nine : OneOf l 9) where
-      step-among : (place : ℕ) (t : Bytes) → Among l (prepareStep place t)
-      unfolding prepareStep judged Among
-      step-among place t =
-          at-among place _ (choose l (ltb 4096 (length t)) _ _ one
-          (then l (parametersOf t) judged (table-among six nine t) (λ ps. keys-among (named (valueOf (ascii "_name") ps)) ps)))
-
-      steps-among : (place : ℕ) (ts : List Bytes) → Among l (prepareSteps place ts)
-      unfolding prepareSteps Among
-      steps-among place [] = tt
-      steps-among place (t ∷ ts) =
-          then l (prepareStep place t) _ (step-among place t) (λ s. then l (prepareSteps (suc place) ts) _ (steps-among (suc place) ts) (λ r. tt))
-
-      pub prepare-among : (t : Bytes) → Among l (prepare t)
-      unfolding prepare
-      prepare-among t = then l (splitSteps (steps t)) (prepareSteps 1) (cut-among six eight (steps t)) (λ ts. steps-among 1 ts)
-
--- ---- writing
-
-pub write-among : (numbers : List ℕ) → OneOf numbers 18 → (l : List Step) → Among numbers (write l)
-unfolding write writtenUnless18 Among
-write-among numbers h l = go (refusal18 l)
+pub write-ends : {out : Bytes} {r : Written} {out′ : Bytes} (table : List Step) → Lends (write table) out r out′
+    → Ends written-is.Wrote written-is.Refused (7 ∷ 18 ∷ []) out r out′
+unfolding written anyOf write writtenUnless18 Refusing
+write-ends {out} {r} {out′} table p = lent-ends written (7 ∷ 18 ∷ []) refl (write table) out r out′ (go (refusal18 table)) (p .exactly)
   where
-    go : (o : Option ℕ) → Among numbers (writtenUnless18 o (tableWriting l))
+    go : (o : Option ℕ) → Refusing (By (7 ∷ 18 ∷ [])) (writtenUnless18 o (tableWriting table))
     go none = tt
-    go (some k) = h
+    go (some k) = refl
 
 -- ---- the run
 

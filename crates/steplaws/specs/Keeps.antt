@@ -2,13 +2,13 @@
 -- The check's places are from 1 to 4, and the run's columns have one number for each tuple.
 use Prim.Native.Nat.{ℕ, zero, suc, _-_}
 use mathlib.Core.Bool.{Bool}
-use mathlib.Core.List.{List, [], _∷_, _++_}
+use mathlib.Core.List.{List, [], _∷_}
 use lib.ListN.{take, drop}
 use lib.IntN.{ℤ}
 use Rattle.rules.specs.Act.{Act, pushes, pops, popsAll, flips, rolls, swaps, drops, orders, adapts, Numbered}
 use Rattle.rules.specs.Columns.{Machine, Kit, rolledOnce, rolled, swappedTop, pushed, popped, topped, flipped, moved, after}
 use Rattle.rules.specs.Tuples.{tuples, column}
-use Rattle.steplaws.specs.Tests.{Every}
+use Rattle.steplaws.specs.Tests.{Every, every-append}
 
 -- ---- columns alone
 
@@ -25,15 +25,10 @@ module _ {A : Type 0} (P : A → Type 0) where
   every-drop (suc n) [] h = tt
   every-drop (suc n) (x ∷ l) h = every-drop n l (h .1)
 
-  every-append : (l m : List A) → Every P l → Every P m → Every P (l ++ m)
-  unfolding Every
-  every-append [] m h k = k
-  every-append (x ∷ l) m h k = (h .0, every-append l m (h .1) k)
-
   every-once : (m : ℕ) (l : List A) → Every P l → Every P (rolledOnce m l)
   unfolding Every rolledOnce
   every-once m [] h = tt
-  every-once m (v ∷ l) h = every-append (take (m - 1) l) (v ∷ drop (m - 1) l) (every-take (m - 1) l (h .1)) (h .0, every-drop (m - 1) l (h .1))
+  every-once m (v ∷ l) h = every-append P (take (m - 1) l) (v ∷ drop (m - 1) l) (every-take (m - 1) l (h .1)) (h .0, every-drop (m - 1) l (h .1))
 
   every-rolled : (m n : ℕ) (l : List A) → Every P l → Every P (rolled m n l)
   unfolding rolled

@@ -22,5 +22,6 @@ pub mod Slots
 pub mod Words
 pub mod Arguments
 pub mod Made
+pub mod Limits
 pub mod Ieee
 pub mod Factors

@@ -4,18 +4,18 @@ use mathlib.Core.Path.{_≡_, refl, ap}
 use Prim.Native.Nat.{ℕ, suc, _≤_}
 use mathlib.Core.Bool.{Bool, true, false, cond, not}
 use mathlib.Core.Option.{Option, none, some}
-use mathlib.Core.List.{List, [], _∷_, _++_, map}
+use mathlib.Core.List.{List, [], _∷_, _++_}
 use native.Mathlib.Omega.{arith}
-use borrow.Author.Tests.{ltb-false, le-ltb}
-use lib.ListN.{length, take, drop, length-map}
+use borrow.Author.Tests.{le-ltb}
+use lib.ListN.{length, take, drop}
 use lib.Seq.{take-append-seam}
 use lib.Dec.{ltb}
 use lib.Ieee.{Float}
 use Rattle.rules.specs.Ascii.{ascii}
-use Rattle.rules.specs.Lists.{anyOf, allOf, placeOf}
-use Rattle.rules.specs.Text.{Bytes, Steps, inDomain}
+use Rattle.rules.specs.Lists.{anyOf, allOf}
+use Rattle.rules.specs.Text.{Bytes, inDomain}
 use Rattle.rules.specs.Refusal.{Reply, answers, refuses, andThen, tested, lent, outcome, prepared}
-use Rattle.rules.specs.Split.{onlyModifiers, stepText, steps, splitSteps}
+use Rattle.rules.specs.Split.{steps, splitSteps}
 use Rattle.rules.specs.Parameters.{Parameter, parametersOf}
 use Rattle.rules.specs.Record.{made, firstBad, refusal18}
 use Rattle.rules.specs.Keys.{Name, kindOf, unknown, misspelt, tooLong}
@@ -30,6 +30,7 @@ use Rattle.rules.specs.declared.Direction.{Direction}
 use Rattle.rules.specs.declared.Verdict.the-variants as verdict-is
 use Rattle.rules.specs.declared.Ran.the-variants as ran-is
 use Rattle.laws.specs.Separators.{and-left, and-right}
+use Rattle.laws.specs.Refusals.{split-few}
 use Rattle.steplaws.specs.Tests.{never}
 use Rattle.steplaws.specs.Foretold.{check-refused}
 use Rattle.steplaws.specs.Runs.{run-refused}
@@ -94,16 +95,6 @@ steps-made place (t ∷ ts) l h =
     let e : f .0 ∷ g .0 ≡ l = cc (g .2) in
     rw (← e) (record { each = rw (step-made place t (f .0) (f .1)) (k .each); many = ap suc (k .many) })
 
--- splitting gives 64 steps at most
-split-few : (ss : Steps) (ts : List Bytes) → splitSteps ss ≡ answers ts → length ts ≤ 64
-unfolding splitSteps
-split-few ss ts h = go (anyOf onlyModifiers ss) (ltb 64 (length ss)) refl h
-  where
-    go : (a b : Bool) → ltb 64 (length ss) ≡ b → cond a (refuses 6 (placeOf onlyModifiers ss)) (cond b (refuses 8 0) (answers (map stepText ss))) ≡ answers ts → length ts ≤ 64
-    go true b e h = absurd (never (cc h))
-    go false true e h = absurd (never (cc h))
-    go false false e h = let same : map stepText ss ≡ ts = cc h in rw (← same, length-map ss stepText) (ltb-false 64 (length ss) e)
-
 none-bad : (k : ℕ) (l : List Step) → allOf made l ≡ true → firstBad k l ≡ none
 unfolding firstBad allOf
 none-bad k [] h = refl
@@ -115,7 +106,7 @@ unfolding prepare
 prepare-made t l h =
     let f = then-answers (splitSteps (steps t)) (prepareSteps 1) l h in
     let k = steps-made 1 (f .0) l (f .2) in
-    (k .each, omega (arith, k .many, split-few (steps t) (f .0) (f .1)))
+    (k .each, omega (arith, k .many, split-few (steps t) (f .0) (f .1) .1))
 
 -- Refusal 18 does not apply to them,
 pub never-18 : (t : Bytes) (l : List Step) → prepare t ≡ answers l → refusal18 l ≡ none

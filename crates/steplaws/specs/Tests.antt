@@ -18,6 +18,17 @@ unfoldable pub Every : {A : Type 0} → (A → Type 0) → List A → Type 0
 Every P [] = Unit {0}
 Every P (x ∷ l) = P x × Every P l
 
+module _ {A : Type 0} (P : A → Type 0) where
+  pub every-append : (l m : List A) → Every P l → Every P m → Every P (l ++ m)
+  unfolding Every
+  every-append [] m h k = k
+  every-append (x ∷ l) m h k = (h .0, every-append l m (h .1) k)
+
+  pub every-middle : (l : List A) (x : A) (m : List A) → Every P (l ++ (x ∷ m)) → P x
+  unfolding Every
+  every-middle [] x m h = h .0
+  every-middle (y ∷ l) x m h = every-middle l x m (h .1)
+
 -- a test that follows from another
 pub all-so : {A : Type 0} (p q : A → Bool) → ((x : A) → p x ≡ true → q x ≡ true) → (l : List A) → allOf p l ≡ true → allOf q l ≡ true
 unfolding allOf

@@ -1,14 +1,9 @@
--- What a pass leaves in the buffer that it is lent.
-use mathlib.Core.Path.{_≡_}
+-- What a pass leaves in the buffer that it is lent: `Wrote` of rules from its first byte on, or from a place on.
 use Prim.Native.Nat.{ℕ}
 use mathlib.Core.List.{_++_}
-use lib.ListN.{length, take, drop}
+use lib.ListN.{take}
 use Rattle.rules.specs.Text.{Bytes}
-
--- `dst`, which was `dst₀`, has `text` from its first byte on, and is as it was after that; `r` is the text's length
-pub record Wrote (text dst₀ : Bytes) (r : ℕ) (dst : Bytes) : Type 0 where
-  pub count : r ≡ length text
-  pub whole : dst ≡ text ++ drop r dst₀
+pub use Rattle.rules.specs.Refusal.{Wrote}
 
 -- `buf` has `text` in its first r bytes, and nothing is said of those after it
 abbrev pub Holds : Bytes → ℕ → Bytes → Type 0

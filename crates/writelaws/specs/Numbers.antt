@@ -4,7 +4,7 @@ use Prim.Native.Nat.{ℕ, zero, suc, _+_, _-_, _*_, _/_, _%_, _^_, _≤_, _<_}
 use mathlib.Core.Bool.{Bool, true, false, cond, not, _&&_}
 use mathlib.Core.Option.{none, some}
 use mathlib.Core.List.{List, [], _∷_, _++_, map}
-use native.Mathlib.Nat.{le-refl, div-lt-iff-lt-mul, div-add-mod', mod-lt, pow-suc}
+use native.Mathlib.Nat.{le-refl, div-add-mod', mod-lt}
 use native.Mathlib.Omega.{arith}
 use borrow.Author.Tests.{leb-true, le-leb, ltb-true, ltb-false, not-true}
 use lib.ListN.{length, length-append}
@@ -21,61 +21,56 @@ use Rattle.rules.specs.declared.Number.the-variants.{Is}
 use Rattle.laws.specs.Separators.{and-left, and-right}
 use Rattle.steplaws.specs.Tests.{below, below-at, all-so, all-append}
 use Rattle.rules.specs.Numerals.{digits}
-use Rattle.laws.specs.Numerals.{digits-one, digits-more}
+use Rattle.laws.specs.Numerals.{tenth-less, digits-one, digits-more, digits-length}
 use Rattle.rules.specs.Write.{spelling, listing}
 use Rattle.writelaws.specs.Calm.{known, firm, middle, follows, so, so-at, firm-so, firm-follows, endOf, quiet, calm, gap, joined-calm}
 use Rattle.writelaws.specs.Settled.{before-none, behind-none, lacks, cut-joined}
 
 -- ---- digits
 
--- a text of digits, so many at most, that spells the number
-pub record Spells (most n : ℕ) (t : Bytes) : Type 0 where
+-- a text of digits that spells the number
+pub record Spells (n : ℕ) (t : Bytes) : Type 0 where
   pub ones : allOf digit t ≡ true
   pub some-of : 1 ≤ length t
-  pub few : length t ≤ most
   pub spells : spelled 0 t ≡ n
 
 small-digit : (n : ℕ) → n < 10 → digit (48 + n) ≡ true
 unfolding digit
 small-digit n h = rw (le-leb 48 (48 + n) (omega arith), le-leb (48 + n) 57 (omega arith))
 
-one-digit : (most n : ℕ) → 1 ≤ most → n < 10 → Spells most n ((48 + n) ∷ [])
-one-digit most n m h =
-    record {
-      ones = unfold allOf in rw (small-digit n h);
-      some-of = le-refl 1;
-      few = m;
-      spells = unfold spelled in omega arith;
-    }
+one-digit : (n : ℕ) → n < 10 → Spells n ((48 + n) ∷ [])
+one-digit n h = record { ones = unfold allOf in rw (small-digit n h); some-of = le-refl 1; spells = unfold spelled in omega arith }
 
 spelled-append : (n : ℕ) (t u : Bytes) → spelled n (t ++ u) ≡ spelled (spelled n t) u
 unfolding spelled
 spelled-append n [] u = refl
 spelled-append n (b ∷ t) u = spelled-append (n * 10 + (b - 48)) t u
 
-next-digit : (most n : ℕ) (t : Bytes) → Spells most (n / 10) t → Spells (suc most) n (t ++ ((48 + n % 10) ∷ []))
-next-digit most n t h =
+next-digit : (n : ℕ) (t : Bytes) → Spells (n / 10) t → Spells n (t ++ ((48 + n % 10) ∷ []))
+next-digit n t h =
     record {
       ones = all-append digit t ((48 + n % 10) ∷ []) (h .ones) (unfold allOf in rw (small-digit (n % 10) (mod-lt n (lit≤ tt))));
       some-of = omega (arith, h .some-of, length-append t ((48 + n % 10) ∷ []));
-      few = omega (arith, h .few, length-append t ((48 + n % 10) ∷ []));
       spells = spelled-append 0 t ((48 + n % 10) ∷ []) ∙ (unfold spelled in rw (h .spells) (last (n / 10) (n % 10) n (div-add-mod' n 10)));
     }
   where
     last : (q r n : ℕ) → q * 10 + r ≡ n → q * 10 + (48 + r - 48) ≡ n
     last q r n e = omega arith
 
--- the law of digits: those of n spell n, and n < 10 ^ k has k at most
-pub digits-spell : (k n : ℕ) → n < 10 ^ suc k → Spells (suc k) n (digits n)
-digits-spell zero n h = rw (digits-one n h) (one-digit 1 n (le-refl 1) h)
-digits-spell (suc k) n h = go (ltb n 10) refl (digits-spell k (n / 10) (div-lt-iff-lt-mul {k = 10} {x = n} {y = 10 ^ suc k} (lit≤ tt) .1 (rw (pow-suc 10 (suc k)) at h)))
+-- the law of digits: those of n spell n
+pub digits-spell : (k n : ℕ) → n < 10 ^ suc k → Spells n (digits n)
+digits-spell zero n h = rw (digits-one n h) (one-digit n h)
+digits-spell (suc k) n h = go (ltb n 10) refl (digits-spell k (n / 10) (tenth-less n k h))
   where
-    go : (b : Bool) → ltb n 10 ≡ b → Spells (suc k) (n / 10) (digits (n / 10)) → Spells (suc (suc k)) n (digits n)
-    go true e r = let l = ltb-true n 10 e in rw (digits-one n l) (one-digit (suc (suc k)) n (omega arith) l)
-    go false e r = rw (digits-more n (ltb-false n 10 e)) (next-digit (suc k) n (digits (n / 10)) r)
+    go : (b : Bool) → ltb n 10 ≡ b → Spells (n / 10) (digits (n / 10)) → Spells n (digits n)
+    go true e r = let l = ltb-true n 10 e in rw (digits-one n l) (one-digit n l)
+    go false e r = rw (digits-more n (ltb-false n 10 e)) (next-digit n (digits (n / 10)) r)
 
-pub nine-spell : (n : ℕ) → n ≤ 999999999 → Spells 9 n (digits n)
+nine-spell : (n : ℕ) → n ≤ 999999999 → Spells n (digits n)
 nine-spell n h = digits-spell 8 n (omega arith)
+
+pub nine-few : (n : ℕ) → n ≤ 999999999 → length (digits n) ≤ 9
+nine-few n h = digits-length 8 n (omega arith)
 
 -- what is so of every digit is computed
 digit-so : (q : ℕ → Bool) → below 58 (λ b. so (digit b) (q b)) ≡ true → (b : ℕ) → digit b ≡ true → q b ≡ true
@@ -96,11 +91,13 @@ digits-none test h (b ∷ t) a =
 unfoldable pub whole : ℤ → Decimal
 whole x = record { minus = minus x; whole = size x; millionths = 0 }
 
-plain-digits : (m : Bool) (n : ℕ) (t : Bytes) → Spells 9 n t → plain m t ≡ Is (record { minus = m; whole = n; millionths = 0 })
+plain-digits : (m : Bool) (n : ℕ) → n ≤ 999999999 → plain m (digits n) ≡ Is (record { minus = m; whole = n; millionths = 0 })
 unfolding plain plainForm digitsTo spelled
-plain-digits m n t h =
-    let e = digits-none (is ".") (unfold below so digit in refl) t (h .ones) in
-    rw (before-none (is ".") t e, behind-none (is ".") t e, e, le-leb 1 (length t) (h .some-of), le-leb (length t) 9 (h .few), h .ones, h .spells)
+plain-digits m n h =
+    let t = digits n in
+    let s = nine-spell n h in
+    let e = digits-none (is ".") (unfold below so digit in refl) t (s .ones) in
+    rw (before-none (is ".") t e, behind-none (is ".") t e, e, le-leb 1 (length t) (s .some-of), le-leb (length t) 9 (nine-few n h), s .ones, s .spells)
 
 unsigned : (t : Bytes) → allOf digit t ≡ true → 1 ≤ length t → decimal t ≡ plain false t
 unfolding decimal allOf
@@ -115,11 +112,10 @@ unsigned (b ∷ t) a h =
 pub decimal-spelling : (x : ℤ) → nineDigits x ≡ true → decimal (spelling x) ≡ Is (whole x)
 unfolding spelling whole minus nineDigits
 decimal-spelling (pos n) h =
-    let s = nine-spell n (leb-true n 999999999 h) in
-    unsigned (digits n) (s .ones) (s .some-of) ∙ plain-digits false n (digits n) s
-decimal-spelling (negsuc n) h =
-    let s = nine-spell (suc n) (leb-true (suc n) 999999999 h) in
-    unfold ascii decimal in plain-digits true (suc n) (digits (suc n)) s
+    let l = leb-true n 999999999 h in
+    let s = nine-spell n l in
+    unsigned (digits n) (s .ones) (s .some-of) ∙ plain-digits false n l
+decimal-spelling (negsuc n) h = unfold ascii decimal in plain-digits true (suc n) (leb-true (suc n) 999999999 h)
 
 -- ---- lists of them
 

@@ -23,7 +23,7 @@ use Rattle.rules.specs.Write.{spelling, listing, keyValue, flagOf, letter, endi
 use Rattle.writelaws.specs.Calm.{known, firm, middle, follows, so, quiet, endOf, calm, gap, joined-calm, both}
 use Rattle.writelaws.specs.Settled.{lacks}
 use Rattle.writelaws.specs.Worded.{worded, worded-calm, worded-dark, worded-bare, lacks-append, lacks-joined}
-use Rattle.writelaws.specs.Numbers.{Firmly, firm-calm, firm-lacks, spelling-lacks, listing-calm, nine-spell}
+use Rattle.writelaws.specs.Numbers.{Firmly, firm-calm, firm-lacks, spelling-lacks, listing-calm, nine-few}
 use Rattle.writelaws.specs.Letters.{letters-so}
 
 -- ---- words
@@ -156,8 +156,8 @@ each-total most test f (x ∷ l) h =
 
 pub spelling-long : (x : ℤ) → nineDigits x ≡ true → length (spelling x) ≤ 10
 unfolding spelling minus nineDigits ascii
-spelling-long (pos n) h = omega (arith, nine-spell n (leb-true n 999999999 h) .few)
-spelling-long (negsuc n) h = omega (arith, nine-spell (suc n) (leb-true (suc n) 999999999 h) .few)
+spelling-long (pos n) h = omega (arith, nine-few n (leb-true n 999999999 h))
+spelling-long (negsuc n) h = omega (arith, nine-few (suc n) (leb-true (suc n) 999999999 h))
 
 -- one digit
 pub spelling-short : (x : ℤ) → leb (size x) 4 ≡ true → length (spelling x) ≤ 2
