@@ -1,8 +1,8 @@
 -- The tests over a list are mathlib's `any` and `all`. No other module can unfold those two, so they are known by what mathlib proves
 -- of them: that one of the list passes, and that each does.
 use mathlib.Core.Path.{_≡_, refl, sym, subst}
-use mathlib.Core.Logic.{_↔_, ∥∥₁-elim, ∥∥₁-map, Or·elim, Or·inl, Or·inr}
-use mathlib.Core.Bool.{Bool, true, false, _&&_, _||_, So, So-prop, false≢true, and-eq-true-iff, or-eq-true-iff}
+use mathlib.Core.Logic.{∥∥₁-elim, ∥∥₁-map, Or·elim, Or·inl, Or·inr}
+use mathlib.Core.Bool.{Bool, true, false, _||_, So, So-prop, false≢true, and-eq-true-iff, or-eq-true-iff}
 use mathlib.Core.List.{List, [], _∷_, List·Mem, not-mem-nil, mem-cons-self, mem-cons-of-mem, eq-or-mem-of-mem-cons, any, all, any-eq-true, all-eq-true}
 use Rattle.rules.specs.Lists.{anyOf, allOf}
 

@@ -1,14 +1,14 @@
 -- The digits of a number, one after the other: a number below ten is one digit (`digits-one`), and any other is the digits of its tenth
 -- part and then its last digit (`digits-more`). So a number below 10 ^ k has k digits at most.
 use mathlib.Core.Path.{_≡_, refl, sym, ap, _∙_, subst}
-use Prim.Native.Nat.{ℕ, zero, suc, _+_, _*_, _/_, _%_, _^_, _≤_, _<_}
+use Prim.Native.Nat.{ℕ, zero, suc, _+_, _/_, _%_, _^_, _≤_, _<_}
 use native.Mathlib.Nat.{le-trans, le-suc, lt-of-lt-of-le, div-lt-iff-lt-mul, div-div-eq-div-mul, zero-div, pow-suc, pow-succ', pow-le-pow-left, pow-le-pow-right}
 use native.Mathlib.Omega.{arith}
 use mathlib.Core.Bool.{Bool, true, false, cond}
-use mathlib.Core.List.{List, [], _∷_, _++_}
+use mathlib.Core.List.{[], _∷_, _++_}
 use borrow.Author.Tests.{ltb-true, ltb-false, lt-ltb, le-ltb, ne-eqb}
 use lib.ListN.{length, length-append}
-use lib.Dec.{ltb, eqb, lit≤}
+use lib.Dec.{ltb, lit≤}
 use lib.Ieee.{size as binaryDigits}
 use lib.Ieee.Digits.{size-lt}
 use Rattle.rules.specs.Ascii.{is}

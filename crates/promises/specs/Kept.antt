@@ -23,7 +23,7 @@ use Rattle.rules.specs.declared.Ran.{Ran}
 use Rattle.rules.specs.declared.Ran.the-variants.{Done}
 use Rattle.rules.specs.declared.Verdict.the-variants.{Passes}
 use Rattle.laws.specs.Entry.{answers-so}
-use Rattle.laws.specs.Once.{once, lends-once, check-once, run-once}
+use Rattle.laws.specs.Once.{once, lends-once, check-once, run-once, plain-check-once, plain-run-once}
 use Rattle.steplaws.specs.Made.{table-prepared, check-never-18, run-never-18}
 use Rattle.steplaws.specs.Ieee.{turn-mul}
 use Rattle.steplaws.specs.Foretold.{told-exactly, foretells}
@@ -153,6 +153,8 @@ exports = record {
   prepare-export = behind prepared plainPrepared prepare _ _;
   check-export = λ p. (check _ _, record { exactly = refl }, p .exactly, behind-pass _ _ _ p);
   run-export = behind-run;
+  check-export-once = plain-check-once;
+  run-export-once = plain-run-once;
 }
 
 pub kept : (w : World) → Promises w

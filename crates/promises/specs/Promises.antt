@@ -1,23 +1,23 @@
 -- What is signed: the release's three demands, each sentence above what is proved of it. Statements, and nothing else; specs/Kept.antt proves every one. They
 -- speak of what a caller holds, results and lent storage before and after, through the calls' contracts, in the words of crates/rules.
 use mathlib.Core.Path.{_≡_}
-use mathlib.Core.Logic.{_↔_, _⊎_}
+use mathlib.Core.Logic.{_↔_}
 use Prim.Native.Nat.{ℕ, _*_, _/_, _%_, _≤_, _<_}
-use mathlib.Core.Bool.{Bool, true, false, not}
+use mathlib.Core.Bool.{Bool, false, not}
 use mathlib.Core.Option.{none, some}
-use mathlib.Core.List.{List, [], _∷_, _++_}
+use mathlib.Core.List.{List, [], _∷_}
 use lib.Dec.{T}
-use lib.ListN.{length, take, drop}
+use lib.ListN.{length, take}
 use lib.Ieee.{Float, binary64, mul, fits, toBits}
 use borrow.Fn.World.{World}
 use denote.Ref.{now}
 use Rattle.rules.specs.Text.{Bytes}
-use Rattle.rules.specs.Refusal.{Reply, answers, Promised, Writes, Lends, Wrote, outcome, written, prepared, lent}
+use Rattle.rules.specs.Refusal.{Reply, answers, Promised, Writes, Lends, Wrote}
 use Rattle.rules.specs.Normal.{normalise}
 use Rattle.rules.specs.Split.{split}
 use Rattle.rules.specs.Parameters.{parameters}
 use Rattle.rules.specs.Translate.{translate}
-use Rattle.rules.specs.Reader.{step, next}
+use Rattle.rules.specs.Reader.{next}
 use Rattle.rules.specs.Prepare.{prepare, Prepares}
 use Rattle.rules.specs.Record.{refusal18, listed}
 use Rattle.rules.specs.Act.{running}
@@ -36,13 +36,11 @@ use Rattle.rules.specs.declared.Written.the-variants as written-is
 use Rattle.rules.specs.declared.Prepared.{Prepared}
 use Rattle.rules.specs.declared.Prepared.the-variants as prepared-is
 use Rattle.rules.specs.declared.Found.{Found}
-use Rattle.rules.specs.declared.Found.the-variants.{End}
 use Rattle.rules.specs.declared.Foretold.{Foretold}
 use Rattle.rules.specs.declared.Verdict.the-variants.{Passes, TooFew, TooMany, Refused}
 use Rattle.rules.specs.declared.Ran.{Ran}
 use Rattle.rules.specs.declared.Ran.the-variants as ran-is
 use Rattle.rules.specs.declared.Answer.{Answer}
-use Rattle.rules.specs.declared.Part.{Part}
 use Rattle.rules.specs.declared.Checked.{Checked}
 use Rattle.rules.specs.declared.Done as plain-run
 use Rattle.rules.specs.Contract.{Keeps, KeepsIf}
@@ -207,6 +205,10 @@ pub record Exports : Type 0 where
       → (f : Foretold) × Checks (directionOf inverse) t f × (r ≡ plainCheck f) × (r .said .number ≡ 0 → f .verdict ≡ Passes)
   pub run-export : {inverse : ℕ} {t : List Step} {xs store : List Float} {r : plain-run.Done} {xs′ store′ : List Float} → PlainRuns inverse t xs store r xs′ store′
       → (w : Ran) × Runs (directionOf inverse) t xs store w xs′ store′ × (r ≡ plainRan w) × (r .number ≡ 0 → w ≡ ran-is.Done (r .count) (r .left))
+  -- and no second outcome meets these contracts either (of the text calls and of preparing: `text-once`)
+  pub check-export-once : {inverse : ℕ} {t : List Step} {r s : Checked} → PlainChecks inverse t r → PlainChecks inverse t s → r ≡ s
+  pub run-export-once : {inverse : ℕ} {t : List Step} {xs store : List Float} {r s : plain-run.Done} {xs′ xs″ store′ store″ : List Float}
+      → PlainRuns inverse t xs store r xs′ store′ → PlainRuns inverse t xs store s xs″ store″ → (r ≡ s) × (xs′ ≡ xs″) × (store′ ≡ store″)
 
 -- ==== All of it.
 

@@ -98,7 +98,7 @@ sixtyFour = flatMap (λ (i : ℕ). ascii "stack push=1,2,3,4,1,2,3,4|") (replica
 unfoldable pub deep : Bytes → Foretold
 deep text = check Forward (records (tested prepare text))
 
--- the line "Also" below the table
+-- the line "Also" below the table, and two of the "Slips to keep out" (the third, rotating `proj=`, is P8)
 unfoldable pub also : List Example
 also =
     says "4,096 bytes pass" (tested translate (replicate 4096 97)) (answers (replicate 4096 97))
@@ -118,7 +118,8 @@ also =
     ∷ says "and 64 is the deepest there" (deep sixtyFour .deepest) 64
     ∷ says "65 does not" (deep (sixtyFour ++ ascii "push v_1") .verdict) (TooMany 9)
     ∷ says "adapt" (ran Forward "adapt from=nwuf" oneToFour [] .list) (floats (pos 2 ∷ minus1 ∷ pos 3 ∷ pos 4 ∷ []))
-    ∷ says "a slip" (on prepare "push | :inv") (refuses 6 2)
+    ∷ says "a slip: modifiers" (on prepare "push | :inv") (refuses 6 2)
+    ∷ says "a slip: undoing flip=1,1" (ran Inverse "stack flip=1,1 | pop v_1 v_3" oneToFour (replicate 2 (ofInt binary64 (pos 0))) .store) (floats (pos 3 ∷ pos 1 ∷ []))
     ∷ []
 
 -- ---- the program `steps`: what is read, and the lines that are printed, "each line ended by a newline"

@@ -7,10 +7,10 @@ use mathlib.Core.Bool.{Bool, true, false, not, cond}
 use native.Mathlib.Omega.{arith}
 use borrow.Author.Tests.{le-leb, lt-leb}
 use lib.Dec.{T, leb}
-use lib.Ieee.{Float, nan, inf, fin, binary64, neg, fits, isNan, ofBits, toBits}
+use lib.Ieee.{Float, nan, inf, fin, binary64, neg, fits, isNan, toBits}
 use lib.Ieee.Bits.{ofBits-toBits, toBits-lt, toBits-ofBits, nanBits-is}
 use Rattle.rules.specs.Coordinate.{turn}
-use Rattle.rules.specs.Demands.{Bits, signTurned, Alike, bit-for-bit, nan-for-nan}
+use Rattle.rules.specs.Demands.{Bits, Alike, bit-for-bit, nan-for-nan}
 use Rattle.steplaws.specs.Tests.{never}
 
 -- every f64 has bits
