@@ -125,7 +125,7 @@ also =
 -- ---- the program `steps`: what is read, and the lines that are printed, "each line ended by a newline"
 
 unfoldable pub prints : String → List String → Example
-prints text lines = says "steps" (shown (ascii text)) (flatMap (λ (l : String). line (ascii l)) lines)
+prints text lines = says text (shown (ascii text)) (flatMap (λ (l : String). line (ascii l)) lines)
 
 unfoldable pub printed : List Example
 printed =
@@ -176,7 +176,7 @@ printed =
 -- ---- the call `write`: a text, and the one that the records it prepares to are written as
 
 unfoldable pub rewrites : String → String → Example
-rewrites text again = says "write" (write (records (on prepare text))) (answers (ascii again))
+rewrites text again = says text (write (records (on prepare text))) (answers (ascii again))
 
 unfoldable pub rewritten : List Example
 rewritten =
