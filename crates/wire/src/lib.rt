@@ -2,12 +2,15 @@
 // are read and written. Nothing here reads or writes a file. Each function is proved safe and ending; a contract
 // says beyond that what a caller needs: a place within the line, a number within its bound, how many bytes were
 // written.
+mod lent;
 mod line;
 mod number;
 mod read;
-mod store;
 mod write;
 
+pub use lent::fill;
+pub use lent::is_all;
+pub use lent::to_front;
 pub use line::field;
 pub use line::fields;
 pub use line::find;
@@ -23,9 +26,6 @@ pub use read::Text;
 pub use read::read_natural;
 pub use read::read_text;
 pub use read::read_text_of;
-pub use store::fill;
-pub use store::is_all;
-pub use store::to_front;
 pub use write::put;
 pub use write::put_decimal;
 pub use write::put_hex;

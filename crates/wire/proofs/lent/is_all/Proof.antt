@@ -3,8 +3,8 @@
 use Prim.Native.Nat.{_≤_, _-_}
 use lib.ListN.{length}
 use borrow.Author.Needs.{needs}
-use Rattle.wire.proofs.store.is_all.Statement.{statement}
-use Rattle.wire.proofs.store.is_all.Tie as tie
+use Rattle.wire.proofs.lent.is_all.Statement.{statement}
+use Rattle.wire.proofs.lent.is_all.Tie as tie
 
 abbrev Inv-loop : tie.InvT-loop
 Inv-loop s b other₀ i₀ other i = i ≤ length s

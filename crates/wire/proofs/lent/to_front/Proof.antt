@@ -4,8 +4,8 @@ use Prim.Native.Nat.{_≤_, _-_}
 use lib.ListN.{length}
 use mathlib.Core.Path.{_≡_}
 use borrow.Author.Needs.{needs}
-use Rattle.wire.proofs.store.to_front.Statement.{statement}
-use Rattle.wire.proofs.store.to_front.Tie as tie
+use Rattle.wire.proofs.lent.to_front.Statement.{statement}
+use Rattle.wire.proofs.lent.to_front.Tie as tie
 
 abbrev Inv-loop : tie.InvT-loop
 Inv-loop s₀ from end n i₀ s i = (i ≤ n) × (length s ≡ length s₀)

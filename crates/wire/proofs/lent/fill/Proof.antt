@@ -4,8 +4,8 @@ use Prim.Native.Nat.{_≤_, _-_}
 use lib.ListN.{length}
 use mathlib.Core.Path.{_≡_}
 use borrow.Author.Needs.{needs}
-use Rattle.wire.proofs.store.fill.Statement.{statement}
-use Rattle.wire.proofs.store.fill.Tie as tie
+use Rattle.wire.proofs.lent.fill.Statement.{statement}
+use Rattle.wire.proofs.lent.fill.Tie as tie
 
 abbrev Inv-loop : tie.InvT-loop
 Inv-loop s₀ b i₀ s i = (i ≤ length s₀) × (length s ≡ length s₀)
