@@ -27,7 +27,7 @@ pub record FourNamed (l : List Place) : Type 0 where
   pub third : Named (nth l 2)
   pub fourth : Named (nth l 3)
 
-place-named : (i : ℕ) (l : List Place) → FourNamed l → Named (place i l)
+pub place-named : (i : ℕ) (l : List Place) → FourNamed l → Named (place i l)
 unfolding place
 place-named i l h = go (eqb i 1) (eqb i 2) (eqb i 3)
   where

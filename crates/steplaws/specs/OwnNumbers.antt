@@ -2,26 +2,24 @@
 -- check names for j, its sign kept or turned. A list has its tuples one after the other, so number j of tuple i is at i * 4 + (j - 1).
 use mathlib.Core.Path.{_≡_, refl, sym, ap, _∙_}
 use Prim.Native.Nat.{ℕ, zero, suc, _+_, _-_, _*_, _/_, _%_, _≤_, _<_}
-use mathlib.Core.Bool.{Bool, true, false, not, cond}
+use mathlib.Core.Bool.{true, false, not}
 use mathlib.Core.List.{List, [], _∷_, map}
 use native.Mathlib.Omega.{arith}
-use lib.Dec.{eqb}
 use lib.ListN.{length, getD, length-map}
 use lib.Ieee.{Float, nan}
 use Rattle.rules.specs.Coordinate.{number, turn}
 use Rattle.rules.specs.Act.{running}
 use Rattle.rules.specs.Tuples.{tuples, numbers}
 use Rattle.rules.specs.Run.{runs}
-use Rattle.rules.specs.Check.{nth, place, anyAdapt, check}
+use Rattle.rules.specs.Check.{place, anyAdapt, check}
 use Rattle.rules.specs.Demands.{numberAt}
 use Rattle.rules.specs.declared.Coord.{Coord}
-use Rattle.rules.specs.declared.Place.{Place}
 use Rattle.rules.specs.declared.Step.{Step}
 use Rattle.rules.specs.declared.Direction.{Direction}
 use Rattle.rules.specs.declared.Ran.the-variants.{Done}
 use Rattle.rules.specs.declared.Verdict.the-variants.{Passes}
-use Rattle.steplaws.specs.Places.{seen, shown}
-use Rattle.steplaws.specs.Named.{Named, FourNamed}
+use Rattle.steplaws.specs.Places.{seen, shown, number-shown}
+use Rattle.steplaws.specs.Named.{Named, place-named}
 use Rattle.steplaws.specs.Lengths.{tuples-length, numbers-tuples}
 use Rattle.steplaws.specs.Foretold.{told-exactly, foretells}
 use Rattle.steplaws.specs.Runs.{answered, fourfold, as-foretold}
@@ -73,29 +71,6 @@ module _ (xs : List Float) (whole : length xs % 4 ≡ 0) (i : ℕ) (h : i < leng
   mapped-at g (suc s) a b =
       rw (less-one s) (numbers-at (map g (tuples xs)) i s (rw (length-map (tuples xs) g) below) b ∙ ap (number (suc s)) (map-at g (tuples xs) i below))
 
--- place j of four that are named is named, and the number that it shows is the tuple's own at that place
-place-named : (j : ℕ) (l : List Place) → FourNamed l → Named (place j l)
-unfolding place
-place-named j l h = go (eqb j 1) (eqb j 2) (eqb j 3)
-  where
-    go : (a b c : Bool) → Named (cond a (nth l 0) (cond b (nth l 1) (cond c (nth l 2) (nth l 3))))
-    go true b c = h .first
-    go false true c = h .second
-    go false false true = h .third
-    go false false false = h .fourth
-
-number-shown : (t : Coord) (j : ℕ) (l : List Place) → number j (shown t l) ≡ turn (place j l .minus) (number (place j l .axis) t)
-unfolding number shown place seen
-number-shown t j l = go (eqb j 1) (eqb j 2) (eqb j 3)
-  where
-    go : (a b c : Bool)
-        → cond a (seen t (nth l 0)) (cond b (seen t (nth l 1)) (cond c (seen t (nth l 2)) (seen t (nth l 3))))
-        ≡ seen t (cond a (nth l 0) (cond b (nth l 1) (cond c (nth l 2) (nth l 3))))
-    go true b c = refl
-    go false true c = refl
-    go false false true = refl
-    go false false false = refl
-
 -- ---- of a check that passes
 
 module _ (d : Direction) (t : List Step) (passes : check d t .verdict ≡ Passes) (no-adapt : anyAdapt (running d t) ≡ false) where
@@ -108,6 +83,7 @@ module _ (d : Direction) (t : List Step) (passes : check d t .verdict ≡ Passes
 
   pub own-number : (xs store : List Float) (c n : ℕ) → runs d t xs store .answer ≡ Done c n → (i : ℕ) → i < length xs / 4 → (j : ℕ) → 1 ≤ j → j ≤ 4
       → numberAt (runs d t xs store .list) i j ≡ turn (place j (check d t .places) .minus) (numberAt xs i (place j (check d t .places) .axis))
+  unfolding seen
   own-number xs store c n done i h j a b =
       let w = fourfold xs (answered d t xs store c n done .fourfold) in
       let ps = check d t .places in

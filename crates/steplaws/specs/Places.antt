@@ -63,7 +63,7 @@ pick4 f false false true x y z w = refl
 pick4 f false false false x y z w = refl
 
 module _ (t : Coord) where
-  number-shown : (i : ℕ) (l : List Place) → number i (shown t l) ≡ seen t (place i l)
+  pub number-shown : (i : ℕ) (l : List Place) → number i (shown t l) ≡ seen t (place i l)
   unfolding number shown place
   number-shown i l = pick4 (seen t) (eqb i 1) (eqb i 2) (eqb i 3) (nth l 0) (nth l 1) (nth l 2) (nth l 3)
 
