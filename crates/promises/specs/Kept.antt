@@ -8,13 +8,10 @@ use lib.Dec.{T}
 use lib.ListN.{length}
 use lib.Ieee.{Float, binary64, neg, mul, fits}
 use borrow.Fn.World.{World}
-use Rattle.rules.specs.Refusal.{written, prepared}
 use Rattle.rules.specs.Coordinate.{turn, one}
-use Rattle.rules.specs.Prepare.{prepare}
 use Rattle.rules.specs.Run.{Outcome, runs, Runs}
 use Rattle.rules.specs.Act.{running}
 use Rattle.rules.specs.Check.{anyAdapt, check, Checks}
-use Rattle.rules.specs.Plain.{plainWritten, plainPrepared}
 use Rattle.rules.specs.ExamplesHold.{examples-hold}
 use Rattle.rules.specs.declared.Step.{Step}
 use Rattle.rules.specs.declared.Direction.{Direction}
@@ -32,7 +29,7 @@ use Rattle.steplaws.specs.Runs.{answered, accepts, as-foretold, as-many}
 use Rattle.steplaws.specs.OwnNumbers.{is-named, own-number}
 use Rattle.steplaws.specs.Bits.{has-bits, alike}
 use Rattle.steplaws.specs.Ending.{normalise-ends, split-ends, parameters-ends, translate-ends, write-ends, prepare-ends, check-ends, run-ends, next-ends}
-use Rattle.steplaws.specs.Exported.{behind, behind-pass, behind-run}
+use Rattle.steplaws.specs.Exported.{behind-normalise, behind-split, behind-parameters, behind-translate, behind-next, behind-prepare, behind-pass, behind-run}
 use Rattle.sakondreno.proofs as code
 use Rattle.reader.proofs as reading
 use Rattle.shown.proofs as program
@@ -149,10 +146,15 @@ demand3 = record {
 
 pub exports : Exports
 exports = record {
-  text-exports = behind written plainWritten _ _ _;
-  prepare-export = behind prepared plainPrepared prepare _ _;
+  normalise-export = behind-normalise;
+  split-export = behind-split;
+  parameters-export = behind-parameters;
+  translate-export = behind-translate;
+  next-export = behind-next;
+  prepare-export = behind-prepare;
   check-export = λ p. (check _ _, record { exactly = refl }, p .exactly, behind-pass _ _ _ p);
   run-export = behind-run;
+  next-export-once = λ text at p q. p ∙ sym q;
   check-export-once = plain-check-once;
   run-export-once = plain-run-once;
 }

@@ -27,7 +27,7 @@ use Rattle.rules.specs.Tuples.{numbers, acted}
 use Rattle.rules.specs.Run.{start, count, Runs}
 use Rattle.rules.specs.Check.{place, anyAdapt, Checks}
 use Rattle.rules.specs.Write.{write}
-use Rattle.rules.specs.Plain.{plainWritten, plainPrepared, replied, recordCount, plainFound, directionOf, plainCheck, PlainChecks, plainRan, PlainRuns}
+use Rattle.rules.specs.Plain.{plainPrepared, replied, recordCount, plainFound, directionOf, plainCheck, PlainChecks, plainRan, PlainRuns}
 use Rattle.rules.specs.Examples.{examples, also, printed, rewritten, demanded, AllHold}
 use Rattle.rules.specs.declared.Step.{Step}
 use Rattle.rules.specs.declared.Direction.{Direction}
@@ -36,6 +36,8 @@ use Rattle.rules.specs.declared.Written.the-variants as written-is
 use Rattle.rules.specs.declared.Prepared.{Prepared}
 use Rattle.rules.specs.declared.Prepared.the-variants as prepared-is
 use Rattle.rules.specs.declared.Found.{Found}
+use Rattle.rules.specs.declared.Found.the-variants.{End}
+use Rattle.rules.specs.declared.Part.{Part}
 use Rattle.rules.specs.declared.Foretold.{Foretold}
 use Rattle.rules.specs.declared.Verdict.the-variants.{Passes, TooFew, TooMany, Refused}
 use Rattle.rules.specs.declared.Ran.{Ran}
@@ -48,7 +50,7 @@ use Rattle.rules.specs.Shown.{shown}
 use Rattle.sakondreno.proofs as calls
 use Rattle.reader.proofs as reading
 use Rattle.shown.proofs as program
-use Rattle.rules.specs.Demands.{Ends, RunEnds, CheckEnds, NextEnds, EachWell, Few, Many, FirstAtFault, numberAt, Bits, Alike}
+use Rattle.rules.specs.Demands.{Ends, RunEnds, CheckEnds, NextEnds, ExportsText, EachWell, Few, Many, FirstAtFault, numberAt, Bits, Alike}
 
 -- ==== The public calls. "Every entry point ends on every text, step table and list .. No caller is asked to have looked first": each call's own code,
 -- whatever it is given, returns; its contract asks nothing; and what it says is one equation with the written rule, of the result and of all that was lent.
@@ -194,18 +196,23 @@ pub record Demand3 : Type 0 where
   pub has-bits : (x : Float) → T (fits binary64 x) → Bits (toBits binary64 x) x
 
 -- ==== From C and from Rust: behind each answer of an export there is one of the call that it exports, with the same storage afterwards, so all of the above
--- holds there too. Number 0 is an answer, a pass, or a run that is done.
+-- holds there too. Number 0 is an answer, a pass, or a run that is done; and a reader that finds nothing is at the end.
 
 pub record Exports : Type 0 where
-  pub text-exports : {own : Bytes → Reply Bytes} {text out : Bytes} {r : Answer} {out′ : Bytes} → Promised replied own text out r out′
-      → (w : Written) × Writes own text out w out′ × (r ≡ plainWritten w)
+  pub normalise-export : ExportsText normalise
+  pub split-export : ExportsText split
+  pub parameters-export : ExportsText parameters
+  pub translate-export : ExportsText translate
+  pub next-export : (text : Bytes) (at : ℕ) (r : Part) → r ≡ plainFound (next text at)
+      → (f : Found) × (f ≡ next text at) × (r ≡ plainFound f) × (r .found ≡ 0 → f ≡ End)
   pub prepare-export : {text : Bytes} {table : List Step} {r : Answer} {table′ : List Step} → Promised recordCount prepare text table r table′
-      → (w : Prepared) × Prepares text table w table′ × (r ≡ plainPrepared w)
+      → (w : Prepared) × Prepares text table w table′ × (r ≡ plainPrepared w) × (r .number ≡ 0 → w ≡ prepared-is.Steps (r .length))
   pub check-export : {inverse : ℕ} {t : List Step} {r : Checked} → PlainChecks inverse t r
       → (f : Foretold) × Checks (directionOf inverse) t f × (r ≡ plainCheck f) × (r .said .number ≡ 0 → f .verdict ≡ Passes)
   pub run-export : {inverse : ℕ} {t : List Step} {xs store : List Float} {r : plain-run.Done} {xs′ store′ : List Float} → PlainRuns inverse t xs store r xs′ store′
       → (w : Ran) × Runs (directionOf inverse) t xs store w xs′ store′ × (r ≡ plainRan w) × (r .number ≡ 0 → w ≡ ran-is.Done (r .count) (r .left))
   -- and no second outcome meets these contracts either (of the text calls and of preparing: `text-once`)
+  pub next-export-once : {r s : Part} (text : Bytes) (at : ℕ) → r ≡ plainFound (next text at) → s ≡ plainFound (next text at) → r ≡ s
   pub check-export-once : {inverse : ℕ} {t : List Step} {r s : Checked} → PlainChecks inverse t r → PlainChecks inverse t s → r ≡ s
   pub run-export-once : {inverse : ℕ} {t : List Step} {xs store : List Float} {r s : plain-run.Done} {xs′ xs″ store′ store″ : List Float}
       → PlainRuns inverse t xs store r xs′ store′ → PlainRuns inverse t xs store s xs″ store″ → (r ≡ s) × (xs′ ≡ xs″) × (store′ ≡ store″)

@@ -12,7 +12,12 @@ use Rattle.rules.specs.Columns.{takes, after}
 use Rattle.rules.specs.Tuples.{acted}
 use Rattle.rules.specs.Run.{start}
 use Rattle.rules.specs.Text.{Bytes}
+use Rattle.rules.specs.Refusal.{Reply, Promised, Writes}
+use Rattle.rules.specs.Plain.{plainWritten, replied}
 use Rattle.rules.specs.Reader.{step}
+use Rattle.rules.specs.declared.Written.{Written}
+use Rattle.rules.specs.declared.Written.the-variants.{Wrote}
+use Rattle.rules.specs.declared.Answer.{Answer}
 use Rattle.rules.specs.declared.Found.{Found}
 use Rattle.rules.specs.declared.Found.the-variants.{End}
 use Rattle.rules.specs.declared.Foretold.{Foretold}
@@ -52,6 +57,12 @@ pub data CheckEnds (f : Foretold) : Type 0 where
 pub data NextEnds (text : Bytes) (at : ℕ) (r : Found) : Type 0 where
   ends : r ≡ End → NextEnds text at r
   finds : (from to : ℕ) → r ≡ step from to → at ≤ from → from < to → to ≤ length text → NextEnds text at r
+
+-- A text call for C and Rust: behind its answer there is one of the call that it exports, with the same buffer afterwards, and number 0
+-- is an answer, of that length.
+abbrev pub ExportsText : (Bytes → Reply Bytes) → Type 0
+ExportsText own = (text out : Bytes) (r : Answer) (out′ : Bytes) → Promised replied own text out r out′
+    → (w : Written) × Writes own text out w out′ × (r ≡ plainWritten w) × (r .number ≡ 0 → w ≡ Wrote (r .length))
 
 -- ---- demand 3: the steps of a run, in running order
 
