@@ -1,12 +1,13 @@
 // Which request a line is, and its answer. A request on a text that is new is a variant of `TextCall` and its word in
-// `asked_text`, one on a table a variant of `TableCall` and its word in `asked_table`.
+// `asked_text`, one on a table a variant of `TableCall` and its word in `asked`.
 ghost use Prim.Native.Nat.{_≤_};
+use crate::tables::TableCall;
+use crate::tables::answer_table;
 use crate::texts::TextCall;
 use crate::texts::answer_steps;
 use crate::texts::answer_text;
-use saying::say_what;
-use tables::TableCall;
-use tables::answer_table;
+use answers_say::say_what;
+use text::is_same;
 
 enum Request {
     Text(TextCall),
@@ -17,16 +18,16 @@ enum Request {
 
 // Which request a line's first field names.
 fn asked(word: &[u8]) -> Request {
-    if wire::same(word, b"prepare") {
+    if is_same(word, b"prepare") {
         return Request::Table(TableCall::Prepare);
     }
-    if wire::same(word, b"check") {
+    if is_same(word, b"check") {
         return Request::Table(TableCall::Check);
     }
-    if wire::same(word, b"run") {
+    if is_same(word, b"run") {
         return Request::Table(TableCall::Run);
     }
-    if wire::same(word, b"write") {
+    if is_same(word, b"write") {
         return Request::Table(TableCall::Write);
     }
     asked_text(word)
@@ -34,19 +35,19 @@ fn asked(word: &[u8]) -> Request {
 
 // Which of those on a text.
 fn asked_text(word: &[u8]) -> Request {
-    if wire::same(word, b"normalise") {
+    if is_same(word, b"normalise") {
         return Request::Text(TextCall::Normalise);
     }
-    if wire::same(word, b"split") {
+    if is_same(word, b"split") {
         return Request::Text(TextCall::Split);
     }
-    if wire::same(word, b"parameters") {
+    if is_same(word, b"parameters") {
         return Request::Text(TextCall::Parameters);
     }
-    if wire::same(word, b"translate") {
+    if is_same(word, b"translate") {
         return Request::Text(TextCall::Translate);
     }
-    if wire::same(word, b"steps") {
+    if is_same(word, b"steps") {
         return Request::Steps;
     }
     Request::Nothing
@@ -65,7 +66,7 @@ pub fn answer(
     requires { ⌜ at ≤ 65536 ⌝ }
     ensures { λ r. ⌜ r ≤ 65536 ⌝ }
 {
-    match asked(wire::field(line, 0)) {
+    match asked(answers_wire::field(line, 0)) {
         Request::Text(which) => answer_text(which, line, text, lent, out, at),
         Request::Table(which) => answer_table(which, line, text, lent, list, store, out, at),
         Request::Steps => answer_steps(line, text, out, at),

@@ -2,14 +2,18 @@
 // for each. It holds no rule of its own: it decodes, lends storage, calls the library and prints. A line of over
 // 131,072 bytes is answered as no request.
 mod ask;
+mod checks;
+mod runs;
+mod tables;
 mod texts;
+mod writes;
 
+use answers_say::UNTOUCHED;
+use answers_say::flush;
+use libc::STDIN_FILENO;
 ghost use Prim.Native.Nat.{_≤_, _<_};
 ghost use mathlib.Core.Path.{_≡_};
 ghost use lib.ListN.{length};
-use libc::STDIN_FILENO;
-use saying::flush;
-use telling::UNTOUCHED;
 
 // A byte that no request begins with: it stands for the front of a line that is too long.
 const NO_REQUEST: u8 = b'?';
@@ -44,7 +48,7 @@ fn keep(input: &mut [u8], start: usize, end: usize) -> usize
     requires { ⌜ 1 < length (now input) ⌝ }
     ensures { λ r. ⌜ r < length (now (input .entry)) ⌝ }
 {
-    let n = wire::to_front(input, start, end);
+    let n = answers_wire::to_front(input, start, end);
     if n < input.len() {
         return n;
     }
@@ -68,11 +72,11 @@ fn answer_lines(
 {
     let mut start = 0;
     let mut at = 0;
-    let mut newline = wire::find(input, seen, b'\n');
+    let mut newline = answers_wire::find(input, seen, b'\n');
     while newline < input.len() {
         at = ask::answer(&input[start..newline], text, lent, list, store, out, at);
         start = newline + 1;
-        newline = wire::find(input, start, b'\n');
+        newline = answers_wire::find(input, start, b'\n');
     }
     flush(out, at);
     start

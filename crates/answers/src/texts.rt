@@ -3,18 +3,18 @@
 ghost use mathlib.Core.Path.{_≡_};
 ghost use Prim.Native.Nat.{_≤_};
 ghost use lib.ListN.{length};
+use answers_say::MOST_ROOM;
+use answers_say::say_byte;
+use answers_say::say_lent;
+use answers_say::say_ok;
+use answers_say::say_what;
+use answers_wire::Natural;
+use answers_wire::Text;
+use normalise::normalise;
 use parameters::parameters;
 use proj::translate;
 use rules::Written;
-use saying::say_byte;
-use saying::say_what;
 use split::split;
-use telling::MOST_ROOM;
-use telling::say_lent;
-use telling::say_ok;
-use token::normalise;
-use wire::Natural;
-use wire::Text;
 
 // The calls that take a text and write a text into lent storage.
 pub enum TextCall {
@@ -24,7 +24,7 @@ pub enum TextCall {
     Translate,
 }
 
-// The call itself.
+// Makes the call that was asked for.
 fn call(which: TextCall, text: &[u8], lent: &mut [u8]) -> Written {
     match which {
         TextCall::Normalise => normalise(text, lent),
@@ -54,10 +54,11 @@ pub fn answer_text(
     requires { ⌜ at ≤ 65536 ⌝ }
     ensures { λ r. ⌜ r ≤ 65536 ⌝ }
 {
-    let Natural::Is(room) = wire::read_natural(wire::field(line, 1), MOST_ROOM) else {
+    let Natural::Is(room) = answers_wire::read_natural(answers_wire::field(line, 1), MOST_ROOM)
+    else {
         return say_what(out, at);
     };
-    let Text::Is(n) = wire::read_text_of(line, 3, 2, text) else {
+    let Text::Is(n) = answers_wire::read_text_of(line, 3, 2, text) else {
         return say_what(out, at);
     };
     say_lent(lend(which, text, n, lent, room), room, lent, out, at)
@@ -75,7 +76,7 @@ pub fn answer_steps(line: &[u8], text: &mut [u8; 65536], out: &mut [u8; 65536], 
     requires { ⌜ at ≤ 65536 ⌝ }
     ensures { λ r. ⌜ r ≤ 65536 ⌝ }
 {
-    let Text::Is(n) = wire::read_text_of(line, 2, 1, text) else {
+    let Text::Is(n) = answers_wire::read_text_of(line, 2, 1, text) else {
         return say_what(out, at);
     };
     say_shown(text, n, out, at)
@@ -90,7 +91,7 @@ fn say_shown(text: &[u8], n: usize, out: &mut [u8; 65536], at: usize) -> usize
     let mut a = io::large_buffer();
     let mut b = io::large_buffer();
     let mut room = print_room();
-    let long = shown::show(&text[0..n], &mut a, &mut b, &mut room);
+    let long = show::show(&text[0..n], &mut a, &mut b, &mut room);
     let told = say_ok(&room, long, out, at);
     say_byte(b'\n', out, told)
 }

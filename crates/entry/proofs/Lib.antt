@@ -1,1 +1,2 @@
-pub mod Way
+-- What the walks cite of the type of a direction.
+pub mod DirectionType

@@ -1,5 +1,4 @@
 -- What the calls over a lent row of step records say of the calls by value.
 pub mod Plans
-pub mod Few
-pub mod Planning
-pub mod Standing
+pub mod PlanOfTable
+pub mod TableOfRow

@@ -3,8 +3,8 @@ use mathlib.Core.Path.{_≡_}
 use Prim.Native.Nat.{ℕ}
 use mathlib.Core.List.{List}
 use lib.ListN.{length}
-use Rattle.rules.specs.Text.{Bytes}
-use Rattle.rules.specs.Prepare.{Prepares}
+use Rattle.rules.specs.Text.Bytes.{Bytes}
+use Rattle.rules.specs.Pipeline.Prepare.{Prepares}
 use Rattle.rules.specs.declared.Prepared.{Prepared}
 use Rattle.rules.specs.declared.Prepared.the-variants.{Steps, Refused}
 use Rattle.rules.specs.declared.Step.{Step}

@@ -6,9 +6,9 @@ use rules::Prepared;
 use rules::Ran;
 use rules::Step;
 ghost use mathlib.Core.Path.{_≡_};
-ghost use Rattle.rules.specs.Prepare.{Prepares};
-ghost use Rattle.rules.specs.Check.{Checks};
-ghost use Rattle.rules.specs.Run.{Runs};
+ghost use Rattle.rules.specs.Pipeline.Prepare.{Prepares};
+ghost use Rattle.rules.specs.Pipeline.Check.{Checks};
+ghost use Rattle.rules.specs.Pipeline.Run.{Runs};
 ghost use Rattle.entry.specs.Plans.{countOf, Plans};
 
 // What preparing is to answer, and what it is to write over the lent row: the first n of the records.

@@ -4,9 +4,10 @@ use Prim.Native.Nat.{ℕ, _+_, max}
 use mathlib.Core.Bool.{Bool, false, cond, not, _||_}
 use mathlib.Core.List.{List}
 use lib.ListN.{set, replicate}
-use Rattle.rules.specs.Act.{Act}
-use Rattle.rules.specs.Check.{adapting, noPlace, four, plus}
-use Rattle.traces.specs.Traces.{Traced, traced, depth, Moved}
+use Rattle.rules.specs.Operators.Acts.{Act}
+use Rattle.rules.specs.Pipeline.Check.{adapting, noPlace, four, plus}
+use Rattle.columns.specs.declared.traced.Traced.{Traced}
+use Rattle.columns.specs.Traces.{depth, Moved}
 use Rattle.rules.specs.declared.Foretold.{Foretold}
 use Rattle.rules.specs.declared.Verdict.the-variants.{Passes}
 
@@ -19,14 +20,17 @@ pub record Sofar : Type 0 where
   pub deepest : ℕ
   pub adapts : Bool
 
-abbrev pub sofar : List ℕ → List ℕ → ℕ → ℕ → List ℕ → ℕ → Bool → Sofar
-sofar tuple columns top run depths deepest adapts =
-    record { traced = traced tuple columns top; run = run; depths = depths; deepest = deepest; adapts = adapts }
+abbrev pub sofar : Traced → ℕ → List ℕ → ℕ → Bool → Sofar
+sofar t run depths deepest adapts = record { traced = t; run = run; depths = depths; deepest = deepest; adapts = adapts }
+
+-- places 1 to 4, and no columns
+abbrev pub beginning : Traced
+beginning = record { tuple = four (plus 1) (plus 2) (plus 3) (plus 4); columns = replicate 64 noPlace; top = 64 }
 
 -- before the first step
 pub record Begun (c : Sofar) : Type 0 where
   pub exactly : c ≡ record {
-    traced = record { tuple = four (plus 1) (plus 2) (plus 3) (plus 4); columns = replicate 64 noPlace; top = 64 };
+    traced = beginning;
     run = 0;
     depths = replicate 64 0;
     deepest = 0;

@@ -1,47 +1,30 @@
 // The check: the steps run on signed places instead of numbers.
-use acts::Act;
-use acts::Doing;
-use acts::act_of;
-use acts::is_omitted;
-use depths::Judged;
-use depths::judge;
+mod acts;
+
+use acts::Judged;
+use acts::is_adapting;
+use acts::judge;
+use acts::step;
+use columns::Traced;
+use record::Bad;
+use record::act_of;
+use record::is_omitted;
+use record::refusal18;
+use record::visited_of;
 use rules::Direction;
 use rules::Foretold;
 use rules::Place;
 use rules::Table;
 use rules::Verdict;
-use sound::Bad;
-use sound::refusal18;
-use sound::visited_of;
-use traces::step;
 ghost use mathlib.Core.Path.{_≡_};
 ghost use mathlib.Core.Bool.{cond, not, _||_};
 ghost use mathlib.Core.Option.{none};
 ghost use Prim.Native.Nat.{max};
 ghost use lib.ListN.{replicate};
-ghost use Rattle.rules.specs.Record.{refusal18, listed};
-ghost use Rattle.rules.specs.Act.{running};
-ghost use Rattle.rules.specs.Check.{noPlace, adapting, only, checked, Checks};
-ghost use Rattle.traces.specs.Traces.{placeOf, placesOf};
-ghost use Rattle.acts.specs.Doings.{doing};
-
-// Is it an `adapt` step's act?
-fn is_adapting(d: Doing) -> bool
-    ensures { λ r. ⌜ r ≡ adapting (doing d) ⌝ }
-{
-    let act = d.act;
-    match act {
-        Act::Pushes => false,
-        Act::Pops => false,
-        Act::PopsAll => false,
-        Act::Flips => false,
-        Act::Rolls { m, n } => false,
-        Act::Swaps => false,
-        Act::Drops => false,
-        Act::Orders { back } => false,
-        Act::Adapts { back } => true,
-    }
-}
+ghost use Rattle.rules.specs.Pipeline.Record.{refusal18, listed};
+ghost use Rattle.rules.specs.Pipeline.Running.{running};
+ghost use Rattle.rules.specs.Pipeline.Check.{plus, noPlace, only, checked, Checks};
+ghost use Rattle.foretell.specs.Steps.{beginning};
 
 // The deeper of two.
 fn deeper(a: usize, b: usize) -> usize
@@ -62,14 +45,21 @@ fn either(a: bool, b: bool) -> bool
     b
 }
 
+// A place, its sign kept; 0 tells of none.
+fn place(axis: u8) -> Place
+    ensures { λ r. ⌜ r ≡ plus axis ⌝ }
+{
+    Place {
+        axis: axis,
+        minus: false,
+    }
+}
+
 // An answer that tells no more than its verdict.
 fn only(verdict: Verdict) -> Foretold
     ensures { λ r. ⌜ r ≡ only verdict ⌝ }
 {
-    let none = Place {
-        axis: 0,
-        minus: false,
-    };
+    let none = place(0);
     let depths = [0; 64];
     let places = [none; 4];
     Foretold {
@@ -83,34 +73,33 @@ fn only(verdict: Verdict) -> Foretold
     }
 }
 
-// The place that a number holds.
-fn place_of(p: u32) -> Place
-    ensures { λ r. ⌜ r ≡ placeOf p ⌝ }
+// Places 1 to 4, and no columns.
+fn begun() -> Traced
+    ensures { λ r. ⌜ r ≡ beginning ⌝ }
 {
-    Place {
-        axis: p / 2,
-        minus: p % 2 == 1,
+    let none = place(0);
+    let one = place(1);
+    let two = place(2);
+    let three = place(3);
+    let four = place(4);
+    let tuple = [one, two, three, four];
+    let columns = [none; 64];
+    Traced {
+        tuple: tuple,
+        columns: columns,
+        top: 64,
     }
-}
-
-fn places_of(tuple: [u32; 4]) -> [Place; 4]
-    ensures { λ r. ⌜ r ≡ placesOf tuple ⌝ }
-{
-    let a = place_of(tuple[0]);
-    let b = place_of(tuple[1]);
-    let c = place_of(tuple[2]);
-    let d = place_of(tuple[3]);
-    [a, b, c, d]
 }
 
 // The places that are told, if no `adapt` step ran.
-fn told_places(tuple: [u32; 4], adapts: bool) -> [Place; 4]
-    ensures { λ r. ⌜ r ≡ cond (not adapts) (placesOf tuple) (replicate 4 noPlace) ⌝ }
+fn told_places(tuple: [Place; 4], adapts: bool) -> [Place; 4]
+    ensures { λ r. ⌜ r ≡ cond (not adapts) tuple (replicate 4 noPlace) ⌝ }
 {
     if adapts {
-        return places_of([0; 4]);
+        let none = place(0);
+        return [none; 4];
     }
-    places_of(tuple)
+    tuple
 }
 
 // The check of records that preparations make.
@@ -119,9 +108,7 @@ fn checked(table: Table, direction: Direction) -> Foretold
     ensures { λ r. ⌜ r ≡ checked none (running direction (listed table)) ⌝ }
 {
     let n = table.n;
-    let mut tuple = [2, 4, 6, 8];
-    let mut columns = [0; 64];
-    let mut top = 64;
+    let mut t = begun();
     let mut depths = [0; 64];
     let mut run = 0;
     let mut deepest = 0;
@@ -133,7 +120,7 @@ fn checked(table: Table, direction: Direction) -> Foretold
         k += 1;
         if !is_omitted(s, direction) {
             let d = act_of(s, direction);
-            let judged = judge(d, 64 - top);
+            let judged = judge(d, 64 - t.top);
             match judged {
                 Judged::Few => {
                     return only(Verdict::TooFew(i + 1));
@@ -142,7 +129,7 @@ fn checked(table: Table, direction: Direction) -> Foretold
                     return only(Verdict::TooMany(i + 1));
                 }
                 Judged::Goes(after) => {
-                    top = step(&mut tuple, &mut columns, top, d);
+                    t = step(t, d);
                     depths[run] = after;
                     run += 1;
                     deepest = deeper(deepest, after);
@@ -151,13 +138,14 @@ fn checked(table: Table, direction: Direction) -> Foretold
             }
         }
     }
+    let tuple = t.tuple;
     let places = told_places(tuple, adapts);
     Foretold {
         verdict: Verdict::Passes,
         run: run,
         depths: depths,
         deepest: deepest,
-        left: 64 - top,
+        left: 64 - t.top,
         told: !adapts,
         places: places,
     }

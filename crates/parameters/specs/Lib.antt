@@ -1,1 +1,3 @@
 pub mod Replies
+pub mod Elements
+pub mod Parts

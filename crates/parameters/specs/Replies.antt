@@ -1,9 +1,9 @@
 -- What is replied of a step's parameters, written.
 use mathlib.Core.List.{List, [], _∷_, flatMap}
-use Rattle.rules.specs.Text.{Bytes, Words}
-use Rattle.rules.specs.Parameters.{Parameter, name, stepTable, textTable, parameterLine}
-use Rattle.rules.specs.Refusal.{Reply, answers, andThen}
-use Rattle.table.specs.Parts.{Parts, listed}
+use Rattle.rules.specs.Text.Bytes.{Bytes, Words}
+use Rattle.rules.specs.Text.Parameters.{Parameter, name, stepTable, textTable, parameterLine}
+use Rattle.rules.specs.Text.Refusal.{Reply, answers, andThen}
+use Rattle.parameters.specs.Parts.{Parts, listed}
 
 -- "parameters as `key=value`, are written each with a newline after it": those of a table
 abbrev pub linesOf : Bytes → Parts → Bytes

@@ -1,35 +1,35 @@
 // Cutting a step into its parameters. The Rust is `split_into_parameters` of src/token/mod.rs.
-use domain::in_domain;
-use elements::table_of;
-use filling::enter;
-use leads::is_lead;
-use normal::normal_of;
+mod elements;
+mod table;
+
+pub use elements::table_of;
+use normalise::normal_of;
 use rules::Written;
 use table::Part;
-use table::part_at;
+use table::enter;
+pub use table::part_at;
+use text::Kind;
+use text::first_refusal;
+use text::is_blank;
+use text::is_lead;
 use text::put;
-use walk::Kind;
-use walk::is_blank;
-use walk::run_end;
+use text::run_end;
 ghost use mathlib.Core.Path.{_≡_};
 ghost use mathlib.Core.Bool.{true};
 ghost use Prim.Native.Nat.{_+_, _*_, _≤_};
 ghost use lib.ListN.{length, take};
-ghost use Rattle.rules.specs.Text.{words, inDomain};
-ghost use Rattle.rules.specs.Refusal.{answers, Writes, Lends};
-ghost use Rattle.rules.specs.Parameters.{parameterLine, parameters};
-ghost use Rattle.text.specs.Writing.{Wrote, WroteAt};
-ghost use Rattle.table.specs.Parts.{partOf, Within, Good, tableIn};
-ghost use Rattle.elements.specs.Elements.{Spelt};
+ghost use Rattle.rules.specs.Text.Bytes.{words, inDomain};
+ghost use Rattle.rules.specs.Text.Refusal.{answers, Writes, Lends};
+ghost use Rattle.rules.specs.Text.Parameters.{parameterLine, parameters};
+ghost use Rattle.text.specs.Wrote.{Wrote, WroteAt};
+ghost use Rattle.parameters.specs.Parts.{partOf, Within, Good, tableIn};
+ghost use Rattle.parameters.specs.Elements.{Spelt};
 ghost use Rattle.parameters.specs.Replies.{linesOf, stepReply, nameReply, textReply};
-
-// "a text .. is over 4,096 bytes": 1
-const MOST: usize = 4096;
 
 // A text of so few bytes, ten times as long, has room in 4,096 with nine bytes behind it.
 const FEW: usize = 408;
 
-// Writes a parameter as `key=value`, with a newline after it.
+// Writes a parameter as `key=value`, with a newline after it, into dst from at.
 fn line_at(s: &[u8], p: Part, dst: &mut [u8], at: usize) -> usize
     requires { ⌜ Within (now s) p ⌝ }
     requires { ⌜ at + length (parameterLine (partOf (now s) p)) ≤ length (now dst) ⌝ }
@@ -46,7 +46,7 @@ fn line_at(s: &[u8], p: Part, dst: &mut [u8], at: usize) -> usize
     e + 1
 }
 
-// Writes all parameters of a table.
+// Writes the parameters of a table, in its order, into dst from its first byte.
 fn lines_of(s: &[u8], row: &[usize; 128], count: usize, dst: &mut [u8]) -> usize
     requires { ⌜ Good (now s) (tableIn (now row) count) ⌝ }
     requires { ⌜ length (linesOf (now s) (tableIn (now row) count)) ≤ length (now dst) ⌝ }
@@ -62,7 +62,7 @@ fn lines_of(s: &[u8], row: &[usize; 128], count: usize, dst: &mut [u8]) -> usize
     o
 }
 
-// How many bytes they are.
+// How many bytes the parameters of a table are, as they are written.
 fn length_of(s: &[u8], row: &[usize; 128], count: usize) -> usize
     requires { ⌜ Good (now s) (tableIn (now row) count) ⌝ }
     requires { ⌜ length (now s) ≤ 40969 ⌝ }
@@ -166,7 +166,7 @@ fn answer(text: &[u8], out: &mut [u8], a: &mut [u8], b: &mut [u8]) -> Written
     text_out(&a[..m], n, out)
 }
 
-// The same over buffers of its own, for a short text and for any.
+// The answer for a short text, over small buffers of its own: to clear large ones would cost more than the rest.
 fn short(text: &[u8], out: &mut [u8]) -> Written
     requires { ⌜ length (now text) ≤ 408 ⌝ }
     requires { ⌜ inDomain (now text) ≡ true ⌝ }
@@ -177,6 +177,7 @@ fn short(text: &[u8], out: &mut [u8]) -> Written
     answer(text, out, &mut a, &mut b)
 }
 
+// The answer for any text, over buffers for the longest.
 fn long(text: &[u8], out: &mut [u8]) -> Written
     requires { ⌜ length (now text) ≤ 4096 ⌝ }
     requires { ⌜ inDomain (now text) ≡ true ⌝ }
@@ -192,15 +193,10 @@ fn long(text: &[u8], out: &mut [u8]) -> Written
 pub fn parameters(text: &[u8], out: &mut [u8]) -> Written
     ensures { λ r. ⌜ Writes parameters (now (text .entry)) (now (out .entry)) r (now (out .exit)) ⌝ }
 {
-    if MOST < text.len() {
+    let number = first_refusal(text);
+    if number != 0 {
         return Written::Refused {
-            number: 1,
-            place: 0,
-        };
-    }
-    if !in_domain(text) {
-        return Written::Refused {
-            number: 2,
+            number: number,
             place: 0,
         };
     }

@@ -7,15 +7,15 @@ use mathlib.Core.List.{List, [], _∷_}
 use lib.ListN.{length, drop}
 use lib.Dec.{ltb}
 use lib.Ieee.{Float}
-use Rattle.rules.specs.Act.{act, Numbered, omitted}
-use Rattle.rules.specs.Tuples.{State, acted, countsNone}
-use Rattle.rules.specs.Columns.{after}
-use Rattle.rules.specs.Run.{start, count, Outcome}
+use Rattle.rules.specs.Pipeline.Running.{act, Numbered, omitted}
+use Rattle.rules.specs.Pipeline.Tuples.{State, acted, countsNone}
+use Rattle.rules.specs.Pipeline.Columns.{after}
+use Rattle.rules.specs.Pipeline.Run.{start, count, Outcome}
 use Rattle.rules.specs.declared.Step.{Step}
 use Rattle.rules.specs.declared.Direction.{Direction}
 use Rattle.rules.specs.declared.Ran.{Ran}
-use Rattle.steplaws.specs.Depth.{depthAfter}
-use Rattle.store.specs.Stores.{held}
+use Rattle.laws_steps.specs.Depth.{depthAfter}
+use Rattle.columns.specs.Stores.{held}
 use Rattle.pipeline.specs.declared.Stood.{Stood}
 
 -- ---- one step, which may be omitted

@@ -1,32 +1,35 @@
 // The run of a step table over a list of tuples and a lent store of columns, both ways.
-use acts::Doing;
-use acts::act_of;
-use acts::is_omitted;
-use axes::adapt;
-use axes::axisswap;
-use columns::move_all;
+use adapt::adapt;
+use axisswap::axisswap;
+use columns::Act;
+use columns::Doing;
+use columns::counts_none;
+use columns::depth_after;
+use columns::zero_rest;
+use pushpop::pop;
+use pushpop::push;
+use record::act_of;
+use record::is_omitted;
+use record::made;
+use record::visited_of;
 use rules::Direction;
 use rules::Ran;
 use rules::Step;
 use rules::Table;
-use sound::made;
-use sound::visited_of;
-use store::zero_rest;
-use ways::Way;
-use ways::counts_none;
-use ways::depth_after;
-use ways::way_of;
+use stack::flip;
+use stack::pop_all;
+use stack::roll;
+use stack::swap;
 ghost use mathlib.Core.Path.{_≡_};
 ghost use mathlib.Core.Bool.{true, cond};
-ghost use Prim.Native.Nat.{_*_, _≤_, _<_, _/_, max};
+ghost use Prim.Native.Nat.{_*_, _≤_, _/_, max};
 ghost use lib.ListN.{length};
-ghost use Rattle.rules.specs.Record.{made, listed};
-ghost use Rattle.rules.specs.Act.{act};
-ghost use Rattle.rules.specs.Run.{badList, Runs};
-ghost use Rattle.steplaws.specs.Depth.{depthAfter};
-ghost use Rattle.acts.specs.Doings.{doing, Does};
+ghost use Rattle.rules.specs.Pipeline.Record.{made, listed};
+ghost use Rattle.rules.specs.Pipeline.Run.{badList, Runs};
+ghost use Rattle.laws_steps.specs.Depth.{depthAfter};
+ghost use Rattle.columns.specs.Doings.{doing, Does};
+ghost use Rattle.columns.specs.Machine.{Acted};
 ghost use Rattle.pipeline.specs.Plans.{depthStepped, Stands};
-ghost use Rattle.ways.specs.Ways.{Acted};
 
 // ---- one act
 
@@ -38,14 +41,19 @@ fn run_act(tuples: &mut [f64], columns: &mut [f64], depth: usize, d: Doing)
     requires { ⌜ depthAfter (doing d) depth * (length (now tuples) / 4) ≤ length (now columns) ⌝ }
     ensures { λ _. ⌜ Acted (doing d) depth (now (tuples .entry)) (now (columns .entry)) (now (tuples .exit)) (now (columns .exit)) ⌝ }
 {
+    let act = d.act;
     let args = d.args;
     let n = d.n;
-    let way = way_of(d, depth);
-    match way {
-        Way::Moves(mv) => move_all(tuples, columns, depth, mv, args, n),
-        Way::Orders { back: back } => axisswap(tuples, back, args, n),
-        Way::Adapts { back: back } => adapt(tuples, back, args),
-        Way::Stays => {}
+    match act {
+        Act::Pushes => push(tuples, columns, depth, &args[..n]),
+        Act::Pops => pop(tuples, columns, depth, &args[..n]),
+        Act::PopsAll => pop_all(tuples, columns, depth, &args[..n]),
+        Act::Flips => flip(tuples, columns, depth, &args[..n]),
+        Act::Rolls { m, n: times } => roll(tuples, columns, depth, m, times),
+        Act::Swaps => swap(tuples, columns, depth),
+        Act::Drops => {}
+        Act::Orders { back } => axisswap(tuples, back, &args[..n]),
+        Act::Adapts { back } => adapt(tuples, back, args),
     }
 }
 
@@ -57,7 +65,7 @@ pub struct Stood {
     pub none: bool,
 }
 
-// The step itself.
+// One step, which leaves all as it is where it is omitted.
 fn run_step(
     tuples: &mut [f64],
     columns: &mut [f64],

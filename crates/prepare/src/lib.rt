@@ -1,43 +1,29 @@
 // Preparing: from a text to its step records, in a table of 64 by value.
-use comments::clean_into;
-use domain::in_domain;
-use elements::table_of;
-use judge::Judged;
-use judge::judge;
-use judge::refused;
-use leads::is_lead;
-use leads::next_step;
-use normal::normal_of;
-use rules::Cursor;
+mod decimal;
+mod faults;
+mod judge;
+mod keys;
+mod own;
+mod series;
+mod values;
+
+use crate::judge::prepare_step;
+use normalise::clean_into;
+use reader::next_from;
 use rules::Found;
 use rules::Prepared;
+use rules::Step;
 use rules::Table;
-use split::Fault;
-use split::fault_of;
-use split::step_at;
-use text::put;
-use walk::Kind;
-use walk::is_blank;
-use walk::run_end;
+use split::Line;
+use split::line_at;
+use text::first_refusal;
 ghost use mathlib.Core.Path.{_≡_};
-ghost use mathlib.Core.Bool.{true, false};
+ghost use mathlib.Core.Bool.{true};
 ghost use Prim.Native.Nat.{_+_, _*_, _<_, _≤_, min};
-ghost use lib.ListN.{length, take};
-ghost use Rattle.rules.specs.Lists.{allOf};
-ghost use Rattle.rules.specs.Text.{words, inDomain};
-ghost use Rattle.rules.specs.Refusal.{andThen};
-ghost use Rattle.rules.specs.Split.{modifier, stepsOf, stepText};
-ghost use Rattle.rules.specs.Parameters.{textTable, parametersOf};
-ghost use Rattle.rules.specs.Prepare.{judged};
-ghost use Rattle.laws.specs.Sizes.{weight};
-ghost use Rattle.elements.specs.Elements.{Spelt};
-ghost use Rattle.split.specs.Faults.{faultOf};
-ghost use Rattle.split.specs.declared.Fault.the-variants.{Nothing};
-ghost use Rattle.judge.specs.Judging.{replyIs};
-ghost use Rattle.prepare.specs.Lending.{Bare, Roomy, stepReply, stepsReply, normalReply, lentTo, preparing};
-
-// "a text, or in preparing one step's text, is over 4,096 bytes": 1
-const MOST: usize = 4096;
+ghost use lib.ListN.{length};
+ghost use Rattle.rules.specs.Text.Bytes.{inDomain};
+ghost use Rattle.prepare.specs.StepReply.{Bare, Roomy};
+ghost use Rattle.prepare.specs.Lent.{normalReply, lentTo, preparing, refusing, answered};
 
 // A text of so few bytes, ten times as long, has room in 1,024, in 4,096, or in 16,384, and one to spare.
 const FEW: usize = 102;
@@ -52,141 +38,81 @@ pub struct Preparing {
     pub table: Table,
 }
 
-// Judges the parameters of a normalised step, the first n bytes of s: 10 for a text with a separator, which is no name; 6 and 9
-// as it is cut, then what `judge` finds.
-fn judge_text(s: &[u8], n: usize) -> Judged
-    requires { ⌜ Spelt (now s) n ⌝ }
-    ensures { λ r. ⌜ replyIs r ≡ andThen (textTable (take n (now (s .entry)))) judged ⌝ }
+// A refusal, which leaves the table as it was.
+fn refusing(number: u8, place: usize, table: Table) -> Preparing
+    ensures { λ r. ⌜ r ≡ refusing number place table ⌝ }
 {
-    let e = run_end(Kind::Piece, &s[..n], 0);
-    if e < n {
-        return refused(10);
+    Preparing {
+        answer: Prepared::Refused {
+            number: number,
+            place: place,
+        },
+        table: table,
     }
-    if is_blank(&s[..n]) {
-        return refused(10);
-    }
-    if is_lead(&s[..n]) {
-        return refused(6);
-    }
-    let mut row = [0; 128];
-    let t = table_of(s, n, &mut row);
-    if t.full {
-        return refused(9);
-    }
-    judge(s, &row, t.n)
 }
 
-// Prepares one step's text, which is "normalised again when cut into parameters"; a and b are room to work in.
-fn prepare_text(text: &[u8], a: &mut [u8], b: &mut [u8]) -> Judged
-    requires { ⌜ weight (now text) + 9 ≤ length (now a) ⌝ }
-    requires { ⌜ weight (now text) ≤ length (now b) ⌝ }
-    ensures { λ r. ⌜ replyIs r ≡ andThen (parametersOf (now (text .entry))) judged ⌝ }
+// The answer once all n steps are read: 8; the first refusal of one of them, if its number is not 0; 7; or their records in front of the
+// table's.
+fn answer_of(table: Table, steps: [Step; 64], n: usize, number: u8, place: usize) -> Preparing
+    ensures { λ r. ⌜ r ≡ answered table steps n number place ⌝ }
 {
-    let n = normal_of(text, a, b);
-    let m = put(b"_nametrue", a, n);
-    judge_text(&a[..m], n)
-}
-
-// Prepares one step of a normalised text: 1, then the others. a, b and c are room to work in.
-fn prepare_step(step: &[u8], a: &mut [u8], b: &mut [u8], c: &mut [u8]) -> Judged
-    requires { ⌜ allOf modifier (words (now step)) ≡ false ⌝ }
-    requires { ⌜ weight (stepText (words (now step))) ≤ length (stepText (words (now step))) ⌝ }
-    requires { ⌜ Roomy (length (stepText (words (now step)))) (length (now a)) (length (now b)) ⌝ }
-    requires { ⌜ length (stepText (words (now step))) ≤ length (now c) ⌝ }
-    ensures { λ r. ⌜ replyIs r ≡ stepReply (stepText (words (now (step .entry)))) ⌝ }
-{
-    let m = step_at(step, c, 0);
-    if MOST < m {
-        return refused(1);
+    if 64 < n {
+        return refusing(8, 0, table);
     }
-    prepare_text(&c[..m], a, b)
+    if number != 0 {
+        return refusing(number, place, table);
+    }
+    if table.n < n {
+        return refusing(7, 0, table);
+    }
+    Preparing {
+        answer: Prepared::Steps(n),
+        table: Table {
+            steps: steps,
+            n: table.n,
+        },
+    }
 }
 
-// Prepares all steps of a normalised text, the first faulty one first; then 7 for a table that is too short.
+// Prepares all steps of a normalised text in one walk over it. "Preparing splits first": a step that is modifiers alone is refused 6 at once. The
+// first refusal of a step is kept until the end is reached, since 6 and 8 come before it. a, b and c are room to work in.
 fn prepare_steps(normal: &[u8], table: Table, a: &mut [u8], b: &mut [u8], c: &mut [u8]) -> Preparing
-    requires { ⌜ Nothing ≡ faultOf (stepsOf (now normal)) ⌝ }
     requires { ⌜ Bare (now normal) ⌝ }
     requires { ⌜ length (table .steps) ≡ 64 ⌝ }
     requires { ⌜ Roomy (length (now normal)) (length (now a)) (length (now b)) ⌝ }
-    requires { ⌜ length (now normal) ≤ length (now c) ⌝ }
-    ensures { λ r. ⌜ r ≡ lentTo (stepsReply (now (normal .entry))) table ⌝ }
+    requires { ⌜ length (now normal) < length (now c) ⌝ }
+    ensures { λ r. ⌜ r ≡ lentTo (normalReply (now (normal .entry))) table ⌝ }
 {
     let mut steps = table.steps;
     let mut at = 0;
     let mut n = 0;
+    let mut number = 0;
+    let mut place = 0;
     loop {
-        let found = next_step(normal, Cursor { at: at });
-        match found {
-            Found::End => {
-                if table.n < n {
-                    return Preparing {
-                        answer: Prepared::Refused {
-                            number: 7,
-                            place: 0,
-                        },
-                        table: table,
-                    };
-                }
-                return Preparing {
-                    answer: Prepared::Steps(n),
-                    table: Table {
-                        steps: steps,
-                        n: table.n,
-                    },
-                };
-            }
-            Found::Step { from, to, then } => {
-                let r = prepare_step(&normal[from..to], a, b, c);
-                if r.number != 0 {
-                    return Preparing {
-                        answer: Prepared::Refused {
-                            number: r.number,
-                            place: n + 1,
-                        },
-                        table: table,
-                    };
-                }
-                let s = r.step;
-                steps[n] = s;
-                n += 1;
-                at = then.at;
-            }
+        let found = next_from(normal, at);
+        let Found::Step { from, to, then } = found else {
+            break;
+        };
+        let i = n;
+        n += 1;
+        at = then.at;
+        let line = line_at(&normal[from..to], c, 0);
+        let Line::To(end) = line else {
+            return refusing(6, n, table);
+        };
+        if number != 0 {
+            continue;
         }
+        if 64 < n {
+            continue;
+        }
+        let judged = prepare_step(&c[..end - 1], a, b);
+        let step = judged.step;
+        steps[i] = step;
+        number = judged.number;
+        place = n;
     }
-}
-
-// "Preparing splits first": splitting's refusals, 6 and 8, come first.
-fn prepare_normal(
-    normal: &[u8],
-    table: Table,
-    a: &mut [u8],
-    b: &mut [u8],
-    c: &mut [u8],
-) -> Preparing
-    requires { ⌜ Bare (now normal) ⌝ }
-    requires { ⌜ length (table .steps) ≡ 64 ⌝ }
-    requires { ⌜ Roomy (length (now normal)) (length (now a)) (length (now b)) ⌝ }
-    requires { ⌜ length (now normal) ≤ length (now c) ⌝ }
-    ensures { λ r. ⌜ r ≡ lentTo (normalReply (now (normal .entry))) table ⌝ }
-{
-    let fault = fault_of(normal);
-    match fault {
-        Fault::Modifiers(place) => Preparing {
-            answer: Prepared::Refused {
-                number: 6,
-                place: place,
-            },
-            table: table,
-        },
-        Fault::TooMany => Preparing {
-            answer: Prepared::Refused {
-                number: 8,
-                place: 0,
-            },
-            table: table,
-        },
-        Fault::Nothing => prepare_steps(normal, table, a, b, c),
-    }
+    answer_of(table, steps, n, number, place)
 }
 
 // The answer for a text that is neither too long nor outside the domain; a, b, c and d are room to work in.
@@ -208,7 +134,7 @@ fn answer(
     ensures { λ r. ⌜ r ≡ preparing (now (text .entry)) table ⌝ }
 {
     let n = clean_into(text, a, b, c);
-    prepare_normal(&a[..n], table, d, b, c)
+    prepare_steps(&a[..n], table, d, b, c)
 }
 
 // The same over buffers of its own, for a text of a few steps, for a short one, for a longer one and for any.
@@ -269,23 +195,9 @@ fn long(text: &[u8], table: Table) -> Preparing
 pub fn prepare(text: &[u8], table: Table) -> Preparing
     ensures { λ r. ⌜ r ≡ preparing (now (text .entry)) table ⌝ }
 {
-    if MOST < text.len() {
-        return Preparing {
-            answer: Prepared::Refused {
-                number: 1,
-                place: 0,
-            },
-            table: table,
-        };
-    }
-    if !in_domain(text) {
-        return Preparing {
-            answer: Prepared::Refused {
-                number: 2,
-                place: 0,
-            },
-            table: table,
-        };
+    let number = first_refusal(text);
+    if number != 0 {
+        return refusing(number, 0, table);
     }
     if text.len() <= FEW {
         return brief(text, table);

@@ -1,3 +1,5 @@
-pub mod Flawing
-pub mod Piping
-pub mod Answering
+pub mod Flaws
+pub mod Laid
+pub mod Laws
+pub mod Pipes
+pub mod Puts

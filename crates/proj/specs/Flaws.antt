@@ -4,11 +4,11 @@ use mathlib.Core.Bool.{cond, _&&_}
 use Prim.Native.Nat.{ℕ, _≤_}
 use lib.ListN.{length, take}
 use lib.Dec.{eqb, ltb}
-use Rattle.rules.specs.Text.{Bytes, Words, Steps}
-use Rattle.rules.specs.Refusal.{Reply, refuses}
-use Rattle.rules.specs.Translate.{Pipeline, pipeline, initFirst, isPipeline, onlyInv, firstFault}
-use Rattle.projlaws.specs.Step.{Global}
-use Rattle.projstep.specs.Plans.{pipelineOf}
+use Rattle.rules.specs.Text.Bytes.{Bytes, Words, Steps}
+use Rattle.rules.specs.Text.Refusal.{Reply, refuses}
+use Rattle.rules.specs.Proj.Translate.{Pipeline, pipeline, initFirst, isPipeline, onlyInv, firstFault}
+use Rattle.laws_proj.specs.Step.{Global}
+use Rattle.proj_steps.specs.Plans.{pipelineOf}
 use Rattle.proj.specs.declared.Flaw.{Flaw}
 use Rattle.proj.specs.declared.Pipe.{Pipe}
 
@@ -18,7 +18,8 @@ unless number place reply = cond (eqb number 0) reply (refuses number place)
 
 -- the refusal of a step at a place
 pub record IsStepFlaw (p : Pipeline) (place : ℕ) (ws : Words) (number : ℕ) : Type 0 where
-  pub says : (reply : Reply Bytes) → cond (initFirst ws) (refuses 3 place) (cond (ltb 1 place && isPipeline ws) (refuses 4 place) (cond (onlyInv p ws) (refuses 5 place) reply)) ≡ unless number place reply
+  pub says : (reply : Reply Bytes)
+      → cond (initFirst ws) (refuses 3 place) (cond (ltb 1 place && isPipeline ws) (refuses 4 place) (cond (onlyInv p ws) (refuses 5 place) reply)) ≡ unless number place reply
 
 -- the first refusal
 pub record IsFlaw (p : Pipeline) (ss : Steps) (f : Flaw) : Type 0 where

@@ -1,32 +1,31 @@
 // Translating a PROJ text. The Rust is `parse_proj` of src/token/mod.rs.
-use domain::in_domain;
-use projclean::clean_into;
-use projout::all_out;
-use projstep::globals_into;
-use projwalk::next_proj;
-use projwords::head_of;
-use projwords::marks_of;
+mod layout;
+
+use layout::all_out;
+use proj_steps::globals_into;
+use proj_words::clean_into;
+use proj_words::head_of;
+use proj_words::marks_of;
+use proj_words::next_proj;
 use rules::Cursor;
 use rules::Found;
 use rules::Written;
 use text::find;
-use text::put;
+use text::first_refusal;
+use text::hand_out;
 ghost use mathlib.Core.Path.{_≡_};
 ghost use mathlib.Core.Bool.{true, false, _&&_, _||_, not};
 ghost use Prim.Native.Nat.{_*_, _<_, _≤_};
 ghost use lib.ListN.{length};
-ghost use Rattle.rules.specs.Ascii.{ascii, is};
-ghost use Rattle.rules.specs.Lists.{anyOf, nonEmpty};
-ghost use Rattle.rules.specs.Text.{words, contains, inDomain};
-ghost use Rattle.rules.specs.Translate.{translate, translated};
-ghost use Rattle.rules.specs.Refusal.{answers, Writes, Lends};
-ghost use Rattle.projlaws.specs.Step.{Global};
-ghost use Rattle.projwalk.specs.Cuts.{stepsFrom};
-ghost use Rattle.projstep.specs.Plans.{pipelineOf};
+ghost use Rattle.rules.specs.Text.Ascii.{ascii, is};
+ghost use Rattle.rules.specs.Text.Lists.{anyOf, nonEmpty};
+ghost use Rattle.rules.specs.Text.Bytes.{words, contains, inDomain};
+ghost use Rattle.rules.specs.Proj.Translate.{translate, translated};
+ghost use Rattle.rules.specs.Text.Refusal.{Writes, Lends};
+ghost use Rattle.laws_proj.specs.Step.{Global};
+ghost use Rattle.proj_words.specs.Cuts.{stepsFrom};
+ghost use Rattle.proj_steps.specs.Plans.{pipelineOf};
 ghost use Rattle.proj.specs.Flaws.{IsStepFlaw, IsFlaw, IsPipe};
-
-// "a text .. is over 4,096 bytes": 1
-const MOST: usize = 4096;
 
 // A text of so few bytes, ten times as long, has room in 4,096 and one to spare.
 const FEW: usize = 409;
@@ -73,7 +72,7 @@ fn step_flaw(s: &[u8], g: &[u8], inverted: bool, place: usize) -> u8
     0
 }
 
-// "Translation takes the first faulty step."
+// The refusal of the first faulty step: "Translation takes the first faulty step, trying 3, 4, 5."
 fn flaw_of(n: &[u8], g: &[u8], inverted: bool) -> Flaw
     requires { ⌜ length (now n) ≤ 40960 ⌝ }
     ensures { λ r. ⌜ IsFlaw (pipelineOf (now (g .entry)) inverted) (stepsFrom (now (n .entry)) 0) r ⌝ }
@@ -158,20 +157,7 @@ fn steps_out(n: &[u8], g: &[u8], inverted: bool, out: &mut [u8]) -> Written
     Written::Wrote(all_out(n, g, inverted, inverted, total, out, true))
 }
 
-// Writes the text as it is, or refuses 7.
-fn unchanged(text: &[u8], out: &mut [u8]) -> Written
-    ensures { λ r. ⌜ Lends (answers (now (text .entry))) (now (out .entry)) r (now (out .exit)) ⌝ }
-{
-    if out.len() < text.len() {
-        return Written::Refused {
-            number: 7,
-            place: 0,
-        };
-    }
-    Written::Wrote(put(text, out, 0))
-}
-
-// Does the text hold `|`, or lack `proj`? Then it is no PROJ text.
+// Does the text hold `|`, or lack `proj`? Then it is no PROJ text, and is answered as it is.
 fn is_other(text: &[u8]) -> bool
     ensures { λ r. ⌜ r ≡ (anyOf (is "|") (now (text .entry)) || not (contains (ascii "proj") (now (text .entry)))) ⌝ }
 {
@@ -197,7 +183,7 @@ fn answer(text: &[u8], out: &mut [u8], a: &mut [u8], b: &mut [u8], c: &mut [u8])
     steps_out(&a[..n], &b[..m], pipe.inverted, out)
 }
 
-// The same over buffers of its own, for a short text and for any.
+// The answer for a short text, over small buffers of its own: to clear large ones would cost more than the rest.
 fn short(text: &[u8], out: &mut [u8]) -> Written
     requires { ⌜ length (now text) ≤ 409 ⌝ }
     requires { ⌜ inDomain (now text) ≡ true ⌝ }
@@ -210,6 +196,7 @@ fn short(text: &[u8], out: &mut [u8]) -> Written
     answer(text, out, &mut a, &mut b, &mut c)
 }
 
+// The answer for any text, over buffers for the longest.
 fn long(text: &[u8], out: &mut [u8]) -> Written
     requires { ⌜ length (now text) ≤ 4096 ⌝ }
     requires { ⌜ inDomain (now text) ≡ true ⌝ }
@@ -227,20 +214,15 @@ fn long(text: &[u8], out: &mut [u8]) -> Written
 pub fn translate(text: &[u8], out: &mut [u8]) -> Written
     ensures { λ r. ⌜ Writes translate (now (text .entry)) (now (out .entry)) r (now (out .exit)) ⌝ }
 {
-    if MOST < text.len() {
+    let number = first_refusal(text);
+    if number != 0 {
         return Written::Refused {
-            number: 1,
-            place: 0,
-        };
-    }
-    if !in_domain(text) {
-        return Written::Refused {
-            number: 2,
+            number: number,
             place: 0,
         };
     }
     if is_other(text) {
-        return unchanged(text, out);
+        return hand_out(text, out);
     }
     if text.len() <= FEW {
         return short(text, out);

@@ -8,10 +8,11 @@ use lib.Dec.{T}
 use lib.ListN.{length}
 use lib.Ieee.{Float, binary64, neg, mul, fits}
 use borrow.Fn.World.{World}
-use Rattle.rules.specs.Coordinate.{turn, one}
-use Rattle.rules.specs.Run.{Outcome, runs, Runs}
-use Rattle.rules.specs.Act.{running}
-use Rattle.rules.specs.Check.{anyAdapt, check, Checks}
+use Rattle.rules.specs.Operators.Numbers.{turn}
+use Rattle.rules.specs.Operators.Adapt.{one}
+use Rattle.rules.specs.Pipeline.Run.{Outcome, runs, Runs}
+use Rattle.rules.specs.Pipeline.Running.{running}
+use Rattle.rules.specs.Pipeline.Check.{anyAdapt, check, Checks}
 use Rattle.rules.specs.ExamplesHold.{examples-hold}
 use Rattle.rules.specs.declared.Step.{Step}
 use Rattle.rules.specs.declared.Direction.{Direction}
@@ -19,20 +20,20 @@ use Rattle.rules.specs.declared.Foretold.{Foretold}
 use Rattle.rules.specs.declared.Ran.{Ran}
 use Rattle.rules.specs.declared.Ran.the-variants.{Done}
 use Rattle.rules.specs.declared.Verdict.the-variants.{Passes}
-use Rattle.laws.specs.Entry.{answers-so}
-use Rattle.laws.specs.Once.{once, lends-once, check-once, run-once, plain-check-once, plain-run-once}
-use Rattle.steplaws.specs.Made.{table-prepared, check-never-18, run-never-18}
-use Rattle.steplaws.specs.Ieee.{turn-mul}
-use Rattle.steplaws.specs.Foretold.{told-exactly, foretells}
-use Rattle.steplaws.specs.Exactly.{passes-exactly, few-exactly, many-exactly, refused-exactly}
-use Rattle.steplaws.specs.Runs.{answered, accepts, as-foretold, as-many}
-use Rattle.steplaws.specs.OwnNumbers.{is-named, own-number}
-use Rattle.steplaws.specs.Bits.{has-bits, alike}
-use Rattle.steplaws.specs.Ending.{normalise-ends, split-ends, parameters-ends, translate-ends, write-ends, prepare-ends, check-ends, run-ends, next-ends}
-use Rattle.steplaws.specs.Exported.{behind-normalise, behind-split, behind-parameters, behind-translate, behind-next, behind-prepare, behind-pass, behind-run}
+use Rattle.laws_text.specs.Entry.{answers-so}
+use Rattle.laws_text.specs.Once.{once, lends-once, check-once, run-once, plain-check-once, plain-run-once}
+use Rattle.laws_records.specs.Made.{table-prepared, check-never-18, run-never-18}
+use Rattle.laws_records.specs.Ieee.{turn-mul}
+use Rattle.laws_steps.specs.Foretold.{told-exactly, foretells}
+use Rattle.laws_steps.specs.Exactly.{passes-exactly, few-exactly, many-exactly, refused-exactly}
+use Rattle.laws_steps.specs.Runs.{answered, accepts, as-foretold, as-many}
+use Rattle.laws_steps.specs.OwnNumbers.{is-named, own-number}
+use Rattle.laws_steps.specs.Bits.{has-bits, alike}
+use Rattle.laws_steps.specs.Ending.{normalise-ends, split-ends, parameters-ends, translate-ends, write-ends, prepare-ends, check-ends, run-ends, next-ends}
+use Rattle.laws_steps.specs.Exported.{behind-normalise, behind-split, behind-parameters, behind-translate, behind-next, behind-prepare, behind-pass, behind-run}
 use Rattle.sakondreno.proofs as code
 use Rattle.reader.proofs as reading
-use Rattle.shown.proofs as program
+use Rattle.show.proofs as program
 use Rattle.promises.specs.Promises.{Calls, Demand1, Demand2, AsForetold, FromThePlacesNamed, Demand3, Exports, Promises}
 
 pub calls : (w : World) → Calls w

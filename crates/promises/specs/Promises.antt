@@ -11,23 +11,24 @@ use lib.ListN.{length, take}
 use lib.Ieee.{Float, binary64, mul, fits, toBits}
 use borrow.Fn.World.{World}
 use denote.Ref.{now}
-use Rattle.rules.specs.Text.{Bytes}
-use Rattle.rules.specs.Refusal.{Reply, answers, Promised, Writes, Lends, Wrote}
-use Rattle.rules.specs.Normal.{normalise}
-use Rattle.rules.specs.Split.{split}
-use Rattle.rules.specs.Parameters.{parameters}
-use Rattle.rules.specs.Translate.{translate}
-use Rattle.rules.specs.Reader.{next}
-use Rattle.rules.specs.Prepare.{prepare, Prepares}
-use Rattle.rules.specs.Record.{refusal18, listed}
-use Rattle.rules.specs.Act.{running}
-use Rattle.rules.specs.Coordinate.{turn, one}
-use Rattle.rules.specs.Columns.{after, depths, deepest}
-use Rattle.rules.specs.Tuples.{numbers, acted}
-use Rattle.rules.specs.Run.{start, count, Runs}
-use Rattle.rules.specs.Check.{place, anyAdapt, Checks}
-use Rattle.rules.specs.Write.{write}
-use Rattle.rules.specs.Plain.{plainPrepared, replied, recordCount, plainFound, directionOf, plainCheck, PlainChecks, plainRan, PlainRuns}
+use Rattle.rules.specs.Text.Bytes.{Bytes}
+use Rattle.rules.specs.Text.Refusal.{Reply, answers, Promised, Writes, Lends, Wrote}
+use Rattle.rules.specs.Text.Normal.{normalise}
+use Rattle.rules.specs.Text.Split.{split}
+use Rattle.rules.specs.Text.Parameters.{parameters}
+use Rattle.rules.specs.Proj.Translate.{translate}
+use Rattle.rules.specs.Text.Reader.{next}
+use Rattle.rules.specs.Pipeline.Prepare.{prepare, Prepares}
+use Rattle.rules.specs.Pipeline.Record.{refusal18, listed}
+use Rattle.rules.specs.Pipeline.Running.{running}
+use Rattle.rules.specs.Operators.Numbers.{turn}
+use Rattle.rules.specs.Operators.Adapt.{one}
+use Rattle.rules.specs.Pipeline.Columns.{after, depths, deepest}
+use Rattle.rules.specs.Pipeline.Tuples.{numbers, acted}
+use Rattle.rules.specs.Pipeline.Run.{start, count, Runs}
+use Rattle.rules.specs.Pipeline.Check.{place, anyAdapt, Checks}
+use Rattle.rules.specs.Pipeline.Write.{write}
+use Rattle.rules.specs.Face.Plain.{plainPrepared, replied, recordCount, plainFound, directionOf, plainCheck, PlainChecks, plainRan, PlainRuns}
 use Rattle.rules.specs.Examples.{examples, also, printed, rewritten, demanded, AllHold}
 use Rattle.rules.specs.declared.Step.{Step}
 use Rattle.rules.specs.declared.Direction.{Direction}
@@ -45,12 +46,12 @@ use Rattle.rules.specs.declared.Ran.the-variants as ran-is
 use Rattle.rules.specs.declared.Answer.{Answer}
 use Rattle.rules.specs.declared.Checked.{Checked}
 use Rattle.rules.specs.declared.Done as plain-run
-use Rattle.rules.specs.Contract.{Keeps, KeepsIf}
-use Rattle.rules.specs.Shown.{shown}
+use Rattle.rules.specs.Face.Contract.{Keeps, KeepsIf}
+use Rattle.rules.specs.Face.Shown.{shown}
 use Rattle.sakondreno.proofs as calls
 use Rattle.reader.proofs as reading
-use Rattle.shown.proofs as program
-use Rattle.rules.specs.Demands.{Ends, RunEnds, CheckEnds, NextEnds, ExportsText, EachWell, Few, Many, FirstAtFault, numberAt, Bits, Alike}
+use Rattle.show.proofs as program
+use Rattle.rules.specs.Face.Demands.{Ends, RunEnds, CheckEnds, NextEnds, ExportsText, EachWell, Few, Many, FirstAtFault, numberAt, Bits, Alike}
 
 -- ==== The public calls. "Every entry point ends on every text, step table and list .. No caller is asked to have looked first": each call's own code,
 -- whatever it is given, returns; its contract asks nothing; and what it says is one equation with the written rule, of the result and of all that was lent.

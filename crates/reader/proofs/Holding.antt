@@ -74,7 +74,8 @@ module _ {M : Type 1} (𝓤 : URA M) (H : Heap 𝓤) (A : Atoms 𝓤) (W : Given
 
   text-out : ent 𝓤 (sem 𝓤 H A (Own κ r)) (sem 𝓤 H A (Text κ (r .text)))
   text-out =
-      qed W (‵ (Own κ r) ∷ []) ∵ use1 W (given (reader-val r ∷ [] ≡ reader-val r ∷ []) (‵ (all-own (declared κ .parts) (laws κ) parts))) (own-open 𝓤 H A W (declared κ) (laws κ) parts (reader-val r)) $
+      qed W (‵ (Own κ r) ∷ []) ∵ use1 W (given (reader-val r ∷ [] ≡ reader-val r ∷ []) (‵ (all-own (declared κ .parts) (laws κ) parts)))
+      (own-open 𝓤 H A W (declared κ) (laws κ) parts (reader-val r)) $
       learn ! (λ _. use1 W (‵ (ownAt (declared κ .parts) (laws κ) 0 (r .text)) ⊛ ‵ (rest (declared κ .parts) (laws κ) 0 parts)) (own-out 𝓤 H A W (declared κ .parts) (laws κ) 0 parts) $
       split ! $ move ! (1 ∷ []) $ drop ! $ done !)
 

@@ -1,9 +1,13 @@
-// The walk over the steps of a normalised text, as a reader that knows the text and its place in it. The two functions here are
-// proved by hand. Whoever calls the second, whose parameters are plain, needs no such proof.
+// The walk over the steps of a normalised text: a reader that knows the text and its place in it. It is the one walk that there is; in the
+// Rust it is the `split` and the `filter` of `split_into_steps`, src/token/mod.rs. The two functions here are proved by hand. Whoever calls
+// the second, whose parameters are plain, needs no such proof.
+mod walk;
+
 use rules::Cursor;
 use rules::Found;
+pub use walk::next_step;
 ghost use mathlib.Core.Path.{_≡_};
-ghost use Rattle.rules.specs.Reader.{next};
+ghost use Rattle.rules.specs.Text.Reader.{next};
 
 // A normalised text, and the place in it from which the walk goes on.
 pub struct Reader<'a> {
@@ -16,7 +20,7 @@ impl<'a> Reader<'a> {
     pub fn next(self) -> Found
         ensures { λ r. ⌜ r ≡ next (now (self .entry .text)) (self .entry .at) ⌝ }
     {
-        leads::next_step(self.text, Cursor { at: self.at })
+        walk::next_step(self.text, Cursor { at: self.at })
     }
 }
 

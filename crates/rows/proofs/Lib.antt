@@ -1,3 +1,4 @@
-pub mod Rec
-pub mod Recs
-pub mod Tab
+-- What the walks over a lent row cite of the types that they meet.
+pub mod StepType
+pub mod RowType
+pub mod TableType

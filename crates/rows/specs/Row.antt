@@ -1,14 +1,18 @@
 -- A lent row of step records, and the table of 64 that stands for it.
 use Prim.Native.Nat.{ℕ, _≤_, min}
-use mathlib.Core.List.{List, _++_}
+use mathlib.Core.List.{List, [], _++_}
 use lib.ListN.{length, take, drop, replicate}
-use Rattle.rules.specs.Record.{blank}
+use Rattle.rules.specs.Pipeline.Record.{stepWith}
 use Rattle.rules.specs.declared.Step.{Step}
 use Rattle.rules.specs.declared.Table.{Table}
 
--- 64 records with nothing in them
+-- the record that stands in a table where a row has none. It is never read, so any would do: it has no arguments and one mark
+unfoldable pub spare : Step
+spare = stepWith 0 [] 0 0 1
+
+-- 64 of them
 unfoldable pub blanks : List Step
-blanks = replicate 64 blank
+blanks = replicate 64 spare
 
 -- the table that has these records, for a row of n
 abbrev pub tabled : List Step → ℕ → Table

@@ -9,20 +9,20 @@ use mathlib.Core.List.{List, [], _∷_, _++_, map, flatMap}
 use lib.ListN.{replicate}
 use lib.IntN.{ℤ, pos}
 use lib.Ieee.{Float, binary64, ofInt, toBits}
-use Rattle.rules.specs.Ascii.{ascii}
-use Rattle.rules.specs.Text.{Bytes}
-use Rattle.rules.specs.Refusal.{Reply, answers, refuses, tested}
-use Rattle.rules.specs.Normal.{normalise}
-use Rattle.rules.specs.Split.{line, split}
-use Rattle.rules.specs.Parameters.{parameters}
-use Rattle.rules.specs.Translate.{translate}
-use Rattle.rules.specs.Decimal.{signed}
-use Rattle.rules.specs.Prepare.{prepare}
-use Rattle.rules.specs.Run.{Outcome, runs}
-use Rattle.rules.specs.Check.{check}
-use Rattle.rules.specs.Write.{write}
-use Rattle.rules.specs.Shown.{shown}
-use Rattle.rules.specs.Demands.{numberAt, signTurned}
+use Rattle.rules.specs.Text.Ascii.{ascii}
+use Rattle.rules.specs.Text.Bytes.{Bytes}
+use Rattle.rules.specs.Text.Refusal.{Reply, answers, refuses, tested}
+use Rattle.rules.specs.Text.Normal.{normalise}
+use Rattle.rules.specs.Text.Split.{line, split}
+use Rattle.rules.specs.Text.Parameters.{parameters}
+use Rattle.rules.specs.Proj.Translate.{translate}
+use Rattle.rules.specs.Text.Decimal.{signed}
+use Rattle.rules.specs.Pipeline.Prepare.{prepare}
+use Rattle.rules.specs.Pipeline.Run.{Outcome, runs}
+use Rattle.rules.specs.Pipeline.Check.{check}
+use Rattle.rules.specs.Pipeline.Write.{write}
+use Rattle.rules.specs.Face.Shown.{shown}
+use Rattle.rules.specs.Face.Demands.{numberAt, signTurned}
 use Rattle.rules.specs.declared.Step.{Step}
 use Rattle.rules.specs.declared.Direction.{Direction}
 use Rattle.rules.specs.declared.Direction.the-variants.{Forward, Inverse}

@@ -1,34 +1,11 @@
 -- Document 01 as written definitions: what a reader holds against it, and what the contracts cite. No algorithm stands
--- here, and no proof but that of the examples.
-pub mod Ascii
-pub mod Lists
+-- here, and no proof but that of the examples. Text, Proj, Operators and Pipeline follow the paper's headings; Face is what a
+-- caller sees: the plain records, what the program `steps` prints, and the words of the demands.
 pub mod Text
-pub mod Refusal
-pub mod Normal
-pub mod Comments
-pub mod Split
-pub mod Reader
-pub mod Parameters
 pub mod Proj
-pub mod Translate
-pub mod Decimal
-pub mod Numerals
-pub mod Record
-pub mod Adapt
-pub mod Keys
-pub mod OwnRules
-pub mod Prepare
-pub mod Coordinate
-pub mod Act
-pub mod Columns
-pub mod Tuples
-pub mod Run
-pub mod Check
-pub mod Write
-pub mod Shown
-pub mod Plain
-pub mod Demands
-pub mod Contract
+pub mod Operators
+pub mod Pipeline
+pub mod Face
 pub mod Examples
 pub mod Opened
 pub mod ExamplesHold

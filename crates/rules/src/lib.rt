@@ -1,17 +1,65 @@
 // The plain types that every crate shares: step records, coordinates, directions, and what the calls answer. What they
 // mean is written down in specs/. No algorithm stands here.
 
-// A step record: the operator by its number (specs/Record.antt says which), up to eight arguments in place, how many
-// they are, and the marks, each 0 or 1. A slot that is not used holds 0. Whatever a C caller lends is some record; one
-// that no preparation makes is refused 18.
+// The operators by their numbers, `stack` by its seven actions.
+pub const PUSH: u8 = 0;
+
+pub const POP: u8 = 1;
+
+pub const STACK_PUSH: u8 = 2;
+
+pub const STACK_POP: u8 = 3;
+
+pub const STACK_FLIP: u8 = 4;
+
+pub const STACK_ROLL: u8 = 5;
+
+pub const STACK_UNROLL: u8 = 6;
+
+pub const STACK_SWAP: u8 = 7;
+
+pub const STACK_DROP: u8 = 8;
+
+pub const AXISSWAP: u8 = 9;
+
+pub const ADAPT: u8 = 10;
+
+// The greatest of their numbers.
+pub const GREATEST: u8 = ADAPT;
+
+// The five names of operators; and whether a word is one of them.
+pub enum Name {
+    Push,
+    Pop,
+    Stack,
+    Axisswap,
+    Adapt,
+}
+
+pub enum Named {
+    Is(Name),
+    Not,
+}
+
+// What a key takes: a flag, a series of numbers, or a word; or the operator lacks it.
+pub enum Kind {
+    Flag,
+    Series,
+    Word,
+    Lacking,
+}
+
+// A step record: the operator by its number, how many arguments it has, the marks, each 0 or 1, and up to eight
+// arguments in place. A slot that is not used holds 0. Whatever a C caller lends is some record; one that no preparation
+// makes is refused 18 (specs/Pipeline/Record.antt).
 #[repr(C)]
 pub struct Step {
     pub operator: u8,
-    pub args: [i32; 8],
-    pub n: usize,
+    pub n: u8,
     pub inv: u8,
     pub omit_fwd: u8,
     pub omit_inv: u8,
+    pub args: [i32; 8],
 }
 
 // A step table by value: n records, the first of 64. A table that stands for a longer row says so by its n.
@@ -37,7 +85,7 @@ pub enum Direction {
 // A place of a tuple, 1 to 4, and whether its sign is turned.
 #[repr(C)]
 pub struct Place {
-    pub axis: u32,
+    pub axis: u8,
     pub minus: bool,
 }
 
@@ -108,7 +156,7 @@ pub enum Ran {
     Refused { number: u8, place: usize },
 }
 
-// ---- the same answers as plain records, which C and Rust can hold (specs/Plain.antt says what each holds)
+// ---- the same answers as plain records, which C and Rust can hold (specs/Face/Plain.antt says what each holds)
 
 // What a text call answers: number 0 and the length of the answer, which stands at the front of the lent buffer; or the
 // refusal's number and place, and the buffer is as it was. Of preparing: number 0 and how many records there are.

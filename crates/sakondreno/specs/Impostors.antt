@@ -9,18 +9,18 @@ use native.Mathlib.Omega.{arith}
 use lib.ListN.{length, take, replicate}
 use lib.IntN.{pos}
 use lib.Ieee.{Float, binary64, ofInt, eq}
-use Rattle.rules.specs.Ascii.{ascii}
-use Rattle.rules.specs.Text.{Bytes}
-use Rattle.rules.specs.Refusal.{Reply, outcome, Promised}
-use Rattle.rules.specs.Normal.{normalise}
-use Rattle.rules.specs.Split.{split}
-use Rattle.rules.specs.Parameters.{parameters}
-use Rattle.rules.specs.Translate.{translate}
-use Rattle.rules.specs.Prepare.{prepare}
-use Rattle.rules.specs.Reader.{next}
-use Rattle.rules.specs.Check.{check}
-use Rattle.rules.specs.Run.{runs}
-use Rattle.rules.specs.Record.{blank}
+use Rattle.rules.specs.Text.Ascii.{ascii}
+use Rattle.rules.specs.Text.Bytes.{Bytes}
+use Rattle.rules.specs.Text.Refusal.{Reply, outcome, Promised}
+use Rattle.rules.specs.Text.Normal.{normalise}
+use Rattle.rules.specs.Text.Split.{split}
+use Rattle.rules.specs.Text.Parameters.{parameters}
+use Rattle.rules.specs.Proj.Translate.{translate}
+use Rattle.rules.specs.Pipeline.Prepare.{prepare}
+use Rattle.rules.specs.Text.Reader.{next}
+use Rattle.rules.specs.Pipeline.Check.{check}
+use Rattle.rules.specs.Pipeline.Run.{runs}
+use Rattle.rules.specs.Pipeline.Record.{blank}
 use Rattle.rules.specs.Examples.{on, records, oneToFour}
 use Rattle.rules.specs.Opened.{opened}
 use Rattle.rules.specs.declared.Step.{Step}
@@ -28,7 +28,7 @@ use Rattle.rules.specs.declared.Answer.{Answer}
 use Rattle.rules.specs.declared.Part.{Part}
 use Rattle.rules.specs.declared.Checked.{Checked}
 use Rattle.rules.specs.declared.Done.{Done}
-use Rattle.rules.specs.Plain.{plainWritten, replied, plainFound, plainPrepared, recordCount, directionOf, plainVerdict, plainCheck, PlainChecks, plainRan, PlainOutcome, plainOutcome, PlainRuns}
+use Rattle.rules.specs.Face.Plain.{plainWritten, replied, plainFound, plainPrepared, recordCount, directionOf, plainVerdict, plainCheck, PlainChecks, plainRan, PlainOutcome, plainOutcome, PlainRuns}
 
 no : {k : ℕ} → 0 ≡ suc k → ⊥
 no z = omega arith

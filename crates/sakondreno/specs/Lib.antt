@@ -1,1 +1,2 @@
+-- What no impostor can promise.
 pub mod Impostors

@@ -1,9 +1,12 @@
 // The public calls, and nothing else. For Rattle by their names, each with its contract where it stands; for C and Rust as
-// exports that answer in plain records (crates/plain), thin over the others: a `&[u8]` passes as a pointer and then a length, and so does a row
-// of step records. No call has a `requires`. Those over a row are proved by hand.
+// exports that answer in plain records (src/plain.rt), thin over the others: a `&[u8]` passes as a pointer and then a length,
+// and so does a row of step records. No call has a `requires`. Those over a row are proved by hand.
+mod plain;
+
 pub use entry::check;
 pub use entry::prepare;
 pub use entry::run;
+pub use normalise::normalise;
 pub use parameters::parameters;
 pub use proj::translate;
 pub use reader::Reader;
@@ -25,25 +28,24 @@ pub use rules::Table;
 pub use rules::Verdict;
 pub use rules::Written;
 pub use split::split;
-pub use token::normalise;
-pub use writer::write;
-pub use writer::write_step;
+pub use write::write;
+pub use write::write_step;
 ghost use mathlib.Core.Path.{_≡_};
-ghost use Rattle.rules.specs.Refusal.{Promised};
-ghost use Rattle.rules.specs.Normal.{normalise};
-ghost use Rattle.rules.specs.Split.{split};
-ghost use Rattle.rules.specs.Parameters.{parameters};
-ghost use Rattle.rules.specs.Translate.{translate};
-ghost use Rattle.rules.specs.Prepare.{prepare};
-ghost use Rattle.rules.specs.Reader.{next};
-ghost use Rattle.rules.specs.Plain.{replied, plainFound, recordCount, PlainChecks, PlainRuns};
+ghost use Rattle.rules.specs.Text.Refusal.{Promised};
+ghost use Rattle.rules.specs.Text.Normal.{normalise};
+ghost use Rattle.rules.specs.Text.Split.{split};
+ghost use Rattle.rules.specs.Text.Parameters.{parameters};
+ghost use Rattle.rules.specs.Proj.Translate.{translate};
+ghost use Rattle.rules.specs.Pipeline.Prepare.{prepare};
+ghost use Rattle.rules.specs.Text.Reader.{next};
+ghost use Rattle.rules.specs.Face.Plain.{replied, plainFound, recordCount, PlainChecks, PlainRuns};
 
 // Brings a definition into its normal form.
 #[no_mangle]
 pub extern "C" fn sakondreno_normalise(text: &[u8], out: &mut [u8]) -> Answer
     ensures { λ r. ⌜ Promised replied normalise (now (text .entry)) (now (out .entry)) r (now (out .exit)) ⌝ }
 {
-    plain::answered(token::normalise(text, out))
+    plain::answered(normalise::normalise(text, out))
 }
 
 // Cuts a definition into its steps, each with a newline after it.

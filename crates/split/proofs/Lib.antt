@@ -1,4 +1,5 @@
-pub mod Faulting
-pub mod Stepping
 pub mod Lengths
-pub mod Answering
+pub mod Laws
+pub mod Lines
+pub mod StepText
+pub mod StepsPassed

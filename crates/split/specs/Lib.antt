@@ -1,3 +1,2 @@
-pub mod Faults
 pub mod Lines
-pub mod Writing
+pub mod Spaced

@@ -24,6 +24,6 @@ fn main() {
     let mut a = io::large_buffer();
     let mut b = io::large_buffer();
     let mut out = print_room();
-    let m = shown::show(&input[..n], &mut a, &mut b, &mut out);
+    let m = show::show(&input[..n], &mut a, &mut b, &mut out);
     io::write_all(STDOUT_FILENO, &out[..m]);
 }

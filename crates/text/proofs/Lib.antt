@@ -1,6 +1,9 @@
-pub mod Writing
-pub mod Placing
-pub mod Finding
-pub mod Replacing
-pub mod Squeezing
-pub mod Trimming
+pub mod Finds
+pub mod InDomain
+pub mod Lead
+pub mod Replaced
+pub mod RunEnd
+pub mod Squeezed
+pub mod Trimmed
+pub mod Wrote
+pub mod WroteAt

@@ -1,2 +1,4 @@
-pub mod Writing
 pub mod Places
+pub mod Domain
+pub mod Runs
+pub mod Wrote

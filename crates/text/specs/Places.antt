@@ -5,9 +5,9 @@ use mathlib.Core.Bool.{Bool, false, cond}
 use mathlib.Core.List.{[], _∷_}
 use lib.ListN.{length, take, drop}
 use lib.Dec.{eqb}
-use Rattle.rules.specs.Text.{Bytes, white, starts, trimStart, trimEnd}
-use Rattle.text.specs.declared.Edge.{Edge}
-use Rattle.text.specs.declared.Edge.the-variants.{White, Byte}
+use Rattle.rules.specs.Text.Bytes.{Bytes, white, starts, trimStart, trimEnd}
+use Rattle.text.specs.declared.ends.Edge.{Edge}
+use Rattle.text.specs.declared.ends.Edge.the-variants.{White, Byte}
 
 -- how many bytes stand before the first `old`: all of them where there is none
 unfoldable pub ahead : Bytes → Bytes → ℕ

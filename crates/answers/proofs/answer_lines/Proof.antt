@@ -1,5 +1,4 @@
--- `answers::answer_lines` meets its contract: the line that has begun starts no later than the newline looked for; the measure is what is left behind its start.
--- Assumes nothing.
+-- The line that has begun starts no later than the newline looked for; the measure is what is left behind its start.
 use Prim.Native.Nat.{_≤_, _-_}
 use lib.ListN.{length}
 use borrow.Author.Needs.{needs}

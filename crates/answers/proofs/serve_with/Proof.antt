@@ -1,5 +1,4 @@
--- `answers::serve_with` meets its contract: the line that has begun does not fill the buffer, whose length stays; the measure is the turns left.
--- Assumes nothing.
+-- The line that has begun does not fill the buffer, whose length stays; the measure is the turns left.
 use Prim.Native.Nat.{_<_}
 use lib.ListN.{length}
 use mathlib.Core.Path.{_≡_}

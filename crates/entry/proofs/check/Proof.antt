@@ -33,8 +33,8 @@ use denote.Triple.Spec.{tripleOf}
 use denote.Triple.Table.{cited}
 use denote.Triple.Walked.{says, Stays, stay-none, stay-none-slice, walkOf, goes-none, goes-none-slice, Walks, ends-at, walked}
 use denote.Exit.{yes}
-use Rattle.rules.specs.Record.{listed}
-use Rattle.rules.specs.Check.{Checks}
+use Rattle.rules.specs.Pipeline.Record.{listed}
+use Rattle.rules.specs.Pipeline.Check.{Checks}
 use Rattle.rules.specs.declared.Step.{Step}
 use Rattle.rules.specs.declared.Table.{Table}
 use Rattle.rules.specs.declared.Direction.{Direction}
@@ -42,11 +42,11 @@ use Rattle.rules.specs.declared.Foretold.{Foretold}
 use Rattle.rules.proofs.Table.Laws as T′
 use Rattle.rules.proofs.Foretold as N
 use Rattle.rules.proofs.Foretold.Laws as N′
-use Rattle.walks.proofs.Callee.{calls-known}
-use Rattle.walks.proofs.Close.{here, closes}
+use Rattle.byhand.proofs.Callee.{calls-known}
+use Rattle.byhand.proofs.Close.{here, closes}
 use Rattle.rows.specs.Row.{loaded}
-use Rattle.rows.proofs.Rec.{R}
-use Rattle.rows.proofs.Tab.{Tab, tab-vals, tab-is, tab-has, tab-makes, tab-typed}
+use Rattle.rows.proofs.StepType.{R}
+use Rattle.rows.proofs.TableType.{Tab, tab-vals, tab-is, tab-has, tab-makes, tab-typed}
 use Rattle.rows.proofs.load as loads
 use Rattle.rows.proofs.load.Symbol as load-def
 use Rattle.rows.proofs.load.Symbol.{name as #rows·load}
@@ -55,8 +55,8 @@ use Rattle.foretell.proofs.check as table
 use Rattle.foretell.proofs.check.Symbol as table-def
 use Rattle.foretell.proofs.check.Symbol.{name as #foretell·check}
 use Rattle.foretell.proofs.check.Met as table-thm
-use Rattle.entry.specs.Standing.{check-stands}
-use Rattle.entry.proofs.Way.{Way, way-val, way-vals, way-tells, way-makes, way-typed}
+use Rattle.entry.specs.TableOfRow.{check-stands}
+use Rattle.entry.proofs.DirectionType.{Way, way-val, way-vals, way-tells, way-makes, way-typed}
 use Rattle.entry.proofs.check.Key.{name as #entry·check}
 use Rattle.entry.proofs.check as check′
 use Rattle.entry.proofs.check.Statement as stated
@@ -95,7 +95,8 @@ module _ {M : Type 1} (𝓤 : URA M) (H : Heap 𝓤) (A : Atoms 𝓤) (W : Given
   exits : (w : Val) (r : Foretold) → Checks way (listed t) r → ent 𝓤 (⋆ 𝓤 H A (‵ (N.the-row .own r (w ∷ [])) ∷ ‵ (flft κ q) ∷ ‵ Row ∷ [])) (Post w)
   exits w r e =
       qed W (‵ (N.the-row .own r (w ∷ [])) ∷ ‵ (flft κ q) ∷ ‵ Row ∷ []) ∵
-      suffices ! _ (ends-at 𝓤 H A check′.ended stayed (check′.clauses 𝓤 H A mem run) W (((κ, tt), (q, tt), tt, (s, (way, tt)), at), tt) w r (tt, (tt, tt)) (tt, (tt, tt))) $ says ! (record { exactly = e .exactly ∙ check-stands (now s) way }) $
+      suffices ! _ (ends-at 𝓤 H A check′.ended stayed (check′.clauses 𝓤 H A mem run) W (((κ, tt), (q, tt), tt, (s, (way, tt)), at), tt) w r (tt, (tt, tt)) (tt, (tt, tt))) $
+      says ! (record { exactly = e .exactly ∙ check-stands (now s) way }) $
       nothing ! $ move ! (2 ∷ 0 ∷ []) $ join ! $ frame ! $
       -- [the result; what the row owns]
       nothing ! $ owned ! Way (Is Way) (way-makes 𝓤 H A) way _ is-way $ fjoin ! $ move ! (2 ∷ 0 ∷ []) $ fjoin ! $ frame ! $ done !
@@ -124,7 +125,8 @@ module _ {M : Type 1} (𝓤 : URA M) (H : Heap 𝓤) (A : Atoms 𝓤) (W : Given
         move ! (9 ∷ []) $ fsplit ! $ move ! (1 ∷ []) $ drop ! $ use1 W (‵ Row ⊛ ‵ Row) (shr-slice-copy 𝓤 H A W (named 0) κ R .twice s (v ∷ [])) $ split ! $
         move ! (10 ∷ []) $ split ! $ move ! (1 ∷ []) $ drop ! $ use2 W (raw (Load 𝓤 H A mem run .pre to-load)) goes-load $
         -- [what `load` asks; what the row owns; _3; …]
-        calls-known ! (fmOf 𝓤 H (W .laws) 𝓣) loads.ended (loads.clauses 𝓤 H A mem run) known-load to-load (λ z. z ≡ t) (λ z _. id⊢ 𝓤 _) (and-then ! (load ! (from ! (stop !)) (look ! 6 refl)) (no-more !)) (λ w r e.
+        calls-known ! (fmOf 𝓤 H (W .laws) 𝓣) loads.ended (loads.clauses 𝓤 H A mem run) known-load to-load (λ z. z ≡ t) (λ z _. id⊢ 𝓤 _)
+        (and-then ! (load ! (from ! (stop !)) (look ! 6 refl)) (no-more !)) (λ w r e.
         use1 W (‵ (flft κ q) ⊛ ‵ ftrue) (id⊢ 𝓤 _) $ split ! $ move ! (1 ∷ []) $ drop ! $ move ! (1 ∷ []) $ facts ! Tab (Is Tab) (shows 𝓤 H A Tab) r (w ∷ []) (λ is.
         -- [the token; what the row owns; _3; …; _2; …; _1; …; room for _0; …]
         land ! (from ! (stop !)) (init ! 2 refl (tab-typed 𝓤 H A W r w is)) $ rewrite ! 2 (λ (z : Val). ‵ (fat fullShare T′.mir l₃ 0 z)) (tab-is r t w is e) refl $
@@ -138,9 +140,12 @@ module _ {M : Type 1} (𝓤 : URA M) (H : Heap 𝓤) (A : Atoms 𝓤) (W : Given
         returns ! (look ! 9 refl) $ forget ! 3 refl $ forget ! 5 refl $ forget ! 7 refl $ forget ! 9 refl $
         move ! (9 ∷ 10 ∷ []) $ free1 ! $ move ! (7 ∷ 8 ∷ []) $ free1 ! $ move ! (5 ∷ 6 ∷ []) $ free1 ! $ move ! (3 ∷ 4 ∷ []) $ free1 ! $ free0 ! $ by ! (exits w₁ r₁ e₁)))))))))
 
-module _ {M : Type 1} (𝓤 : URA M) (H : Heap 𝓤) (A : Atoms 𝓤) (W : Given 𝓤 H A) (mem : Memory → SProp 𝓤) (run : Routine → Fun 𝓤) (𝓣 : Tables 𝓤 H) (known-load : Triple 𝓤 (𝓣 .C #rows·load) (Load 𝓤 H A mem run)) (known-table : Triple 𝓤 (𝓣 .C #foretell·check) (CheckTable 𝓤 H A mem run)) where
+module _ {M : Type 1} (𝓤 : URA M) (H : Heap 𝓤) (A : Atoms 𝓤) (W : Given 𝓤 H A) (mem : Memory → SProp 𝓤) (run : Routine → Fun 𝓤) (𝓣 : Tables 𝓤 H)
+    (known-load : Triple 𝓤 (𝓣 .C #rows·load) (Load 𝓤 H A mem run)) (known-table : Triple 𝓤 (𝓣 .C #foretell·check) (CheckTable 𝓤 H A mem run)) where
   check-walks : Walks 𝓤 H A check′.ended stayed (WpFn 𝓤 H (𝓣 .C) (𝓣 .Λ) code.function) (check′.clauses 𝓤 H A mem run)
-  check-walks = walked 𝓤 H A check′.ended stayed (check′.clauses 𝓤 H A mem run) (WpFn 𝓤 H (𝓣 .C) (𝓣 .Λ) code.function) (λ κs. (slice-vals, (way-vals, tt))) (λ κs. (shr-slice-tells (named 0) (κs .0) R, (way-tells, tt)))
+  check-walks =
+      walked 𝓤 H A check′.ended stayed (check′.clauses 𝓤 H A mem run) (WpFn 𝓤 H (𝓣 .C) (𝓣 .Λ) code.function) (λ κs. (slice-vals, (way-vals, tt)))
+      (λ κs. (shr-slice-tells (named 0) (κs .0) R, (way-tells, tt)))
       (λ κs qs bounds a g are. via 𝓤 _ (fst∗ 𝓤 _ (emp 𝓤)) (walk 𝓤 H A W mem run (κs .0) (qs .0) (a .0) (a .1 .0) (are .0 .0 .1) (are .1 .0) 𝓣 known-load known-table))
 
 pub check-spec : {M : Type 1} → stated.statement M

@@ -1,3 +1,4 @@
+-- By the two cases of the answer.
 use mathlib.Core.Path.{sym, ap}
 use Rattle.entry.specs.Plans.{countOf}
 use borrow.Author.Needs.{needs}

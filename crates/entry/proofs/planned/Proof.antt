@@ -1,5 +1,6 @@
+-- The plan is what the call by value leaves of a table of blank records.
 use borrow.Author.Needs.{needs}
-use Rattle.entry.specs.Planning.{planned-by}
+use Rattle.entry.specs.PlanOfTable.{planned-by}
 use Rattle.entry.proofs.planned.Statement.{statement}
 use Rattle.entry.proofs.planned.Tie as tie
 

@@ -40,17 +40,17 @@ use denote.Triple.Spec.{tripleOf}
 use denote.Triple.Table.{cited}
 use denote.Triple.Walked.{says, Stays, stay-none-slice, gave-slice, walkOf, goes-none-slice, goes-gave-slice, Walks, ends-at, walked}
 use denote.Exit.{yes}
-use Rattle.rules.specs.Prepare.{Prepares}
+use Rattle.rules.specs.Pipeline.Prepare.{Prepares}
 use Rattle.rules.specs.declared.Step.{Step}
 use Rattle.rules.specs.declared.Prepared.{Prepared}
 use Rattle.rules.proofs.Prepared as N
 use Rattle.rules.proofs.Prepared.Laws as N′
-use Rattle.walks.proofs.Callee.{calls-known, calls-lasts, result-is}
-use Rattle.walks.proofs.Close.{here, closes}
+use Rattle.byhand.proofs.Callee.{calls-known, calls-lasts, result-is}
+use Rattle.byhand.proofs.Close.{here, closes}
 use Rattle.rows.specs.Row.{laid, Fits}
-use Rattle.rows.proofs.Rec.{R}
-use Rattle.rows.proofs.Recs.{Recs, recs-makes}
-use Rattle.walks.proofs.Fields.{field-of, field-array}
+use Rattle.rows.proofs.StepType.{R}
+use Rattle.rows.proofs.RowType.{Recs, recs-makes}
+use Rattle.byhand.proofs.Fields.{field-of, field-array}
 use Rattle.rules.proofs.Step as S
 use Rattle.rows.proofs.store as store
 use Rattle.rows.proofs.store.Symbol as store-def
@@ -98,7 +98,8 @@ module _ {M : Type 1} (𝓤 : URA M) (H : Heap 𝓤) (A : Atoms 𝓤) (mem : Mem
   abbrev Stored : Contract 𝓤
   Stored = tripleOf 𝓤 H A store.signature (store.spec 𝓤 H A mem run)
 
-module _ {M : Type 1} (𝓤 : URA M) (H : Heap 𝓤) (A : Atoms 𝓤) (W : Given 𝓤 H A) (mem : Memory → SProp 𝓤) (run : Routine → Fun 𝓤) (κ κ′ : Lft) (q q′ : Share) (text : RefT (List ℕ)) (b o : ℕ) (γ : GName) (ys : List Step)
+module _ {M : Type 1} (𝓤 : URA M) (H : Heap 𝓤) (A : Atoms 𝓤) (W : Given 𝓤 H A) (mem : Memory → SProp 𝓤) (run : Routine → Fun 𝓤) (κ κ′ : Lft) (q q′ : Share) (text : RefT (List ℕ)) (b o : ℕ)
+    (γ : GName) (ys : List Step)
     (text-room : Room u8 (length (now text))) (room : Room R (length ys)) where
   abbrev κs : Lfts 2
   κs = (κ, (κ′, tt))
@@ -152,7 +153,8 @@ module _ {M : Type 1} (𝓤 : URA M) (H : Heap 𝓤) (A : Atoms 𝓤) (W : Given
   goes-stored : (r : Plan) → Is Recs (r .steps) (steps-val r ∷ []) → r .n < 2 ^ 64 → Fits (r .n) ys → ent 𝓤 (⋆ 𝓤 H A (‵ (flft κ′ q′) ∷ ‵ Table ∷ [])) (Stored 𝓤 H A mem run .pre (to-stored r))
   goes-stored r is gn few =
       qed W (‵ (flft κ′ q′) ∷ ‵ Table ∷ []) ∵ says ! few $ nothing ! $ move ! (1 ∷ 0 ∷ []) $ join ! $ frame ! $
-      nothing ! $ owned ! usize (Is usize) (uint-makes 𝓤 H A W w64) (r .n) _ (refl, gn) $ fjoin ! $ owned ! Recs (Is Recs) (recs-makes 𝓤 H A W) (r .steps) _ is $ fjoin ! $ move ! (1 ∷ 0 ∷ []) $ fjoin ! $ done !
+      nothing ! $ owned ! usize (Is usize) (uint-makes 𝓤 H A W w64) (r .n) _ (refl, gn) $ fjoin ! $ owned ! Recs (Is Recs) (recs-makes 𝓤 H A W) (r .steps) _ is $ fjoin ! $ move ! (1 ∷ 0 ∷ []) $
+      fjoin ! $ done !
 
   module _ (𝓣 : Tables 𝓤 H) (known-planned : Triple 𝓤 (𝓣 .C #entry·planned) (Planned 𝓤 H A mem run)) (known-stored : Triple 𝓤 (𝓣 .C #rows·store) (Stored 𝓤 H A mem run)) where
     module _ (l₀ l₁ l₂ l₃ l₄ l₅ l₆ l₇ : ℕ) where
@@ -160,30 +162,40 @@ module _ {M : Type 1} (𝓤 : URA M) (H : Heap 𝓤) (A : Atoms 𝓤) (W : Given
       ref = tyRef erased mut (pointee (R .written))
 
       abbrev En : Env 𝓤 H
-      En = (N′.mir, l₀) ∷ (sliceTy (tyRef (named 0) imm (tyInt w8)), l₁) ∷ (sliceTy (tyRef (named 1) mut (pointee (R .written))), l₂) ∷ (P′.mir, l₃) ∷ (word, l₄) ∷ (tyUnit, l₅) ∷ (ref, l₆) ∷ (sliceTy ref, l₇) ∷ []
+      En =
+          (N′.mir, l₀) ∷ (sliceTy (tyRef (named 0) imm (tyInt w8)), l₁) ∷ (sliceTy (tyRef (named 1) mut (pointee (R .written))), l₂) ∷ (P′.mir, l₃) ∷ (word, l₄) ∷ (tyUnit, l₅) ∷ (ref, l₆)
+          ∷ (sliceTy ref, l₇) ∷ []
 
-      -- once the plan r is made: [room for _7; …; _6; …; _5; …; _4; …; _3 = the plan; …; _2 = table; …; _1 = text; …; room for _0; …; the tokens; what table and text own]: local k stands at 2 · (7 − k)
+      -- once the plan r is made: [room for _7; …; _6; …; _5; …; _4; …; _3 = the plan; …; _2 = table; …; _1 = text; …; room for _0; …; the tokens;
+      -- what table and text own]: local k stands at 2 · (7 − k)
       abbrev Planned-at : Plan → List (Item 𝓤)
-      Planned-at r = ‵ (froom (sliceTy ref) l₇ 0) ∷ ‵ (fdies (sliceTy ref) l₇) ∷ ‵ (froom ref l₆ 0) ∷ ‵ (fdies ref l₆) ∷ ‵ (froom tyUnit l₅ 0) ∷ ‵ (fdies tyUnit l₅) ∷ ‵ (froom word l₄ 0) ∷ ‵ (fdies word l₄)
-          ∷ ‵ (fat fullShare P′.mir l₃ 0 (plan-val r)) ∷ ‵ (fdies P′.mir l₃) ∷ ‵ (fat fullShare (sliceTy (tyRef (named 1) mut (pointee (R .written)))) l₂ 0 v) ∷ ‵ (fdies (sliceTy (tyRef (named 1) mut (pointee (R .written)))) l₂)
+      Planned-at r =
+          ‵ (froom (sliceTy ref) l₇ 0) ∷ ‵ (fdies (sliceTy ref) l₇) ∷ ‵ (froom ref l₆ 0) ∷ ‵ (fdies ref l₆) ∷ ‵ (froom tyUnit l₅ 0) ∷ ‵ (fdies tyUnit l₅) ∷ ‵ (froom word l₄ 0) ∷ ‵ (fdies word l₄)
+          ∷ ‵ (fat fullShare P′.mir l₃ 0 (plan-val r)) ∷ ‵ (fdies P′.mir l₃) ∷ ‵ (fat fullShare (sliceTy (tyRef (named 1) mut (pointee (R .written)))) l₂ 0 v)
+          ∷ ‵ (fdies (sliceTy (tyRef (named 1) mut (pointee (R .written)))) l₂)
           ∷ ‵ (fat fullShare (sliceTy (tyRef (named 0) imm (tyInt w8))) l₁ 0 u) ∷ ‵ (fdies (sliceTy (tyRef (named 0) imm (tyInt w8))) l₁) ∷ ‵ (froom N′.mir l₀ 0) ∷ ‵ (fdies N′.mir l₀)
           ∷ ‵ (flft κ′ q′) ∷ ‵ Table ∷ ‵ (flft κ q) ∷ ‵ Text ∷ []
 
-      rest : (r : Plan) → Plans (now text) n r → Is Ans (r .answer) (ans-val (r .answer) ∷ []) → Is Recs (r .steps) (steps-val r ∷ []) → r .n < 2 ^ 64 → Sq W (Planned-at r) (runs (𝓣 .C) (𝓣 .Λ) En lines.t-3 (atRet En Post))
+      rest : (r : Plan) → Plans (now text) n r → Is Ans (r .answer) (ans-val (r .answer) ∷ []) → Is Recs (r .steps) (steps-val r ∷ []) → r .n < 2 ^ 64
+          → Sq W (Planned-at r) (runs (𝓣 .C) (𝓣 .Λ) En lines.t-3 (atRet En Post))
       rest r e is-a is gn =
           assigns ! (addr ! (from ! (fld ! refl (hop ! (look-in ! 10 (sub ! 0 refl (whole !))) (stop !))))) (from ! (stop !)) (init ! 2 refl (tt, tt)) $
-          assigns ! (agg ! (and-then ! (load ! (from ! (stop !)) (look ! 2 refl)) (and-then ! (load ! (from ! (fld ! refl (stop !))) (look-in ! 10 (sub ! 1 refl (whole !)))) (no-more !)))) (from ! (stop !)) (init ! 0 refl (tt, (tt, (record { fits = room .0 }, tt)))) $
+          assigns ! (agg ! (and-then ! (load ! (from ! (stop !)) (look ! 2 refl)) (and-then ! (load ! (from ! (fld ! refl (stop !))) (look-in ! 10 (sub ! 1 refl (whole !)))) (no-more !))))
+          (from ! (stop !)) (init ! 0 refl (tt, (tt, (record { fits = room .0 }, tt)))) $
           -- `store`
           move ! (16 ∷ 17 ∷ []) $ use2 W (raw (Stored 𝓤 H A mem run .pre (to-stored r))) (goes-stored r is gn (e .fits ys refl)) $
           calls-lasts ! (fmOf 𝓤 H (W .laws) 𝓣) store.ended (store.clauses 𝓤 H A mem run) known-stored (to-stored r) (λ _ ws. ws .0 ≡ laid (r .steps) (r .n) ys) (λ _ ws. id⊢ 𝓤 _)
-          (and-then ! (load ! (from ! (stop !)) (look ! 1 refl)) (and-then ! (load ! (from ! (fld ! refl (stop !))) (look-in ! 9 (sub ! 1 refl (whole !)))) (and-then ! (load ! (from ! (fld ! refl (stop !))) (look-in ! 9 (sub ! 2 refl (whole !)))) (no-more !)))) (λ w₁ r₁ ws e₁.
+          (and-then ! (load ! (from ! (stop !)) (look ! 1 refl))
+          (and-then ! (load ! (from ! (fld ! refl (stop !))) (look-in ! 9 (sub ! 1 refl (whole !))))
+          (and-then ! (load ! (from ! (fld ! refl (stop !))) (look-in ! 9 (sub ! 2 refl (whole !)))) (no-more !)))) (λ w₁ r₁ ws e₁.
           -- [what is said of the last values; the token; the unit; _7; …]
           fsplit ! $ fsplit ! $ move ! (1 ∷ []) $ feqL ! (λ l. move ! (2 ∷ []) $ use1 W (‵ (flft κ′ q′) ⊛ ‵ ftrue) (id⊢ 𝓤 _) $ split ! $ move ! (1 ∷ []) $ drop ! $ move ! (2 ∷ []) $ drop ! $
           move ! (2 ∷ []) $ facts ! unit (Is unit) (shows 𝓤 H A unit) r₁ (w₁ ∷ []) (λ is₁.
           -- [the token; the last row; _7; …; …; _0; …; text's token; what text owns]
           land ! (from ! (stop !)) (init ! 6 refl (nothing-lawful 𝓤 H A W .typed r₁ (w₁ ∷ []) is₁ .0)) $
           -- the answer: local k stands at 2 + 2 · (7 − k)
-          assigns ! (of-opd ! (load ! (from ! (fld ! refl (stop !))) (look-in ! 10 (sub ! 0 refl (whole !))))) (from ! (stop !)) (init ! 16 refl (EL.lawful N.the-type N′.the-laws 𝓤 H A W tt .typed (r .answer) _ is-a .0)) $
+          assigns ! (of-opd ! (load ! (from ! (fld ! refl (stop !))) (look-in ! 10 (sub ! 0 refl (whole !))))) (from ! (stop !))
+          (init ! 16 refl (EL.lawful N.the-type N′.the-laws 𝓤 H A W tt .typed (r .answer) _ is-a .0)) $
           returns ! (look ! 16 refl) $ forget ! 2 refl $ forget ! 4 refl $ forget ! 6 refl $ forget ! 10 refl $ forget ! 12 refl $ forget ! 14 refl $ forget ! 16 refl $
           move ! (16 ∷ 17 ∷ []) $ free1 ! $ move ! (14 ∷ 15 ∷ []) $ free1 ! $ move ! (12 ∷ 13 ∷ []) $ free1 ! $ move ! (10 ∷ 11 ∷ []) $ free1 ! $ move ! (8 ∷ 9 ∷ []) $ free1 ! $
           move ! (6 ∷ 7 ∷ []) $ free1 ! $ move ! (4 ∷ 5 ∷ []) $ free1 ! $ move ! (2 ∷ 3 ∷ []) $ free1 ! $ free0 ! $ keep ! (1 ∷ 0 ∷ 2 ∷ 3 ∷ []) $
@@ -191,7 +203,8 @@ module _ {M : Type 1} (𝓤 : URA M) (H : Heap 𝓤) (A : Atoms 𝓤) (W : Given
 
     walk : ent 𝓤 (onEntry 𝓤 H A prepare.signature κs (q, (q′, tt)) (text, (x, tt)) at) (WpFn 𝓤 H (𝓣 .C) (𝓣 .Λ) code.function (u ∷ v ∷ []) Post)
     walk =
-        qed W ((‵ (flft κ q) ⊛ ‵ (flft κ′ q′) ⊛ ‵ ftrue) ∷ ‵ (owns (ShrSlice (named 0) κ u8 ∷ MutSlice (named 1) κ′ R ∷ []) (text, (x, tt)) at) ∷ []) ∵ enter ! (𝓣 .C) (𝓣 .Λ) code.function (u ∷ v ∷ []) _ $
+        qed W ((‵ (flft κ q) ⊛ ‵ (flft κ′ q′) ⊛ ‵ ftrue) ∷ ‵ (owns (ShrSlice (named 0) κ u8 ∷ MutSlice (named 1) κ′ R ∷ []) (text, (x, tt)) at) ∷ []) ∵
+        enter ! (𝓣 .C) (𝓣 .Λ) code.function (u ∷ v ∷ []) _ $
         alloc1 ! (λ l₀. alloc1 ! (λ l₁. alloc1 ! (λ l₂. alloc1 ! (λ l₃. alloc1 ! (λ l₄. alloc1 ! (λ l₅. alloc1 ! (λ l₆. alloc1 ! (λ l₇. alloc0 ! $ params1 ! $
         pass1 ! (init ! 12 refl (tt, (tt, (record { fits = text-room .0 }, tt)))) $ pass1 ! (init ! 10 refl (tt, (tt, (record { fits = room .0 }, tt)))) $ pass0 ! $
         assigns ! (of-opd ! (load ! (from ! (fld ! refl (stop !))) (look-in ! 10 (sub ! 1 refl (whole !))))) (from ! (stop !)) (init ! 6 refl (tt, record { fits = room .0 })) $
@@ -200,7 +213,8 @@ module _ {M : Type 1} (𝓤 : URA M) (H : Heap 𝓤) (A : Atoms 𝓤) (W : Given
         move ! (20 ∷ []) $ split ! $ move ! (1 ∷ []) $ split ! $
         -- [table's token; true; text's token; what text owns, twice; what table owns; true; _7; …; room for _0; …]
         move ! (2 ∷ 3 ∷ []) $ use2 W (raw (Planned 𝓤 H A mem run .pre to-planned)) goes-planned $
-        calls-known ! (fmOf 𝓤 H (W .laws) 𝓣) planned.ended (planned.clauses 𝓤 H A mem run) known-planned to-planned (λ z. Plans (now text) n z) (λ z _. id⊢ 𝓤 _) (and-then ! (load ! (from ! (stop !)) (look ! 18 refl)) (and-then ! (load ! (from ! (stop !)) (look ! 12 refl)) (no-more !))) (λ w r e.
+        calls-known ! (fmOf 𝓤 H (W .laws) 𝓣) planned.ended (planned.clauses 𝓤 H A mem run) known-planned to-planned (λ z. Plans (now text) n z) (λ z _. id⊢ 𝓤 _)
+        (and-then ! (load ! (from ! (stop !)) (look ! 18 refl)) (and-then ! (load ! (from ! (stop !)) (look ! 12 refl)) (no-more !))) (λ w r e.
         use1 W (‵ (flft κ q) ⊛ ‵ ftrue) (id⊢ 𝓤 _) $ split ! $ move ! (2 ∷ []) $ facts ! P.the-row (Is P.the-row) (shows 𝓤 H A P.the-row) r (w ∷ []) (λ is.
         -- [text's token; true; table's token; true; what text owns; what table owns; true; _7; …; room for _0; …]
         land ! (from ! (stop !)) (init ! 15 refl (LL.lawful P.the-type P′.the-laws 𝓤 H A W .typed r _ is .0)) $
@@ -212,8 +226,12 @@ module _ {M : Type 1} (𝓤 : URA M) (H : Heap 𝓤) (A : Atoms 𝓤) (W : Given
 module _ {M : Type 1} (𝓤 : URA M) (H : Heap 𝓤) (A : Atoms 𝓤) (W : Given 𝓤 H A) (mem : Memory → SProp 𝓤) (run : Routine → Fun 𝓤) (𝓣 : Tables 𝓤 H)
     (known-planned : Triple 𝓤 (𝓣 .C #entry·planned) (Planned 𝓤 H A mem run)) (known-stored : Triple 𝓤 (𝓣 .C #rows·store) (Stored 𝓤 H A mem run)) where
   prepare-walks : Walks 𝓤 H A prepare.ended stayed (WpFn 𝓤 H (𝓣 .C) (𝓣 .Λ) code.function) (prepare.clauses 𝓤 H A mem run)
-  prepare-walks = walked 𝓤 H A prepare.ended stayed (prepare.clauses 𝓤 H A mem run) (WpFn 𝓤 H (𝓣 .C) (𝓣 .Λ) code.function) (λ κs. (slice-vals, (slice-vals, tt))) (λ κs. (shr-slice-tells (named 0) (κs .0) u8, (mut-slice-tells (named 1) (κs .1 .0) R, tt)))
-      (λ κs qs bounds a g are. via 𝓤 _ (fst∗ 𝓤 _ (emp 𝓤)) (walk 𝓤 H A W mem run (κs .0) (κs .1 .0) (qs .0) (qs .1 .0) (a .0) (a .1 .0 .ptr .0) (a .1 .0 .ptr .1) (a .1 .0 .name) (a .1 .0 .now) (are .0 .0 .1) (are .1 .0 .0 .1) 𝓣 known-planned known-stored))
+  prepare-walks =
+      walked 𝓤 H A prepare.ended stayed (prepare.clauses 𝓤 H A mem run) (WpFn 𝓤 H (𝓣 .C) (𝓣 .Λ) code.function) (λ κs. (slice-vals, (slice-vals, tt)))
+      (λ κs. (shr-slice-tells (named 0) (κs .0) u8, (mut-slice-tells (named 1) (κs .1 .0) R, tt)))
+      (λ κs qs bounds a g are. via 𝓤 _ (fst∗ 𝓤 _ (emp 𝓤))
+      (walk 𝓤 H A W mem run (κs .0) (κs .1 .0) (qs .0) (qs .1 .0) (a .0) (a .1 .0 .ptr .0) (a .1 .0 .ptr .1) (a .1 .0 .name) (a .1 .0 .now) (are .0 .0 .1)
+      (are .1 .0 .0 .1) 𝓣 known-planned known-stored))
 
 pub prepare-spec : {M : Type 1} → stated.statement M
 unfolding code.routine tablesOf

@@ -1,4 +1,6 @@
-use Rattle.foretell.proofs.Passing.{checks-refused, nowhere-bad, checks-so}
+-- `check`: where `refusal18` finds a bad record the verdict is 18 at its place; where it finds none the table is one that `checked`
+-- requires.
+use Rattle.foretell.proofs.CheckSoFar.{checks-refused, nowhere-bad, checks-so}
 use borrow.Author.Needs.{needs}
 use Rattle.foretell.proofs.check.Statement.{statement}
 use Rattle.foretell.proofs.check.Tie as tie
@@ -22,7 +24,9 @@ returns : tie.Need-returns
 returns c = checks-refused (c .before .before .before .before .refusal18 .ensures) (c .before .before .place .given .1) (c .only .ensures)
 
 returns-2 : tie.Need-returns-2
-returns-2 c = checks-so (nowhere-bad _ (c .before .before .before .refusal18 .ensures) (c .before .enum-told .given .1)) (c .checked .ensures)
+returns-2 c =
+    let refusal18 = c .before .before .before .refusal18 .ensures in
+    checks-so (nowhere-bad _ refusal18 (c .before .enum-told .given .1)) (c .checked .ensures)
 
 pub check-spec : {M : Type 1} → statement M
 check-spec =

@@ -1,8 +1,9 @@
+-- `length_of`: n is the length of the lines of the first i parts (`Total`), and small enough that no sum wraps. `count - i` is the measure.
 use Prim.Native.Nat.{_-_}
 use native.Mathlib.Omega.{arith}
-use Rattle.table.specs.Parts.{tableIn}
-use Rattle.elements.proofs.Tabling.{no-part}
-use Rattle.parameters.proofs.Lining.{Total, total-none, total-part, total-more, total-small, total-end}
+use Rattle.parameters.specs.Parts.{tableIn}
+use Rattle.parameters.proofs.Tabled.{no-part}
+use Rattle.parameters.proofs.Lines.{Total, total-none, total-part, total-more, total-small, total-end}
 use borrow.Author.Needs.{fits-under}
 use borrow.Author.Needs.{needs}
 use Rattle.parameters.proofs.length_of.Statement.{statement}
@@ -24,16 +25,24 @@ sub-n : tie.Need-sub-n Inv-loop μ-loop
 sub-n c = rw (c .before .part-at .ensures) (total-part (c .before .before .before .loop .inv) no-part (c .before .before .loop-test .taken) .key-ahead)
 
 add-n : tie.Need-add-n Inv-loop μ-loop
-add-n c = rw (c .before .part-at .ensures) (fits-under _ _ 2622081 (omega (arith, total-small (c .before .before .before .loop .inv) no-part (c .before .before .loop-test .taken))) tt)
+add-n c =
+    let turn = c .before .before .before in
+    rw (c .before .part-at .ensures) (fits-under _ _ 2622081 (omega (arith, total-small (turn .loop .inv) no-part (c .before .before .loop-test .taken))) tt)
 
 sub-n-2 : tie.Need-sub-n-2 Inv-loop μ-loop
-sub-n-2 c = rw (c .before .before .part-at .ensures) (total-part (c .before .before .before .before .loop .inv) no-part (c .before .before .before .loop-test .taken) .value-ahead)
+sub-n-2 c =
+    let turn = c .before .before .before in
+    rw (c .before .before .part-at .ensures) (total-part (turn .before .loop .inv) no-part (turn .loop-test .taken) .value-ahead)
 
 add-n-2 : tie.Need-add-n-2 Inv-loop μ-loop
-add-n-2 c = rw (c .before .before .part-at .ensures) (fits-under _ _ 2622081 (omega (arith, total-small (c .before .before .before .before .loop .inv) no-part (c .before .before .before .loop-test .taken))) tt)
+add-n-2 c =
+    let turn = c .before .before .before in
+    rw (c .before .before .part-at .ensures) (fits-under _ _ 2622081 (omega (arith, total-small (turn .before .loop .inv) no-part (turn .loop-test .taken))) tt)
 
 add-n-3 : tie.Need-add-n-3 Inv-loop μ-loop
-add-n-3 c = rw (c .before .before .part-at .ensures) (fits-under _ _ 2622081 (omega (arith, total-small (c .before .before .before .before .loop .inv) no-part (c .before .before .before .loop-test .taken))) tt)
+add-n-3 c =
+    let turn = c .before .before .before in
+    rw (c .before .before .part-at .ensures) (fits-under _ _ 2622081 (omega (arith, total-small (turn .before .loop .inv) no-part (turn .loop-test .taken))) tt)
 
 add-i : tie.Need-add-i Inv-loop μ-loop
 add-i c = search needs

@@ -1,7 +1,8 @@
+-- `lines_of`: the lines of the first i parts are written, and those of the others are to come (`Lines`). `count - i` is the measure.
 use Prim.Native.Nat.{_-_}
-use Rattle.table.specs.Parts.{tableIn}
-use Rattle.elements.proofs.Tabling.{no-part}
-use Rattle.parameters.proofs.Lining.{Lines, lines-start, lines-part, lines-room, lines-turn, lines-kept, lines-done}
+use Rattle.parameters.specs.Parts.{tableIn}
+use Rattle.parameters.proofs.Tabled.{no-part}
+use Rattle.parameters.proofs.Lines.{Lines, lines-start, lines-part, lines-room, lines-turn, lines-kept, lines-done}
 use borrow.Author.Needs.{needs}
 use Rattle.parameters.proofs.lines_of.Statement.{statement}
 use Rattle.parameters.proofs.lines_of.Tie as tie
@@ -19,7 +20,9 @@ part-at-requires : tie.Need-part-at-requires Inv-loop μ-loop
 part-at-requires c κs = search needs
 
 line-at-requires : tie.Need-line-at-requires Inv-loop μ-loop
-line-at-requires c κs = rw (c .before .part-at .ensures) (lines-part (c .before .before .before .loop .inv) no-part (c .before .before .loop-test .taken), lines-room (c .before .before .before .loop .inv) no-part (c .before .before .loop-test .taken))
+line-at-requires c κs =
+    let turn = c .before .before in
+    rw (c .before .part-at .ensures) (lines-part (turn .before .loop .inv) no-part (turn .loop-test .taken), lines-room (turn .before .loop .inv) no-part (turn .loop-test .taken))
 
 add-i : tie.Need-add-i Inv-loop μ-loop
 add-i c = search needs
@@ -28,7 +31,9 @@ loop-less : tie.Need-loop-less Inv-loop μ-loop
 loop-less c = search needs
 
 loop-again : tie.Need-loop-again Inv-loop μ-loop
-loop-again c = lines-turn (c .before .before .before .before .before .before .loop .inv) no-part (c .before .before .before .before .before .loop-test .taken) (c .before .before .before .before .part-at .ensures) (c .before .before .line-at .ensures)
+loop-again c =
+    let got = c .before .before .before .before in
+    lines-turn (got .before .before .loop .inv) no-part (got .before .loop-test .taken) (got .part-at .ensures) (c .before .before .line-at .ensures)
 
 same-length : tie.Need-same-length Inv-loop μ-loop
 same-length c = lines-kept (c .before .loop .inv)

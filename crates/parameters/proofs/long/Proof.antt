@@ -1,8 +1,12 @@
-use lib.ListN.{length-replicate}
+-- `long`: what `answer` ensures, over buffers of 40,969 and 40,960 bytes: 4,096 bytes, ten times as long, have room there, and nine bytes more
+-- in the first.
+use mathlib.Core.Path.{sym}
 use Prim.Native.Nat.{ℕ}
-use denote.Ref.{now}
 use native.Mathlib.Omega.{arith}
-use Rattle.parameters.proofs.Answering.{nine-room}
+use lib.ListN.{length-replicate}
+use denote.Ref.{now}
+use Rattle.laws_text.specs.Sizes.{tenfold}
+use Rattle.parameters.proofs.Laws.{nine-room}
 use borrow.Author.Needs.{needs}
 use Rattle.parameters.proofs.long.Statement.{statement}
 use Rattle.parameters.proofs.long.Tie as tie
@@ -14,7 +18,12 @@ slice-aggregate-answer-2 : tie.Need-slice-aggregate-answer-2
 slice-aggregate-answer-2 c = search needs
 
 answer-requires : tie.Need-answer-requires
-answer-requires c κs = let p = c .before .before .before .before .before .pre in let t = now (c .before .before .before .before .before .args .text) in (p .0, (p .1, (rw (length-replicate {A = ℕ} 40969 0) (nine-room t 4096 (p .0) (omega arith)), rw (length-replicate {A = ℕ} 40960 0) (omega (arith, p .0)))))
+answer-requires c κs =
+    let s = c .before .before .before .before .before in
+    let t = now (s .args .text) in
+    let nine = nine-room t 4096 (s .pre .0) (omega arith) (sym (length-replicate {A = ℕ} 40969 0)) in
+    let room = tenfold t 4096 (s .pre .0) (omega arith) (sym (length-replicate {A = ℕ} 40960 0)) in
+    (omega (arith, s .pre .0), (s .pre .1, (nine, room)))
 
 same-length : tie.Need-same-length
 same-length c = search needs

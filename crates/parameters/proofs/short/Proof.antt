@@ -1,6 +1,12 @@
-use denote.Ref.{now}
+-- `short`: what `answer` ensures, over two buffers of 4,096 bytes: 408 bytes, ten times as long, have room there, and nine bytes more
+-- in the first.
+use mathlib.Core.Path.{sym}
+use Prim.Native.Nat.{ℕ}
 use native.Mathlib.Omega.{arith}
-use Rattle.parameters.proofs.Answering.{nine-room}
+use lib.ListN.{length-replicate}
+use denote.Ref.{now}
+use Rattle.laws_text.specs.Sizes.{tenfold}
+use Rattle.parameters.proofs.Laws.{nine-room}
 use borrow.Author.Needs.{needs}
 use Rattle.parameters.proofs.short.Statement.{statement}
 use Rattle.parameters.proofs.short.Tie as tie
@@ -12,7 +18,12 @@ slice-aggregate-answer-2 : tie.Need-slice-aggregate-answer-2
 slice-aggregate-answer-2 c = search needs
 
 answer-requires : tie.Need-answer-requires
-answer-requires c κs = let p = c .before .before .before .before .before .pre in let t = now (c .before .before .before .before .before .args .text) in let r = nine-room t 408 {x = 4096} (p .0) (omega arith) in (omega arith, (p .1, (r, omega arith)))
+answer-requires c κs =
+    let s = c .before .before .before .before .before in
+    let t = now (s .args .text) in
+    let nine = nine-room t 408 (s .pre .0) (omega arith) (sym (length-replicate {A = ℕ} 4096 0)) in
+    let room = tenfold t 408 (s .pre .0) (omega arith) (sym (length-replicate {A = ℕ} 4096 0)) in
+    (omega (arith, s .pre .0), (s .pre .1, (nine, room)))
 
 same-length : tie.Need-same-length
 same-length c = search needs

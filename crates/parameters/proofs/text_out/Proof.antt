@@ -1,5 +1,7 @@
-use Rattle.elements.proofs.Tabling.{spelt-fits, spelt-front}
-use Rattle.parameters.proofs.Replying.{text-name, text-step}
+-- `text_out`: a `|` stands in the text just where the run of other bytes from its front ends before the text does; with one the text is a
+-- name, and without it a step.
+use Rattle.parameters.proofs.Tabled.{spelt-fits, spelt-front}
+use Rattle.parameters.proofs.Replies.{text-name, text-step}
 use borrow.Author.Needs.{needs}
 use Rattle.parameters.proofs.text_out.Statement.{statement}
 use Rattle.parameters.proofs.text_out.Tie as tie
@@ -17,7 +19,10 @@ same-length : tie.Need-same-length
 same-length c = search needs
 
 returns : tie.Need-returns
-returns c = let t = c .before .before .before .before .before .before .before .before .before in text-name (t .args .s .now) (t .args .n) (spelt-fits (t .pre .0)) (c .before .before .before .before .before .run-end .ensures) (c .before .before .before .before .if1 .taken) (c .before .before .name-out .ensures)
+returns c =
+    let branch = c .before .before .before .before in
+    let s = branch .before .before .before .before .before in
+    text-name (s .args .s .now) (s .args .n) (spelt-fits (s .pre .0)) (branch .before .run-end .ensures) (branch .if1 .taken) (c .before .before .name-out .ensures)
 
 step-out-requires : tie.Need-step-out-requires
 step-out-requires c κs = search needs
@@ -26,7 +31,10 @@ same-length-2 : tie.Need-same-length-2
 same-length-2 c = search needs
 
 returns-2 : tie.Need-returns-2
-returns-2 c = let t = c .before .before .before .before .before .before .before .before .before in text-step (t .args .s .now) (t .args .n) (spelt-fits (t .pre .0)) (c .before .before .before .before .before .run-end .ensures) (c .before .before .before .before .if1 .left) (c .before .before .step-out .ensures)
+returns-2 c =
+    let branch = c .before .before .before .before in
+    let s = branch .before .before .before .before .before in
+    text-step (s .args .s .now) (s .args .n) (spelt-fits (s .pre .0)) (branch .before .run-end .ensures) (branch .if1 .left) (c .before .before .step-out .ensures)
 
 pub text-out-spec : {M : Type 1} → statement M
 text-out-spec =

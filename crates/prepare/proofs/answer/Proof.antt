@@ -1,45 +1,74 @@
-use Rattle.prepare.proofs.Lending.{normal-roomy}
+-- `answer`: the text's normal form stands in a; it has no separator but `|` and is no longer than the buffers, which is what `prepare_steps` asks for.
 use mathlib.Core.Path.{_∙_}
-use Rattle.text.proofs.Writing.{wrote-fits, wrote-counts}
-use Rattle.prepare.proofs.Lending.{normal-there, normal-room, prepare-so}
+use denote.Ref.{now}
+use Rattle.text.proofs.Wrote.{wrote-fits, wrote-counts}
+use Rattle.prepare.proofs.TextReply.{normal-there, normal-room, normal-roomy, prepare-so}
 use Rattle.prepare.proofs.answer.Statement.{statement}
 use Rattle.prepare.proofs.answer.Tie as tie
 
 clean-into-requires : tie.Need-clean-into-requires
-clean-into-requires c κs = let p = c .before .before .before .before .before .before .before .before .pre .1 .1 .1 in (p .0, (p .1 .0, p .1 .1 .0))
+clean-into-requires c κs =
+    let start = c .before .before .before .before .before .before .before .before in
+    let p = start .pre .1 .1 .1 in (p .0, (p .1 .0, p .1 .1 .0))
 
-slice-reshare-prefix-prepare-normal : tie.Need-slice-reshare-prefix-prepare-normal
-slice-reshare-prefix-prepare-normal c = wrote-fits (c .before .before .before .before .before .before .clean-into .ensures)
+slice-reshare-prefix-prepare-steps : tie.Need-slice-reshare-prefix-prepare-steps
+slice-reshare-prefix-prepare-steps c =
+    let cleaned = c .before .before .before .before .before .before in
+    wrote-fits (cleaned .clean-into .ensures)
 
-slice-aggregate-prepare-normal : tie.Need-slice-aggregate-prepare-normal
-slice-aggregate-prepare-normal c = wrote-counts (c .before .before .before .before .before .before .before .clean-into .ensures)
+slice-aggregate-prepare-steps : tie.Need-slice-aggregate-prepare-steps
+slice-aggregate-prepare-steps c =
+    let cleaned = c .before .before .before .before .before .before .before in
+    wrote-counts (cleaned .clean-into .ensures)
 
-prepare-normal-requires : tie.Need-prepare-normal-requires
-prepare-normal-requires c κs = let t = c .before .before .before .before .before .before .before .before .before .before .before .before .before .before .before .before .before .before .before in let p = t .pre .1 .1 in let k = c .before .before .before .before .before .before .before .before .before .before .clean-into in (normal-there (t .args .text .now) (t .args .table) (k .ensures), (p .0, (normal-roomy (t .args .text .now) (t .args .table) (k .ensures) (p .1 .1 .1 .1) (p .1 .1 .0) (k .kept .1 .1 .0), normal-room (t .args .text .now) (t .args .table) (k .ensures) (p .1 .1 .1 .0) (k .kept .1 .1 .1 .0))))
+prepare-steps-requires : tie.Need-prepare-steps-requires
+prepare-steps-requires c κs =
+    let cleaned = c .before .before .before .before .before .before .before .before .before .before in
+    let start = cleaned .before .before .before .before .before .before .before .before .before in
+    let p = start .pre .1 .1 in
+    let text = now (start .args .text) in
+    let table = start .args .table in
+    let roomy = normal-roomy text table (cleaned .clean-into .ensures) (p .1 .1 .1 .1) (p .1 .1 .0) (cleaned .clean-into .kept .1 .1 .0) in
+    let room = normal-room text table (cleaned .clean-into .ensures) (p .1 .1 .1 .0) (cleaned .clean-into .kept .1 .1 .1 .0) in
+    (normal-there text table (cleaned .clean-into .ensures), (p .0, (roomy, room)))
 
 same-length : tie.Need-same-length
-same-length c = c .before .before .before .before .before .before .before .before .before .before .before .before .before .before .before .before .before .clean-into .kept .1 .0
+same-length c =
+    let cleaned = c .before .before .before .before .before .before .before .before .before .before .before .before .before .before .before .before .before in
+    cleaned .clean-into .kept .1 .0
 
 same-length-2 : tie.Need-same-length-2
-same-length-2 c = c .before .before .before .before .before .before .prepare-normal .kept .1 .1 .1 .0 ∙ c .before .before .before .before .before .before .before .before .before .before .before .before .before .before .before .before .before .clean-into .kept .1 .1 .0
+same-length-2 c =
+    let prepared = c .before .before .before .before .before .before in
+    let cleaned = prepared .before .before .before .before .before .before .before .before .before .before .before in
+    prepared .prepare-steps .kept .1 .1 .1 .0 ∙ cleaned .clean-into .kept .1 .1 .0
 
 same-length-3 : tie.Need-same-length-3
-same-length-3 c = c .before .before .before .before .before .before .prepare-normal .kept .1 .1 .1 .1 .0 ∙ c .before .before .before .before .before .before .before .before .before .before .before .before .before .before .before .before .before .clean-into .kept .1 .1 .1 .0
+same-length-3 c =
+    let prepared = c .before .before .before .before .before .before in
+    let cleaned = prepared .before .before .before .before .before .before .before .before .before .before .before in
+    prepared .prepare-steps .kept .1 .1 .1 .1 .0 ∙ cleaned .clean-into .kept .1 .1 .1 .0
 
 same-length-4 : tie.Need-same-length-4
-same-length-4 c = c .before .before .before .before .before .before .prepare-normal .kept .1 .1 .0
+same-length-4 c =
+    let prepared = c .before .before .before .before .before .before in
+    prepared .prepare-steps .kept .1 .1 .0
 
 returns : tie.Need-returns
-returns c = let t = c .before .before .before .before .before .before .before .before .before .before .before .before .before .before .before .before .before .before .before .before .before .before .before .before .before .before in prepare-so (t .args .text .now) (t .args .table) (c .before .before .before .before .before .before .before .before .before .before .before .before .before .before .before .before .before .clean-into .ensures) (t .pre .0) (t .pre .1 .0) (c .before .before .before .before .before .before .prepare-normal .ensures)
+returns c =
+    let prepared = c .before .before .before .before .before .before in
+    let cleaned = prepared .before .before .before .before .before .before .before .before .before .before .before in
+    let start = cleaned .before .before .before .before .before .before .before .before .before in
+    prepare-so (now (start .args .text)) (start .args .table) (cleaned .clean-into .ensures) (start .pre .0) (start .pre .1 .0) (prepared .prepare-steps .ensures)
 
 pub answer-spec : {M : Type 1} → statement M
 answer-spec =
     tie.close
     (tie.spec
     clean-into-requires
-    slice-reshare-prefix-prepare-normal
-    slice-aggregate-prepare-normal
-    prepare-normal-requires
+    slice-reshare-prefix-prepare-steps
+    slice-aggregate-prepare-steps
+    prepare-steps-requires
     same-length
     same-length-2
     same-length-3

@@ -1,9 +1,11 @@
-use Rattle.proj.proofs.Flawing.{Flawing, flawing-start, flawing-end, flawing-here, flawing-next}
-use Rattle.projwalk.proofs.Piecing.{step-at, step-none}
-use Rattle.projstep.specs.Plans.{pipelineOf}
-use lib.ListN.{length}
+-- `flaw_of`: no step before the place is at fault, and as many stand before it as are counted (`Flawing`). So the first that is found is
+-- the first faulty one; the walk moves ahead, and what is left of the text is the measure.
 use Prim.Native.Nat.{_-_}
 use native.Mathlib.Omega.{arith}
+use lib.ListN.{length}
+use Rattle.proj.proofs.Flaws.{Flawing, flawing-start, flawing-end, flawing-here, flawing-next}
+use Rattle.proj_words.proofs.Pieces.{step-at, step-none}
+use Rattle.proj_steps.specs.Plans.{pipelineOf}
 use borrow.Author.Needs.{needs}
 use Rattle.proj.proofs.flaw_of.Statement.{statement}
 use Rattle.proj.proofs.flaw_of.Tie as tie
@@ -42,16 +44,29 @@ step-flaw-requires : tie.Need-step-flaw-requires Inv-loop μ-loop
 step-flaw-requires c κs = let s = step-at (c .before .before .before .before .next-proj .ensures) (c .before .before .found .given .1) in s .worded
 
 returns-2 : tie.Need-returns-2 Inv-loop μ-loop
-returns-2 c = let s = step-at (c .before .before .before .before .before .before .next-proj .ensures) (c .before .before .before .before .found .given .1) in flawing-here (c .before .before .before .before .before .before .before .loop .inv) s (c .before .step-flaw .ensures) (c .if1 .taken)
+returns-2 c =
+    let there = c .before .before .before .before in
+    let turn = there .before .before .before in
+    let s = step-at (there .before .before .next-proj .ensures) (there .found .given .1) in
+    flawing-here (turn .loop .inv) s (c .before .step-flaw .ensures) (c .if1 .taken)
 
 add-place : tie.Need-add-place Inv-loop μ-loop
-add-place c = omega (arith, c .before .before .before .before .before .before .before .loop .inv .few, c .before .before .before .before .before .before .before .loop .inv .within, c .before .before .before .before .before .before .before .loop .inv .small)
+add-place c =
+    let turn = c .before .before .before .before .before .before .before in
+    omega (arith, turn .loop .inv .few, turn .loop .inv .within, turn .loop .inv .small)
 
 loop-less : tie.Need-loop-less Inv-loop μ-loop
-loop-less c = let s = step-at (c .before .before .before .before .before .before .next-proj .ensures) (c .before .before .before .before .found .given .1) in omega (arith, s .further, s .ends)
+loop-less c =
+    let there = c .before .before .before .before in
+    let s = step-at (there .before .before .next-proj .ensures) (there .found .given .1) in
+    omega (arith, s .further, s .ends)
 
 loop-again : tie.Need-loop-again Inv-loop μ-loop
-loop-again c = let s = step-at (c .before .before .before .before .before .before .next-proj .ensures) (c .before .before .before .before .found .given .1) in flawing-next (c .before .before .before .before .before .before .before .loop .inv) s (c .before .step-flaw .ensures) (c .if1 .left)
+loop-again c =
+    let there = c .before .before .before .before in
+    let turn = there .before .before .before in
+    let s = step-at (there .before .before .next-proj .ensures) (there .found .given .1) in
+    flawing-next (turn .loop .inv) s (c .before .step-flaw .ensures) (c .if1 .left)
 
 pub flaw-of-spec : {M : Type 1} → statement M
 flaw-of-spec =

@@ -1,4 +1,5 @@
-use Rattle.proj.proofs.Answering.{other-bar, other-proj}
+-- `is_other`: `find` stops before the text's end just where there is a `|`, and comes to its end just where there is no `proj`.
+use Rattle.proj.proofs.Laws.{other-bar, other-proj}
 use borrow.Author.Needs.{needs}
 use Rattle.proj.proofs.is_other.Statement.{statement}
 use Rattle.proj.proofs.is_other.Tie as tie

@@ -1,9 +1,11 @@
-use Rattle.split.proofs.Answering.{tenfold, tenfold-less}
-use lib.ListN.{length-replicate}
+-- `short`: what `answer` ensures, over three buffers of 4,096 bytes: 409 bytes, ten times as long, have room there, and one to
+-- spare where that is asked.
+use mathlib.Core.Path.{sym}
 use Prim.Native.Nat.{ℕ}
 use native.Mathlib.Omega.{arith}
+use lib.ListN.{length-replicate}
 use denote.Ref.{now}
-use mathlib.Core.Path.{sym}
+use Rattle.laws_text.specs.Sizes.{tenfold, tenfold-less}
 use borrow.Author.Needs.{needs}
 use Rattle.proj.proofs.short.Statement.{statement}
 use Rattle.proj.proofs.short.Tie as tie
@@ -18,7 +20,12 @@ slice-aggregate-answer-3 : tie.Need-slice-aggregate-answer-3
 slice-aggregate-answer-3 c = search needs
 
 answer-requires : tie.Need-answer-requires
-answer-requires c κs = (omega (arith, c .before .before .before .before .before .before .pre .0), (c .before .before .before .before .before .before .pre .1 .0, (c .before .before .before .before .before .before .pre .1 .1, (tenfold (now (c .before .before .before .before .before .before .args .text)) 409 (c .before .before .before .before .before .before .pre .0) (omega arith) (sym (length-replicate {A = ℕ} 4096 0)), (tenfold-less (now (c .before .before .before .before .before .before .args .text)) 409 (c .before .before .before .before .before .before .pre .0) (omega arith) (sym (length-replicate {A = ℕ} 4096 0)), tenfold (now (c .before .before .before .before .before .before .args .text)) 409 (c .before .before .before .before .before .before .pre .0) (omega arith) (sym (length-replicate {A = ℕ} 4096 0)))))))
+answer-requires c κs =
+    let s = c .before .before .before .before .before .before in
+    let t = now (s .args .text) in
+    let room = tenfold t 409 (s .pre .0) (omega arith) (sym (length-replicate {A = ℕ} 4096 0)) in
+    let more = tenfold-less t 409 (s .pre .0) (omega arith) (sym (length-replicate {A = ℕ} 4096 0)) in
+    (omega (arith, s .pre .0), (s .pre .1 .0, (s .pre .1 .1, (room, (more, room)))))
 
 same-length : tie.Need-same-length
 same-length c = search needs

@@ -1,3 +1,4 @@
+-- A table of blank records, for a row of so many.
 use mathlib.Core.Path.{_≡_, ap, _∙_}
 use mathlib.Core.List.{List}
 use Prim.Native.Nat.{ℕ}

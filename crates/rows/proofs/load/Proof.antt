@@ -29,7 +29,8 @@ use contract.Monad.{Fun}
 use contract.Running.{givenOf, tablesOf}
 use types.Kit.{Given, Item, Sq, runs, anyQ, atRet, ‵, raw, _⊛_, given, ⋆, _$_, _∵_, !, qed, by, move, drop, use0, use1, split, join, rewrite, learn, fsplit, fjoin, suffices, frame, done}
 use types.Part.{whole, sub, look-in}
-use types.Run.{look, look-raw, init, store, store-raw, forget, stop, hop, fld, from, load, lit, addr, of-opd, bin, and-then, no-more, assigns, assigns-last, land, stays, leaves-loop, first, blocks, exec, returns, returns-within, enter, alloc1, alloc0, params1, pass1, pass0, free1, free0, Below, again, loops}
+use types.Run.{look, look-raw, init, store, store-raw, forget, stop, hop, fld, from, load, lit, addr, of-opd, bin, and-then, no-more, assigns, assigns-last, land, stays}
+use types.Run.{leaves-loop, first, blocks, exec, returns, returns-within, enter, alloc1, alloc0, params1, pass1, pass0, free1, free0, Below, again, loops}
 use types.Share.{arr-parts}
 use borrow.Author.Tests.{ltb-true, ltb-false, leb-true, leb-false}
 use sound.WpLaws.{fmOf}
@@ -49,18 +50,18 @@ use denote.Triple.Spec.{tripleOf}
 use denote.Triple.Table.{cited}
 use denote.Triple.Walked.{says, Stays, stay-none-slice, walkOf, goes-none-slice, Walks, ends-at, walked}
 use denote.Exit.{yes}
-use Rattle.rules.specs.Record.{blank}
+use Rattle.rules.specs.Pipeline.Record.{blank}
 use Rattle.rows.specs.Row.{blanks, tabled, laid}
-use Rattle.rows.specs.Laying.{length-blanks, laid-none, laid-one, laid-length}
+use Rattle.rows.specs.LaidRow.{length-blanks, laid-none, laid-one, laid-length}
 use Rattle.rules.specs.declared.Step.{Step}
 use Rattle.rules.specs.declared.Table.{Table}
-use Rattle.walks.proofs.Branch.{passes-by, goes-in}
-use Rattle.walks.proofs.Callee.{calls-known}
-use Rattle.walks.proofs.Counting.{Upto, Nearer, nearer-wf, either}
-use Rattle.walks.proofs.Close.{here, closes}
-use Rattle.rows.proofs.Rec.{R, val, vals, tells, copies, makes, typed, fits}
-use Rattle.rows.proofs.Recs.{Recs, recs-vals, recs-val, recs-ty, recs-is, recs-has, recs-makes, recs-typed, recs-out, recs-in}
-use Rattle.rows.proofs.Tab.{Tab, tab-typed}
+use Rattle.byhand.proofs.Branch.{passes-by, goes-in}
+use Rattle.byhand.proofs.Callee.{calls-known}
+use Rattle.byhand.proofs.Counting.{Upto, Nearer, nearer-wf, either}
+use Rattle.byhand.proofs.Close.{here, closes}
+use Rattle.rows.proofs.StepType.{R, val, vals, tells, copies, makes, typed, fits, record-size}
+use Rattle.rows.proofs.RowType.{Recs, recs-vals, recs-val, recs-ty, recs-is, recs-has, recs-makes, recs-typed, recs-out, recs-in}
+use Rattle.rows.proofs.TableType.{Tab, tab-typed}
 use Rattle.rules.proofs.Step.Laws as S′
 use Rattle.rules.proofs.Table.Laws as T′
 use Rattle.rows.proofs.blank_row as blank
@@ -107,7 +108,8 @@ module _ {M : Type 1} (𝓤 : URA M) (H : Heap 𝓤) (A : Atoms 𝓤) (mem : Mem
   abbrev TableOf : Contract 𝓤
   TableOf = tripleOf 𝓤 H A tabling.signature (tabling.spec 𝓤 H A mem run)
 
-module _ {M : Type 1} (𝓤 : URA M) (H : Heap 𝓤) (A : Atoms 𝓤) (W : Given 𝓤 H A) (mem : Memory → SProp 𝓤) (run : Routine → Fun 𝓤) (κ : Lft) (q : Share) (b o : ℕ) (γ : GName) (ys : List Step) (room : Room R (length ys)) where
+module _ {M : Type 1} (𝓤 : URA M) (H : Heap 𝓤) (A : Atoms 𝓤) (W : Given 𝓤 H A) (mem : Memory → SProp 𝓤) (run : Routine → Fun 𝓤) (κ : Lft) (q : Share) (b o : ℕ) (γ : GName) (ys : List Step)
+    (room : Room R (length ys)) where
   abbrev n : ℕ
   n = length ys
 
@@ -174,7 +176,9 @@ module _ {M : Type 1} (𝓤 : URA M) (H : Heap 𝓤) (A : Atoms 𝓤) (W : Given
     Λ = 𝓣 .Λ
 
     abbrev En : Env 𝓤 H
-    En = (T′.mir, l₀) ∷ (slice, l₁) ∷ (word, l₂) ∷ (recs-ty, l₃) ∷ (recs-ty, l₄) ∷ (word, l₅) ∷ (tyBool, l₆) ∷ (recs-ty, l₇) ∷ (word, l₈) ∷ (tyPtr, l₉) ∷ (S′.mir, l₁₀) ∷ (word, l₁₁) ∷ (tyPtr, l₁₂) ∷ (tyPtr, l₁₃) ∷ (recs-ty, l₁₄) ∷ []
+    En =
+        (T′.mir, l₀) ∷ (slice, l₁) ∷ (word, l₂) ∷ (recs-ty, l₃) ∷ (recs-ty, l₄) ∷ (word, l₅) ∷ (tyBool, l₆) ∷ (recs-ty, l₇) ∷ (word, l₈) ∷ (tyPtr, l₉) ∷ (S′.mir, l₁₀) ∷ (word, l₁₁) ∷ (tyPtr, l₁₂)
+        ∷ (tyPtr, l₁₃) ∷ (recs-ty, l₁₄) ∷ []
 
     -- [the row; the 64 records, which lie in _4; what shuts; what table owns; _14; …; …; _0; …]: local k stands at 4 + 2 · (14 − k), and from _3 on at one less
     abbrev At : Upto m → List (Item 𝓤)
@@ -196,23 +200,26 @@ module _ {M : Type 1} (𝓤 : URA M) (H : Heap 𝓤) (A : Atoms 𝓤) (W : Given
         assigns ! (bin ! (load ! (from ! (stop !)) (look ! 27 refl)) (load ! (from ! (stop !)) (look ! 22 refl)) tt) (from ! (stop !)) (store ! 20 refl (tt, tt)) $
         rewrite ! 20 (λ (t : Bool). ‵ (fat fullShare tyBool l₆ 0 (vbool t))) goes-on refl $ passes-by ! (load ! (from ! (stop !)) (look ! 20 refl)) $
         -- table[i], into _10
-        assigns ! (bin ! (load ! (from ! (stop !)) (look ! 22 refl)) (lit ! tt) (record { fits = fits i n within room })) (from ! (stop !)) (init ! 16 refl (tt, record { fits = fits i n within room })) $
+        assigns ! (bin ! (load ! (from ! (stop !)) (look ! 22 refl)) (lit ! tt) (record { fits = fits i n within room })) (from ! (stop !))
+        (init ! 16 refl (tt, record { fits = fits i n within room })) $
         assigns ! (bin ! (load ! (from ! (fld ! refl (stop !))) (look-in ! 29 (sub ! 0 refl (whole !)))) (load ! (from ! (stop !)) (look ! 16 refl)) tt) (from ! (stop !)) (init ! 14 refl (tt, tt)) $
-        rewrite ! 14 (λ (p : ℕ). ‵ (fat fullShare tyPtr l₉ 0 (vptr b p))) (sym (place-is 56 o i)) refl $
+        rewrite ! 14 (λ (p : ℕ). ‵ (fat fullShare tyPtr l₉ 0 (vptr b p))) (sym (place-is record-size o i)) refl $
         elem-out ! R (Is R) (shows 𝓤 H A R) vals tells q′ ys i blank b o within (λ is.
         -- [table[i]; what it owns; the others; and the rest, two places further on]
         assigns ! (of-opd ! (load ! (from ! (hop ! (look ! 16 refl) (stop !))) (look-raw ! 0 refl))) (from ! (stop !)) (init ! 14 refl (typed 𝓤 H A W (elem i) (val (elem i)) is)) $
         elem-back ! R q′ ys i blank (vals (elem i)) b o within $
         -- steps[i], from _10
-        assigns ! (bin ! (load ! (from ! (stop !)) (look ! 22 refl)) (lit ! tt) (record { fits = fits i n within room })) (from ! (stop !)) (init ! 10 refl (tt, record { fits = fits i n within room })) $
+        assigns ! (bin ! (load ! (from ! (stop !)) (look ! 22 refl)) (lit ! tt) (record { fits = fits i n within room })) (from ! (stop !))
+        (init ! 10 refl (tt, record { fits = fits i n within room })) $
         assigns ! (addr ! (from ! (stop !))) (from ! (stop !)) (init ! 8 refl (tt, tt)) $
         assigns ! (bin ! (load ! (from ! (stop !)) (look ! 8 refl)) (load ! (from ! (stop !)) (look ! 10 refl)) tt) (from ! (stop !)) (init ! 6 refl (tt, tt)) $
-        rewrite ! 6 (λ (p : ℕ). ‵ (fat fullShare tyPtr l₁₃ 0 (vptr l₄ p))) (sym (place-is 56 0 i)) refl $
+        rewrite ! 6 (λ (p : ℕ). ‵ (fat fullShare tyPtr l₁₃ 0 (vptr l₄ p))) (sym (place-is record-size 0 i)) refl $
         move ! (1 ∷ 0 ∷ []) $ elem-out ! R (Is R) (shows 𝓤 H A R) vals tells fullShare (zs i) i blank l₄ 0 inside (λ _.
         assigns ! (of-opd ! (load ! (from ! (stop !)) (look ! 14 refl))) (from ! (hop ! (look ! 8 refl) (stop !))) (store-raw ! 0 refl (typed 𝓤 H A W (elem i) (val (elem i)) is)) $
         move ! (1 ∷ []) $ drop ! $ owned ! R (Is R) (makes 𝓤 H A) (elem i) _ is $ move ! (1 ∷ 0 ∷ []) $ elem-put ! R fullShare (zs i) i (elem i) (vals (elem i)) l₄ 0 inside $
         rewrite ! 0 (λ (l : List Step). ‵ (row R fullShare l l₄ 0)) one-more refl $ move ! (1 ∷ 0 ∷ []) $
-        assigns-last ! (bin ! (load ! (from ! (stop !)) (look ! 22 refl)) (lit ! tt) (record { fits = small (i + 1) (add-one-le less) })) (from ! (stop !)) (store ! 22 refl (tt, record { fits = small (i + 1) (add-one-le less) })) $
+        assigns-last ! (bin ! (load ! (from ! (stop !)) (look ! 22 refl)) (lit ! tt) (record { fits = small (i + 1) (add-one-le less) })) (from ! (stop !))
+        (store ! 22 refl (tt, record { fits = small (i + 1) (add-one-le less) })) $
         forget ! 6 refl $ forget ! 8 refl $ forget ! 10 refl $ forget ! 12 refl $ forget ! 14 refl $ forget ! 16 refl $ forget ! 20 refl $
         again ! (Nearer m) At (i, le) (i + 1, add-one-le less) (add-one-dec m i less)))
       where
@@ -251,7 +258,8 @@ module _ {M : Type 1} (𝓤 : URA M) (H : Heap 𝓤) (A : Atoms 𝓤) (W : Given
         returns ! (look ! 31 refl) $ forget ! 1 refl $ forget ! 4 refl $ forget ! 20 refl $ forget ! 22 refl $ forget ! 27 refl $ forget ! 29 refl $ forget ! 31 refl $
         move ! (31 ∷ 32 ∷ []) $ free1 ! $ move ! (29 ∷ 30 ∷ []) $ free1 ! $ move ! (27 ∷ 28 ∷ []) $ free1 ! $ move ! (25 ∷ 26 ∷ []) $ free1 ! $ move ! (1 ∷ 24 ∷ []) $ free1 ! $
         move ! (21 ∷ 22 ∷ []) $ free1 ! $ move ! (19 ∷ 20 ∷ []) $ free1 ! $ move ! (17 ∷ 18 ∷ []) $ free1 ! $ move ! (15 ∷ 16 ∷ []) $ free1 ! $ move ! (13 ∷ 14 ∷ []) $ free1 ! $
-        move ! (11 ∷ 12 ∷ []) $ free1 ! $ move ! (9 ∷ 10 ∷ []) $ free1 ! $ move ! (7 ∷ 8 ∷ []) $ free1 ! $ move ! (5 ∷ 6 ∷ []) $ free1 ! $ move ! (3 ∷ 4 ∷ []) $ free1 ! $ free0 ! $ by ! (exits w r e))))
+        move ! (11 ∷ 12 ∷ []) $ free1 ! $ move ! (9 ∷ 10 ∷ []) $ free1 ! $ move ! (7 ∷ 8 ∷ []) $ free1 ! $ move ! (5 ∷ 6 ∷ []) $ free1 ! $ move ! (3 ∷ 4 ∷ []) $ free1 ! $ free0 ! $
+        by ! (exits w r e))))
 
     -- the turn that finds the row's end and returns
     over : (x : Upto m) → ltb (x .0) 64 ≡ true → leb n (x .0) ≡ true → Sq W (At x) (runs C Λ En lines.turn-1 (anyQ (Turned x)))
@@ -275,7 +283,8 @@ module _ {M : Type 1} (𝓤 : URA M) (H : Heap 𝓤) (A : Atoms 𝓤) (W : Given
         returns-within ! Post refl (look ! 31 refl) $ forget ! 1 refl $ forget ! 18 refl $ forget ! 20 refl $ forget ! 22 refl $ forget ! 27 refl $ forget ! 29 refl $ forget ! 31 refl $
         move ! (31 ∷ 32 ∷ []) $ free1 ! $ move ! (29 ∷ 30 ∷ []) $ free1 ! $ move ! (27 ∷ 28 ∷ []) $ free1 ! $ move ! (25 ∷ 26 ∷ []) $ free1 ! $ move ! (1 ∷ 24 ∷ []) $ free1 ! $
         move ! (21 ∷ 22 ∷ []) $ free1 ! $ move ! (19 ∷ 20 ∷ []) $ free1 ! $ move ! (17 ∷ 18 ∷ []) $ free1 ! $ move ! (15 ∷ 16 ∷ []) $ free1 ! $ move ! (13 ∷ 14 ∷ []) $ free1 ! $
-        move ! (11 ∷ 12 ∷ []) $ free1 ! $ move ! (9 ∷ 10 ∷ []) $ free1 ! $ move ! (7 ∷ 8 ∷ []) $ free1 ! $ move ! (5 ∷ 6 ∷ []) $ free1 ! $ move ! (3 ∷ 4 ∷ []) $ free1 ! $ free0 ! $ by ! (exits w r e))))
+        move ! (11 ∷ 12 ∷ []) $ free1 ! $ move ! (9 ∷ 10 ∷ []) $ free1 ! $ move ! (7 ∷ 8 ∷ []) $ free1 ! $ move ! (5 ∷ 6 ∷ []) $ free1 ! $ move ! (3 ∷ 4 ∷ []) $ free1 ! $ free0 ! $
+        by ! (exits w r e))))
 
     turns : (x : Upto m) → Sq W (At x) (runs C Λ En lines.turn-1 (anyQ (Turned x)))
     turns x =
@@ -284,9 +293,12 @@ module _ {M : Type 1} (𝓤 : URA M) (H : Heap 𝓤) (A : Atoms 𝓤) (W : Given
           | inr f ↦ full x f
         ]
 
-  module _ (𝓣 : Tables 𝓤 H) (known-blank : Triple 𝓤 (𝓣 .C #rows·blank-row) (BlankRow 𝓤 H A mem run)) (known-table : Triple 𝓤 (𝓣 .C #rows·table-of) (TableOf 𝓤 H A mem run)) (l₀ l₁ l₂ l₃ l₄ l₅ l₆ l₇ l₈ l₉ l₁₀ l₁₁ l₁₂ l₁₃ l₁₄ : ℕ) where
+  module _ (𝓣 : Tables 𝓤 H) (known-blank : Triple 𝓤 (𝓣 .C #rows·blank-row) (BlankRow 𝓤 H A mem run)) (known-table : Triple 𝓤 (𝓣 .C #rows·table-of) (TableOf 𝓤 H A mem run))
+      (l₀ l₁ l₂ l₃ l₄ l₅ l₆ l₇ l₈ l₉ l₁₀ l₁₁ l₁₂ l₁₃ l₁₄ : ℕ) where
     abbrev Er : Env 𝓤 H
-    Er = (T′.mir, l₀) ∷ (slice, l₁) ∷ (word, l₂) ∷ (recs-ty, l₃) ∷ (recs-ty, l₄) ∷ (word, l₅) ∷ (tyBool, l₆) ∷ (recs-ty, l₇) ∷ (word, l₈) ∷ (tyPtr, l₉) ∷ (S′.mir, l₁₀) ∷ (word, l₁₁) ∷ (tyPtr, l₁₂) ∷ (tyPtr, l₁₃) ∷ (recs-ty, l₁₄) ∷ []
+    Er =
+        (T′.mir, l₀) ∷ (slice, l₁) ∷ (word, l₂) ∷ (recs-ty, l₃) ∷ (recs-ty, l₄) ∷ (word, l₅) ∷ (tyBool, l₆) ∷ (recs-ty, l₇) ∷ (word, l₈) ∷ (tyPtr, l₉) ∷ (S′.mir, l₁₀) ∷ (word, l₁₁) ∷ (tyPtr, l₁₂)
+        ∷ (tyPtr, l₁₃) ∷ (recs-ty, l₁₄) ∷ []
 
     -- before the loop: [_14; …; …; i₃; …; _2 = n; …; _1 = table; …; room for _0; …; the token; what table owns]: local k stands at 2 · (14 − k)
     abbrev Before : Item 𝓤 → List (Item 𝓤)
@@ -308,7 +320,8 @@ module _ {M : Type 1} (𝓤 : URA M) (H : Heap 𝓤) (A : Atoms 𝓤) (W : Given
         looks-slice ! tt R (Is R) (shows 𝓤 H A R) vals tells (copies 𝓤 H A W) ys b o (λ q′.
         -- [the row; what shuts; the fractured borrow; true; what table owns; the 64 records; _14; …]
         move ! (2 ∷ []) $ drop ! $ move ! (2 ∷ []) $ drop ! $ move ! (0 ∷ 3 ∷ []) $
-        first ! $ blocks ! $ loops ! 𝓣 (Nearer m) (nearer-wf m) (At 𝓣 known-table q′ l₀ l₁ l₂ l₃ l₄ l₅ l₆ l₇ l₈ l₉ l₁₀ l₁₁ l₁₂ l₁₃ l₁₄) (turns 𝓣 known-table q′ l₀ l₁ l₂ l₃ l₄ l₅ l₆ l₇ l₈ l₉ l₁₀ l₁₁ l₁₂ l₁₃ l₁₄) (0, zero-le))
+        first ! $ blocks ! $ loops ! 𝓣 (Nearer m) (nearer-wf m) (At 𝓣 known-table q′ l₀ l₁ l₂ l₃ l₄ l₅ l₆ l₇ l₈ l₉ l₁₀ l₁₁ l₁₂ l₁₃ l₁₄)
+        (turns 𝓣 known-table q′ l₀ l₁ l₂ l₃ l₄ l₅ l₆ l₇ l₈ l₉ l₁₀ l₁₁ l₁₂ l₁₃ l₁₄) (0, zero-le))
 
     -- `blank_row`
     blanks-all : Sq W (Before (‵ (froom recs-ty l₃ 0))) (runs (𝓣 .C) (𝓣 .Λ) Er lines.t-2 (atRet Er Post))
@@ -323,7 +336,10 @@ module _ {M : Type 1} (𝓤 : URA M) (H : Heap 𝓤) (A : Atoms 𝓤) (W : Given
     walk : ent 𝓤 (onEntry 𝓤 H A load′.signature (κ, tt) (q, tt) (s, tt) at) (WpFn 𝓤 H (𝓣 .C) (𝓣 .Λ) code.function (v ∷ []) Post)
     walk =
         qed W ((‵ (flft κ q) ⊛ ‵ ftrue) ∷ ‵ (owns (ShrSlice (named 0) κ R ∷ []) (s, tt) at) ∷ []) ∵ enter ! (𝓣 .C) (𝓣 .Λ) code.function (v ∷ []) _ $
-        alloc1 ! (λ l₀. alloc1 ! (λ l₁. alloc1 ! (λ l₂. alloc1 ! (λ l₃. alloc1 ! (λ l₄. alloc1 ! (λ l₅. alloc1 ! (λ l₆. alloc1 ! (λ l₇. alloc1 ! (λ l₈. alloc1 ! (λ l₉. alloc1 ! (λ l₁₀. alloc1 ! (λ l₁₁. alloc1 ! (λ l₁₂. alloc1 ! (λ l₁₃. alloc1 ! (λ l₁₄. alloc0 ! $ params1 ! $
+        alloc1 ! (λ l₀. alloc1 !
+        (λ l₁. alloc1 ! (λ l₂. alloc1 !
+        (λ l₃. alloc1 ! (λ l₄. alloc1 !
+        (λ l₅. alloc1 ! (λ l₆. alloc1 ! (λ l₇. alloc1 ! (λ l₈. alloc1 ! (λ l₉. alloc1 ! (λ l₁₀. alloc1 ! (λ l₁₁. alloc1 ! (λ l₁₂. alloc1 ! (λ l₁₃. alloc1 ! (λ l₁₄. alloc0 ! $ params1 ! $
         pass1 ! (init ! 26 refl (tt, (tt, (record { fits = room .0 }, tt)))) $ pass0 ! $
         -- `n = table.len()`
         assigns ! (of-opd ! (load ! (from ! (fld ! refl (stop !))) (look-in ! 26 (sub ! 1 refl (whole !))))) (from ! (stop !)) (init ! 24 refl (tt, record { fits = room .0 })) $

@@ -26,7 +26,8 @@ use contract.Monad.{Fun}
 use contract.Running.{givenOf, tablesOf}
 use types.Kit.{Given, Item, Sq, runs, anyQ, atRet, ‵, _⊛_, given, ⋆, _$_, _∵_, !, qed, by, move, drop, use1, split, join, rewrite, learn, fsplit, fjoin, feqI, suffices, frame, done}
 use types.Part.{whole, sub, look-in}
-use types.Run.{look, look-raw, init, store, store-raw, forget, stop, hop, fld, from, load, lit, addr, unit-lit, of-opd, bin, assigns, assigns-last, stays, leaves-loop, first, blocks, exec, returns, enter, alloc1, alloc0, params1, pass1, pass0, free1, free0, Below, again, loops}
+use types.Run.{look, look-raw, init, store, store-raw, forget, stop, hop, fld, from, load, lit, addr, unit-lit, of-opd, bin, assigns, assigns-last, stays, leaves-loop, first}
+use types.Run.{blocks, exec, returns, enter, alloc1, alloc0, params1, pass1, pass0, free1, free0, Below, again, loops}
 use borrow.Author.Tests.{ltb-true, ltb-false}
 use denote.RattleType.{owns}
 use denote.Laws.{Is, shows}
@@ -43,14 +44,14 @@ use denote.Steps.{nothing, owned}
 use denote.Triple.Entry.{Vals, onEntry}
 use denote.Triple.Walked.{says, needs, Stays, stay-none, stay-slice, walkOf, goes-none, goes-slice, Walks, ends-at, walked}
 use denote.Exit.{yes}
-use Rattle.rules.specs.Record.{blank}
+use Rattle.rules.specs.Pipeline.Record.{blank}
 use Rattle.rows.specs.Row.{laid, Fits}
-use Rattle.rows.specs.Laying.{laid-none, laid-one, laid-length}
+use Rattle.rows.specs.LaidRow.{laid-none, laid-one, laid-length}
 use Rattle.rules.specs.declared.Step.{Step}
-use Rattle.walks.proofs.Counting.{Upto, Nearer, nearer-wf, either}
-use Rattle.walks.proofs.Close.{here, closes}
-use Rattle.rows.proofs.Rec.{R, val, vals, tells, makes, typed, fits}
-use Rattle.rows.proofs.Recs.{Recs, recs-vals, recs-val, recs-ty, recs-tells, recs-length, recs-makes, recs-typed, recs-out, recs-in}
+use Rattle.byhand.proofs.Counting.{Upto, Nearer, nearer-wf, either}
+use Rattle.byhand.proofs.Close.{here, closes}
+use Rattle.rows.proofs.StepType.{R, val, vals, tells, makes, typed, fits, record-size}
+use Rattle.rows.proofs.RowType.{Recs, recs-vals, recs-val, recs-ty, recs-tells, recs-length, recs-makes, recs-typed, recs-out, recs-in}
 use Rattle.rules.proofs.Step.Laws as S′
 use Rattle.rows.proofs.store.Key.{name as #rows·store}
 use Rattle.rows.proofs.store as store′
@@ -101,7 +102,8 @@ module _ {M : Type 1} (𝓤 : URA M) (H : Heap 𝓤) (A : Atoms 𝓤) (W : Given
   exits : ent 𝓤 (⋆ 𝓤 H A (‵ (fobs γ (codedHoleys R .code (heres R (zs m)))) ∷ ‵ (fbor κ (Held R (length (zs m)) b o γ)) ∷ ‵ (flft κ q) ∷ [])) (Post vunit)
   exits =
       qed W (‵ (fobs γ (codedHoleys R .code (heres R (zs m)))) ∷ ‵ (fbor κ (Held R (length (zs m)) b o γ)) ∷ ‵ (flft κ q) ∷ []) ∵
-      suffices ! _ (ends-at 𝓤 H A store′.ended stayed (store′.clauses 𝓤 H A mem run) W (((κ, tt), (q, tt), tt, (x ys, (xs, (m, tt))), at), tt) vunit tt (zs m, (tt, (tt, tt))) (same-at-end, (tt, (tt, tt)))) $ says ! refl $
+      suffices ! _ (ends-at 𝓤 H A store′.ended stayed (store′.clauses 𝓤 H A mem run) W (((κ, tt), (q, tt), tt, (x ys, (xs, (m, tt))), at), tt) vunit tt (zs m, (tt, (tt, tt)))
+      (same-at-end, (tt, (tt, tt)))) $ says ! refl $
       nothing ! $ move ! (3 ∷ 0 ∷ []) $ join ! $ frame ! $
       -- [obs; the borrow]: with the facts on the machine value it is what the slice owns at its last list
       fjoin ! $ pureI ! (at-slice R (x (zs m)) (v ∷ [])) (tt, (tt, tt)) (ap (λ (k : ℕ). sliceVal (b, o) k ∷ []) (sym same-at-end), subst (Room R) (sym same-at-end) room) $ fjoin ! $
@@ -143,23 +145,26 @@ module _ {M : Type 1} (𝓤 : URA M) (H : Heap 𝓤) (A : Atoms 𝓤) (W : Given
         assigns ! (bin ! (load ! (from ! (stop !)) (look ! 19 refl)) (load ! (from ! (stop !)) (look ! 22 refl)) tt) (from ! (stop !)) (init ! 17 refl (tt, tt)) $
         rewrite ! 17 (λ (c : Bool). ‵ (fat fullShare tyBool l₆ 0 (vbool c))) test refl $ stays ! (load ! (from ! (stop !)) (look ! 17 refl)) $
         -- steps[i], into _10
-        assigns ! (bin ! (load ! (from ! (stop !)) (look ! 19 refl)) (lit ! tt) (record { fits = fits i (length ys) within room })) (from ! (stop !)) (init ! 15 refl (tt, record { fits = fits i (length ys) within room })) $
+        assigns ! (bin ! (load ! (from ! (stop !)) (look ! 19 refl)) (lit ! tt) (record { fits = fits i (length ys) within room })) (from ! (stop !))
+        (init ! 15 refl (tt, record { fits = fits i (length ys) within room })) $
         assigns ! (addr ! (from ! (stop !))) (from ! (stop !)) (init ! 13 refl (tt, tt)) $
         assigns ! (bin ! (load ! (from ! (stop !)) (look ! 13 refl)) (load ! (from ! (stop !)) (look ! 15 refl)) tt) (from ! (stop !)) (init ! 11 refl (tt, tt)) $
-        rewrite ! 11 (λ (p : ℕ). ‵ (fat fullShare tyPtr l₉ 0 (vptr l₄ p))) (sym (place-is 56 0 i)) refl $
+        rewrite ! 11 (λ (p : ℕ). ‵ (fat fullShare tyPtr l₉ 0 (vptr l₄ p))) (sym (place-is record-size 0 i)) refl $
         elem-out ! R (Is R) (shows 𝓤 H A R) vals tells fullShare xs i blank l₄ 0 in-steps (λ is.
         -- [steps[i]; what it owns; the others; and the rest, two places further on]
         assigns ! (of-opd ! (load ! (from ! (hop ! (look ! 13 refl) (stop !))) (look-raw ! 0 refl))) (from ! (stop !)) (init ! 11 refl (typed 𝓤 H A W (elem i) (val (elem i)) is)) $
         elem-back ! R fullShare xs i blank (vals (elem i)) l₄ 0 in-steps $
         -- table[i], from _10
-        assigns ! (bin ! (load ! (from ! (stop !)) (look ! 19 refl)) (lit ! tt) (record { fits = fits i (length ys) within room })) (from ! (stop !)) (init ! 7 refl (tt, record { fits = fits i (length ys) within room })) $
+        assigns ! (bin ! (load ! (from ! (stop !)) (look ! 19 refl)) (lit ! tt) (record { fits = fits i (length ys) within room })) (from ! (stop !))
+        (init ! 7 refl (tt, record { fits = fits i (length ys) within room })) $
         assigns ! (bin ! (load ! (from ! (fld ! refl (stop !))) (look-in ! 26 (sub ! 0 refl (whole !)))) (load ! (from ! (stop !)) (look ! 7 refl)) tt) (from ! (stop !)) (init ! 5 refl (tt, tt)) $
-        rewrite ! 5 (λ (p : ℕ). ‵ (fat fullShare tyPtr l₁₂ 0 (vptr b p))) (sym (place-is 56 o i)) refl $
+        rewrite ! 5 (λ (p : ℕ). ‵ (fat fullShare tyPtr l₁₂ 0 (vptr b p))) (sym (place-is record-size o i)) refl $
         move ! (1 ∷ 0 ∷ []) $ elem-out ! R (Is R) (shows 𝓤 H A R) vals tells fullShare (zs i) i blank b o inside (λ _.
         assigns ! (of-opd ! (load ! (from ! (stop !)) (look ! 11 refl))) (from ! (hop ! (look ! 7 refl) (stop !))) (store-raw ! 0 refl (typed 𝓤 H A W (elem i) (val (elem i)) is)) $
         move ! (1 ∷ []) $ drop ! $ owned ! R (Is R) (makes 𝓤 H A) (elem i) _ is $ move ! (1 ∷ 0 ∷ []) $ elem-put ! R fullShare (zs i) i (elem i) (vals (elem i)) b o inside $
         rewrite ! 0 (λ (l : List Step). ‵ (row R fullShare l b o)) one-more refl $ move ! (1 ∷ 0 ∷ []) $
-        assigns-last ! (bin ! (load ! (from ! (stop !)) (look ! 19 refl)) (lit ! tt) (record { fits = small (i + 1) (add-one-le less) })) (from ! (stop !)) (store ! 19 refl (tt, record { fits = small (i + 1) (add-one-le less) })) $
+        assigns-last ! (bin ! (load ! (from ! (stop !)) (look ! 19 refl)) (lit ! tt) (record { fits = small (i + 1) (add-one-le less) })) (from ! (stop !))
+        (store ! 19 refl (tt, record { fits = small (i + 1) (add-one-le less) })) $
         forget ! 5 refl $ forget ! 7 refl $ forget ! 9 refl $ forget ! 11 refl $ forget ! 13 refl $ forget ! 15 refl $ forget ! 17 refl $
         again ! (Nearer m) At (i, le) (i + 1, add-one-le less) (add-one-dec m i less)))
       where
@@ -191,7 +196,8 @@ module _ {M : Type 1} (𝓤 : URA M) (H : Heap 𝓤) (A : Atoms 𝓤) (W : Given
         -- [obs; the borrow; the token; _4; _12; …; …; _0; …]: local k stands at 4 + 2 · (12 − k), and from _3 on at one less
         returns ! (look ! 27 refl) $ forget ! 3 refl $ forget ! 16 refl $ forget ! 18 refl $ forget ! 21 refl $ forget ! 23 refl $ forget ! 25 refl $ forget ! 27 refl $
         move ! (27 ∷ 28 ∷ []) $ free1 ! $ move ! (25 ∷ 26 ∷ []) $ free1 ! $ move ! (23 ∷ 24 ∷ []) $ free1 ! $ move ! (21 ∷ 22 ∷ []) $ free1 ! $ move ! (3 ∷ 20 ∷ []) $ free1 ! $
-        move ! (17 ∷ 18 ∷ []) $ free1 ! $ move ! (15 ∷ 16 ∷ []) $ free1 ! $ move ! (13 ∷ 14 ∷ []) $ free1 ! $ move ! (11 ∷ 12 ∷ []) $ free1 ! $ move ! (9 ∷ 10 ∷ []) $ free1 ! $ move ! (7 ∷ 8 ∷ []) $ free1 ! $ move ! (5 ∷ 6 ∷ []) $ free1 ! $ move ! (3 ∷ 4 ∷ []) $ free1 ! $ free0 ! $ by ! exits)
+        move ! (17 ∷ 18 ∷ []) $ free1 ! $ move ! (15 ∷ 16 ∷ []) $ free1 ! $ move ! (13 ∷ 14 ∷ []) $ free1 ! $ move ! (11 ∷ 12 ∷ []) $ free1 ! $ move ! (9 ∷ 10 ∷ []) $ free1 ! $
+        move ! (7 ∷ 8 ∷ []) $ free1 ! $ move ! (5 ∷ 6 ∷ []) $ free1 ! $ move ! (3 ∷ 4 ∷ []) $ free1 ! $ free0 ! $ by ! exits)
 
     turns : (z : Upto m) → Sq W (At z) (runs C Λ En lines.turn-1 (anyQ (Turned z)))
     turns z = elim (either (ltb (z .0) m)) [ inl h ↦ more (z .0) (z .1) h | inr f ↦ ends z f ]
@@ -220,14 +226,20 @@ module _ {M : Type 1} (𝓤 : URA M) (H : Heap 𝓤) (A : Atoms 𝓤) (W : Given
   module _ (𝓣 : Tables 𝓤 H) where
     walk : ent 𝓤 (onEntry 𝓤 H A store′.signature (κ, tt) (q, tt) (x ys, (xs, (m, tt))) at) (WpFn 𝓤 H (𝓣 .C) (𝓣 .Λ) code.function (v ∷ recs-val xs ∷ vint w64 m ∷ []) Post)
     walk =
-        qed W ((‵ (flft κ q) ⊛ ‵ ftrue) ∷ ‵ (owns (MutSlice (named 0) κ R ∷ Recs ∷ usize ∷ []) (x ys, (xs, (m, tt))) at) ∷ []) ∵ enter ! (𝓣 .C) (𝓣 .Λ) code.function (v ∷ recs-val xs ∷ vint w64 m ∷ []) _ $
-        alloc1 ! (λ l₀. alloc1 ! (λ l₁. alloc1 ! (λ l₂. alloc1 ! (λ l₃. alloc1 ! (λ l₄. alloc1 ! (λ l₅. alloc1 ! (λ l₆. alloc1 ! (λ l₇. alloc1 ! (λ l₈. alloc1 ! (λ l₉. alloc1 ! (λ l₁₀. alloc1 ! (λ l₁₁. alloc1 ! (λ l₁₂. alloc0 ! $ params1 ! $
-        pass1 ! (init ! 22 refl (tt, (tt, (record { fits = room .0 }, tt)))) $ pass1 ! (init ! 20 refl (recs-typed 𝓤 H A W xs (recs-val xs) is-xs)) $ pass1 ! (init ! 18 refl (tt, record { fits = gm })) $ pass0 ! $
+        qed W ((‵ (flft κ q) ⊛ ‵ ftrue) ∷ ‵ (owns (MutSlice (named 0) κ R ∷ Recs ∷ usize ∷ []) (x ys, (xs, (m, tt))) at) ∷ []) ∵
+        enter ! (𝓣 .C) (𝓣 .Λ) code.function (v ∷ recs-val xs ∷ vint w64 m ∷ []) _ $
+        alloc1 ! (λ l₀. alloc1 !
+        (λ l₁. alloc1 ! (λ l₂. alloc1 !
+        (λ l₃. alloc1 ! (λ l₄. alloc1 ! (λ l₅. alloc1 ! (λ l₆. alloc1 ! (λ l₇. alloc1 ! (λ l₈. alloc1 ! (λ l₉. alloc1 ! (λ l₁₀. alloc1 ! (λ l₁₁. alloc1 ! (λ l₁₂. alloc0 ! $ params1 ! $
+        pass1 ! (init ! 22 refl (tt, (tt, (record { fits = room .0 }, tt)))) $ pass1 ! (init ! 20 refl (recs-typed 𝓤 H A W xs (recs-val xs) is-xs)) $
+        pass1 ! (init ! 18 refl (tt, record { fits = gm })) $ pass0 ! $
         writes-all 𝓣 l₀ l₁ l₂ l₃ l₄ l₅ l₆ l₇ l₈ l₉ l₁₀ l₁₁ l₁₂)))))))))))))
 
 module _ {M : Type 1} (𝓤 : URA M) (H : Heap 𝓤) (A : Atoms 𝓤) (W : Given 𝓤 H A) (mem : Memory → SProp 𝓤) (run : Routine → Fun 𝓤) (𝓣 : Tables 𝓤 H) where
   store-walks : Walks 𝓤 H A store′.ended stayed (WpFn 𝓤 H (𝓣 .C) (𝓣 .Λ) code.function) (store′.clauses 𝓤 H A mem run)
-  store-walks = walked 𝓤 H A store′.ended stayed (store′.clauses 𝓤 H A mem run) (WpFn 𝓤 H (𝓣 .C) (𝓣 .Λ) code.function) (λ κs. (slice-vals, (recs-vals, (uint-vals w64, tt)))) (λ κs. (mut-slice-tells (named 0) (κs .0) R, (recs-tells, (uint-tells w64, tt))))
+  store-walks =
+      walked 𝓤 H A store′.ended stayed (store′.clauses 𝓤 H A mem run) (WpFn 𝓤 H (𝓣 .C) (𝓣 .Λ) code.function) (λ κs. (slice-vals, (recs-vals, (uint-vals w64, tt))))
+      (λ κs. (mut-slice-tells (named 0) (κs .0) R, (recs-tells, (uint-tells w64, tt))))
       (λ κs qs bounds a g are. needs 𝓤 (Fits (a .1 .1 .0) (a .0 .now)) _ (λ few.
       walk 𝓤 H A W mem run (κs .0) (qs .0) (a .0 .ptr .0) (a .0 .ptr .1) (a .0 .name) (a .0 .now) (a .1 .0) (a .1 .1 .0) (are .0 .0 .1) (are .1 .0) (are .1 .1 .0 .1) few 𝓣))
 

@@ -36,34 +36,34 @@ use denote.Triple.Spec.{tripleOf}
 use denote.Triple.Table.{cited}
 use denote.Triple.Walked.{says, Stays, stay-none, stay-none-slice, walkOf, goes-none, goes-none-slice, Walks, ends-at, walked}
 use denote.Exit.{yes}
-use Rattle.rules.specs.Check.{Checks}
+use Rattle.rules.specs.Pipeline.Check.{Checks}
 use Rattle.rules.specs.declared.Step.{Step}
 use Rattle.rules.specs.declared.Direction.{Direction}
 use Rattle.rules.specs.declared.Foretold.{Foretold}
 use Rattle.rules.proofs.Foretold as P
 use Rattle.rules.proofs.Foretold.Laws as P′
-use Rattle.walks.proofs.Callee.{calls-known, result-is, result-has}
-use Rattle.walks.proofs.Close.{here, closes}
-use Rattle.rows.proofs.Rec.{R}
+use Rattle.byhand.proofs.Callee.{calls-known, result-is, result-has}
+use Rattle.byhand.proofs.Close.{here, closes}
+use Rattle.rows.proofs.StepType.{R}
 use Rattle.rules.proofs.Direction.Laws as D′
-use Rattle.entry.proofs.Way.{Way, way-val, way-tells, way-makes, way-typed}
+use Rattle.entry.proofs.DirectionType.{Way, way-val, way-tells, way-makes, way-typed}
 use Rattle.entry.proofs.check as row-check
 use Rattle.entry.proofs.check.Symbol as row-def
 use Rattle.entry.proofs.check.Symbol.{name as #entry·check}
 use Rattle.entry.proofs.check.Met as row-thm
-use Rattle.plain.proofs.Plainly.{checks-plain}
-use Rattle.rules.specs.Plain.{directionOf, plainCheck, PlainChecks}
+use Rattle.sakondreno.proofs.PlainPromises.{checks-plain}
+use Rattle.rules.specs.Face.Plain.{directionOf, plainCheck, PlainChecks}
 use Rattle.rules.specs.declared.Checked.{Checked}
 use Rattle.rules.proofs.Checked as N
 use Rattle.rules.proofs.Checked.Laws as N′
-use Rattle.plain.proofs.direction_of as direction
-use Rattle.plain.proofs.direction_of.Symbol as direction-def
-use Rattle.plain.proofs.direction_of.Symbol.{name as #plain·direction-of}
-use Rattle.plain.proofs.direction_of.Met as direction-thm
-use Rattle.plain.proofs.checked_of as checked
-use Rattle.plain.proofs.checked_of.Symbol as checked-def
-use Rattle.plain.proofs.checked_of.Symbol.{name as #plain·checked-of}
-use Rattle.plain.proofs.checked_of.Met as checked-thm
+use Rattle.sakondreno.proofs.plain.direction_of as direction
+use Rattle.sakondreno.proofs.plain.direction_of.Symbol as direction-def
+use Rattle.sakondreno.proofs.plain.direction_of.Symbol.{name as #sakondreno·plain·direction-of}
+use Rattle.sakondreno.proofs.plain.direction_of.Met as direction-thm
+use Rattle.sakondreno.proofs.plain.checked_of as checked
+use Rattle.sakondreno.proofs.plain.checked_of.Symbol as checked-def
+use Rattle.sakondreno.proofs.plain.checked_of.Symbol.{name as #sakondreno·plain·checked-of}
+use Rattle.sakondreno.proofs.plain.checked_of.Met as checked-thm
 use Rattle.sakondreno.proofs.sakondreno_check.Key.{name as #sakondreno·check}
 use Rattle.sakondreno.proofs.sakondreno_check as call
 use Rattle.sakondreno.proofs.sakondreno_check.Statement as stated
@@ -123,7 +123,8 @@ module _ {M : Type 1} (𝓤 : URA M) (H : Heap 𝓤) (A : Atoms 𝓤) (W : Given
 
   goes-row : (d : Direction) → Is Way d (way-val d ∷ []) → ent 𝓤 (⋆ 𝓤 H A ((‵ (flft κ q) ⊛ ‵ ftrue) ∷ ‵ Row ∷ [])) (RowCheck 𝓤 H A mem run .pre (to-row d))
   goes-row d is =
-      qed W ((‵ (flft κ q) ⊛ ‵ ftrue) ∷ ‵ Row ∷ []) ∵ nothing ! $ owned ! Way (Is Way) (way-makes 𝓤 H A) d _ is $ fjoin ! $ move ! (2 ∷ 0 ∷ []) $ fjoin ! $ move ! (1 ∷ 0 ∷ []) $ join ! $ frame ! $ nothing ! $ done !
+      qed W ((‵ (flft κ q) ⊛ ‵ ftrue) ∷ ‵ Row ∷ []) ∵ nothing ! $ owned ! Way (Is Way) (way-makes 𝓤 H A) d _ is $ fjoin ! $ move ! (2 ∷ 0 ∷ []) $ fjoin ! $ move ! (1 ∷ 0 ∷ []) $ join ! $ frame ! $
+      nothing ! $ done !
 
   abbrev to-checked : Foretold → CheckedOf 𝓤 H A mem run .Ghost
   to-checked f = ((tt, tt, tt, (f, tt), (fore-val f ∷ [], tt)), tt)
@@ -131,7 +132,8 @@ module _ {M : Type 1} (𝓤 : URA M) (H : Heap 𝓤) (A : Atoms 𝓤) (W : Given
   goes-checked : (f : Foretold) → Is Fore f (fore-val f ∷ []) → ent 𝓤 (emp 𝓤) (CheckedOf 𝓤 H A mem run .pre (to-checked f))
   goes-checked f is = qed W [] ∵ nothing ! $ owned ! Fore (Is Fore) (LL.makes P.the-type P′.the-plain 𝓤 H A) f _ is $ fjoin ! $ nothing ! $ join ! $ frame ! $ nothing ! $ done !
 
-  module _ (𝓣 : Tables 𝓤 H) (known-direction : Triple 𝓤 (𝓣 .C #plain·direction-of) (DirectionOf 𝓤 H A mem run)) (known-row : Triple 𝓤 (𝓣 .C #entry·check) (RowCheck 𝓤 H A mem run)) (known-checked : Triple 𝓤 (𝓣 .C #plain·checked-of) (CheckedOf 𝓤 H A mem run)) where
+  module _ (𝓣 : Tables 𝓤 H) (known-direction : Triple 𝓤 (𝓣 .C #sakondreno·plain·direction-of) (DirectionOf 𝓤 H A mem run)) (known-row : Triple 𝓤 (𝓣 .C #entry·check) (RowCheck 𝓤 H A mem run))
+      (known-checked : Triple 𝓤 (𝓣 .C #sakondreno·plain·checked-of) (CheckedOf 𝓤 H A mem run)) where
     walk : ent 𝓤 (onEntry 𝓤 H A call.signature (κ, tt) (q, tt) (s, (inverse, tt)) at) (WpFn 𝓤 H (𝓣 .C) (𝓣 .Λ) code.function (v ∷ vint w8 inverse ∷ []) Post)
     walk =
         qed W ((‵ (flft κ q) ⊛ ‵ ftrue) ∷ ‵ (owns (ShrSlice (named 0) κ R ∷ u8 ∷ []) (s, (inverse, tt)) at) ∷ []) ∵ enter ! (𝓣 .C) (𝓣 .Λ) code.function (v ∷ vint w8 inverse ∷ []) _ $
@@ -139,7 +141,8 @@ module _ {M : Type 1} (𝓤 : URA M) (H : Heap 𝓤) (A : Atoms 𝓤) (W : Given
         pass1 ! (init ! 6 refl (tt, (tt, (record { fits = room .0 }, tt)))) $ pass1 ! (init ! 4 refl (tt, record { fits = small })) $ pass0 ! $
         -- [_4; …; _3; …; _2 = inverse; …; _1 = the row; …; room for _0; …; the token; what the parameters own]
         use0 W (raw (DirectionOf 𝓤 H A mem run .pre to-direction)) goes-direction $
-        calls-known ! (fmOf 𝓤 H (W .laws) 𝓣) direction.ended (direction.clauses 𝓤 H A mem run) known-direction to-direction (λ z. z ≡ directionOf inverse) (λ z _. id⊢ 𝓤 _) (and-then ! (load ! (from ! (stop !)) (look ! 5 refl)) (no-more !)) (λ w d e.
+        calls-known ! (fmOf 𝓤 H (W .laws) 𝓣) direction.ended (direction.clauses 𝓤 H A mem run) known-direction to-direction (λ z. z ≡ directionOf inverse) (λ z _. id⊢ 𝓤 _)
+        (and-then ! (load ! (from ! (stop !)) (look ! 5 refl)) (no-more !)) (λ w d e.
         drop ! $ facts ! Way (Is Way) (shows 𝓤 H A Way) d (w ∷ []) (λ is.
         land ! (from ! (stop !)) (init ! 2 refl (way-typed 𝓤 H A W d w is)) $ rewrite ! 2 (λ (z : Val). ‵ (fat fullShare D′.mir l₃ 0 z)) (result-is Way way-val way-tells d d w is refl) refl $
         -- a `&` is Copy: one copy of what the row owns is kept for the exit
@@ -163,9 +166,12 @@ module _ {M : Type 1} (𝓤 : URA M) (H : Heap 𝓤) (A : Atoms 𝓤) (W : Given
         by ! (exits w₂ r (checks-plain e e₁ e₂)))))))))))))
 
 module _ {M : Type 1} (𝓤 : URA M) (H : Heap 𝓤) (A : Atoms 𝓤) (W : Given 𝓤 H A) (mem : Memory → SProp 𝓤) (run : Routine → Fun 𝓤) (𝓣 : Tables 𝓤 H)
-    (known-direction : Triple 𝓤 (𝓣 .C #plain·direction-of) (DirectionOf 𝓤 H A mem run)) (known-row : Triple 𝓤 (𝓣 .C #entry·check) (RowCheck 𝓤 H A mem run)) (known-checked : Triple 𝓤 (𝓣 .C #plain·checked-of) (CheckedOf 𝓤 H A mem run)) where
+    (known-direction : Triple 𝓤 (𝓣 .C #sakondreno·plain·direction-of) (DirectionOf 𝓤 H A mem run)) (known-row : Triple 𝓤 (𝓣 .C #entry·check) (RowCheck 𝓤 H A mem run))
+    (known-checked : Triple 𝓤 (𝓣 .C #sakondreno·plain·checked-of) (CheckedOf 𝓤 H A mem run)) where
   call-walks : Walks 𝓤 H A call.ended stayed (WpFn 𝓤 H (𝓣 .C) (𝓣 .Λ) code.function) (call.clauses 𝓤 H A mem run)
-  call-walks = walked 𝓤 H A call.ended stayed (call.clauses 𝓤 H A mem run) (WpFn 𝓤 H (𝓣 .C) (𝓣 .Λ) code.function) (λ κs. (slice-vals, (uint-vals w8, tt))) (λ κs. (shr-slice-tells (named 0) (κs .0) R, (uint-tells w8, tt)))
+  call-walks =
+      walked 𝓤 H A call.ended stayed (call.clauses 𝓤 H A mem run) (WpFn 𝓤 H (𝓣 .C) (𝓣 .Λ) code.function) (λ κs. (slice-vals, (uint-vals w8, tt)))
+      (λ κs. (shr-slice-tells (named 0) (κs .0) R, (uint-tells w8, tt)))
       (λ κs qs bounds a g are. via 𝓤 _ (fst∗ 𝓤 _ (emp 𝓤)) (walk 𝓤 H A W mem run (κs .0) (qs .0) (a .0) (a .1 .0) (are .0 .0 .1) (are .1 .0 .1) 𝓣 known-direction known-row known-checked))
 
 pub sakondreno-check-spec : {M : Type 1} → stated.statement M
@@ -174,6 +180,6 @@ sakondreno-check-spec 𝓤 H 𝓜 𝓖 𝓡 =
     closes 𝓤 H 𝓜 𝓖 𝓡 call.ended stayed (call.clauses 𝓤 H (𝓖 .A) (𝓜 .mem) (𝓡 .run)) code.env #sakondreno·check code.function (code.unfolded 𝓤 H 𝓜 𝓡)
     (goes-none-slice 𝓤 H (𝓖 .A) (givenOf 𝓤 H 𝓜 𝓖) 1 (0 ∷ []) tt (plain (λ _. R)) yes, (goes-none 𝓤 H (𝓖 .A) (givenOf 𝓤 H 𝓜 𝓖) 1 (λ _. u8) yes (λ κs x f. refl), tt))
     (call-walks 𝓤 H (𝓖 .A) (givenOf 𝓤 H 𝓜 𝓖) (𝓜 .mem) (𝓡 .run) (here 𝓤 H 𝓜 𝓖 𝓡 code.env)
-    (cited 𝓤 H (DirectionOf 𝓤 H (𝓖 .A) (𝓜 .mem) (𝓡 .run)) 𝓜 𝓡 code.env #plain·direction-of direction-def.routine code.calls-plain·direction-of (direction-thm.met 𝓤 H 𝓜 𝓖 𝓡))
+    (cited 𝓤 H (DirectionOf 𝓤 H (𝓖 .A) (𝓜 .mem) (𝓡 .run)) 𝓜 𝓡 code.env #sakondreno·plain·direction-of direction-def.routine code.calls-sakondreno·plain·direction-of (direction-thm.met 𝓤 H 𝓜 𝓖 𝓡))
     (cited 𝓤 H (RowCheck 𝓤 H (𝓖 .A) (𝓜 .mem) (𝓡 .run)) 𝓜 𝓡 code.env #entry·check row-def.routine code.calls-entry·check (row-thm.met 𝓤 H 𝓜 𝓖 𝓡))
-    (cited 𝓤 H (CheckedOf 𝓤 H (𝓖 .A) (𝓜 .mem) (𝓡 .run)) 𝓜 𝓡 code.env #plain·checked-of checked-def.routine code.calls-plain·checked-of (checked-thm.met 𝓤 H 𝓜 𝓖 𝓡)))
+    (cited 𝓤 H (CheckedOf 𝓤 H (𝓖 .A) (𝓜 .mem) (𝓡 .run)) 𝓜 𝓡 code.env #sakondreno·plain·checked-of checked-def.routine code.calls-sakondreno·plain·checked-of (checked-thm.met 𝓤 H 𝓜 𝓖 𝓡)))

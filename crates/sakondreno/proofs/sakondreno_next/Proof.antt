@@ -1,5 +1,6 @@
+-- What the reader finds, told as a plain record.
 use mathlib.Core.Path.{ap, _∙_}
-use Rattle.rules.specs.Plain.{plainFound}
+use Rattle.rules.specs.Face.Plain.{plainFound}
 use borrow.Author.Needs.{needs}
 use Rattle.sakondreno.proofs.sakondreno_next.Statement.{statement}
 use Rattle.sakondreno.proofs.sakondreno_next.Tie as tie

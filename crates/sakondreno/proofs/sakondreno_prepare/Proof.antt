@@ -37,28 +37,28 @@ use denote.Triple.Spec.{tripleOf}
 use denote.Triple.Table.{cited}
 use denote.Triple.Walked.{says, Stays, stay-none-slice, gave-slice, walkOf, goes-none-slice, goes-gave-slice, Walks, ends-at, walked}
 use denote.Exit.{yes}
-use Rattle.rules.specs.Refusal.{Promised}
-use Rattle.rules.specs.Prepare.{prepare, Prepares}
+use Rattle.rules.specs.Text.Refusal.{Promised}
+use Rattle.rules.specs.Pipeline.Prepare.{prepare, Prepares}
 use Rattle.rules.specs.declared.Step.{Step}
 use Rattle.rules.specs.declared.Prepared.{Prepared}
 use Rattle.rules.proofs.Prepared as P
 use Rattle.rules.proofs.Prepared.Laws as P′
-use Rattle.laws.specs.Entry.{in-other-words}
-use Rattle.walks.proofs.Callee.{calls-known, calls-lasts, result-is, result-has}
-use Rattle.walks.proofs.Close.{here, closes}
-use Rattle.rows.proofs.Rec.{R}
+use Rattle.laws_text.specs.Entry.{in-other-words}
+use Rattle.byhand.proofs.Callee.{calls-known, calls-lasts, result-is, result-has}
+use Rattle.byhand.proofs.Close.{here, closes}
+use Rattle.rows.proofs.StepType.{R}
 use Rattle.entry.proofs.prepare as row-prepare
 use Rattle.entry.proofs.prepare.Symbol as row-def
 use Rattle.entry.proofs.prepare.Symbol.{name as #entry·prepare}
 use Rattle.entry.proofs.prepare.Met as row-thm
-use Rattle.rules.specs.Plain.{plainPrepared, recordCount}
+use Rattle.rules.specs.Face.Plain.{plainPrepared, recordCount}
 use Rattle.rules.specs.declared.Answer.{Answer}
 use Rattle.rules.proofs.Answer as N
 use Rattle.rules.proofs.Answer.Laws as N′
-use Rattle.plain.proofs.counted as counted
-use Rattle.plain.proofs.counted.Symbol as counted-def
-use Rattle.plain.proofs.counted.Symbol.{name as #plain·counted}
-use Rattle.plain.proofs.counted.Met as counted-thm
+use Rattle.sakondreno.proofs.plain.counted as counted
+use Rattle.sakondreno.proofs.plain.counted.Symbol as counted-def
+use Rattle.sakondreno.proofs.plain.counted.Symbol.{name as #sakondreno·plain·counted}
+use Rattle.sakondreno.proofs.plain.counted.Met as counted-thm
 use Rattle.sakondreno.proofs.sakondreno_prepare.Key.{name as #sakondreno·prepare}
 use Rattle.sakondreno.proofs.sakondreno_prepare as call
 use Rattle.sakondreno.proofs.sakondreno_prepare.Statement as stated
@@ -82,7 +82,8 @@ module _ {M : Type 1} (𝓤 : URA M) (H : Heap 𝓤) (A : Atoms 𝓤) (mem : Mem
   abbrev Counted : Contract 𝓤
   Counted = tripleOf 𝓤 H A counted.signature (counted.spec 𝓤 H A mem run)
 
-module _ {M : Type 1} (𝓤 : URA M) (H : Heap 𝓤) (A : Atoms 𝓤) (W : Given 𝓤 H A) (mem : Memory → SProp 𝓤) (run : Routine → Fun 𝓤) (κ κ′ : Lft) (q q′ : Share) (text : RefT (List ℕ)) (x : RefT (List Step))
+module _ {M : Type 1} (𝓤 : URA M) (H : Heap 𝓤) (A : Atoms 𝓤) (W : Given 𝓤 H A) (mem : Memory → SProp 𝓤) (run : Routine → Fun 𝓤) (κ κ′ : Lft) (q q′ : Share) (text : RefT (List ℕ))
+    (x : RefT (List Step))
     (text-room : Room u8 (length (now text))) (room : Room R (length (now x))) where
   abbrev κs : Lfts 2
   κs = (κ, (κ′, tt))
@@ -126,15 +127,17 @@ module _ {M : Type 1} (𝓤 : URA M) (H : Heap 𝓤) (A : Atoms 𝓤) (W : Given
   goes-counted : (p : Prepared) → Is Ans p (ans-val p ∷ []) → ent 𝓤 (emp 𝓤) (Counted 𝓤 H A mem run .pre (to-counted p))
   goes-counted p is = qed W [] ∵ nothing ! $ owned ! Ans (Is Ans) (EL.makes P.the-type P′.the-plain 𝓤 H A) p _ is $ fjoin ! $ nothing ! $ join ! $ frame ! $ nothing ! $ done !
 
-  module _ (𝓣 : Tables 𝓤 H) (known-row : Triple 𝓤 (𝓣 .C #entry·prepare) (RowPrepare 𝓤 H A mem run)) (known-counted : Triple 𝓤 (𝓣 .C #plain·counted) (Counted 𝓤 H A mem run)) where
+  module _ (𝓣 : Tables 𝓤 H) (known-row : Triple 𝓤 (𝓣 .C #entry·prepare) (RowPrepare 𝓤 H A mem run)) (known-counted : Triple 𝓤 (𝓣 .C #sakondreno·plain·counted) (Counted 𝓤 H A mem run)) where
     walk : ent 𝓤 (onEntry 𝓤 H A call.signature κs (q, (q′, tt)) (text, (x, tt)) at) (WpFn 𝓤 H (𝓣 .C) (𝓣 .Λ) code.function (of text ∷ of x ∷ []) Post)
     walk =
-        qed W ((‵ (flft κ q) ⊛ ‵ (flft κ′ q′) ⊛ ‵ ftrue) ∷ ‵ (owns (ShrSlice (named 0) κ u8 ∷ MutSlice (named 1) κ′ R ∷ []) (text, (x, tt)) at) ∷ []) ∵ enter ! (𝓣 .C) (𝓣 .Λ) code.function (of text ∷ of x ∷ []) _ $
+        qed W ((‵ (flft κ q) ⊛ ‵ (flft κ′ q′) ⊛ ‵ ftrue) ∷ ‵ (owns (ShrSlice (named 0) κ u8 ∷ MutSlice (named 1) κ′ R ∷ []) (text, (x, tt)) at) ∷ []) ∵
+        enter ! (𝓣 .C) (𝓣 .Λ) code.function (of text ∷ of x ∷ []) _ $
         alloc1 ! (λ l₀. alloc1 ! (λ l₁. alloc1 ! (λ l₂. alloc1 ! (λ l₃. alloc1 ! (λ l₄. alloc1 ! (λ l₅. alloc0 ! $ params1 ! $
         pass1 ! (init ! 8 refl (tt, (tt, (record { fits = text-room .0 }, tt)))) $ pass1 ! (init ! 6 refl (tt, (tt, (record { fits = room .0 }, tt)))) $ pass0 ! $
         -- [_5; …; _4; …; _3; …; _2 = table; …; _1 = text; …; room for _0; …; the tokens; what text and table own]
         assigns ! (addr ! (from ! (fld ! refl (hop ! (look-in ! 6 (sub ! 0 refl (whole !))) (stop !))))) (from ! (stop !)) (init ! 2 refl (tt, tt)) $
-        assigns ! (agg ! (and-then ! (load ! (from ! (stop !)) (look ! 2 refl)) (and-then ! (load ! (from ! (fld ! refl (stop !))) (look-in ! 6 (sub ! 1 refl (whole !)))) (no-more !)))) (from ! (stop !)) (init ! 0 refl (tt, (tt, (record { fits = room .0 }, tt)))) $
+        assigns ! (agg ! (and-then ! (load ! (from ! (stop !)) (look ! 2 refl)) (and-then ! (load ! (from ! (fld ! refl (stop !))) (look-in ! 6 (sub ! 1 refl (whole !)))) (no-more !))))
+        (from ! (stop !)) (init ! 0 refl (tt, (tt, (record { fits = room .0 }, tt)))) $
         -- a `&` is Copy: one copy of what text owns is kept for the exit
         move ! (13 ∷ []) $ fsplit ! $ use1 W (‵ Text ⊛ ‵ Text) (shr-slice-copy 𝓤 H A W (named 0) κ u8 .twice text (of text ∷ [])) $ split ! $
         move ! (15 ∷ 0 ∷ 2 ∷ []) $ use3 W (raw (RowPrepare 𝓤 H A mem run .pre to-row)) goes-row $
@@ -152,13 +155,16 @@ module _ {M : Type 1} (𝓤 : URA M) (H : Heap 𝓤) (A : Atoms 𝓤) (W : Given
         -- [the result; the last row; the tokens; what text owns; _5; …; …; room for _0; …]
         land ! (from ! (stop !)) (init ! 14 refl (LL.lawful N.the-type N′.the-laws 𝓤 H A W .typed r₁ _ is₁ .0)) $
         returns ! (look ! 14 refl) $ forget ! 4 refl $ forget ! 6 refl $ forget ! 8 refl $ forget ! 10 refl $ forget ! 12 refl $ forget ! 14 refl $
-        move ! (14 ∷ 15 ∷ []) $ free1 ! $ move ! (12 ∷ 13 ∷ []) $ free1 ! $ move ! (10 ∷ 11 ∷ []) $ free1 ! $ move ! (8 ∷ 9 ∷ []) $ free1 ! $ move ! (6 ∷ 7 ∷ []) $ free1 ! $ move ! (4 ∷ 5 ∷ []) $ free1 ! $ free0 ! $
+        move ! (14 ∷ 15 ∷ []) $ free1 ! $ move ! (12 ∷ 13 ∷ []) $ free1 ! $ move ! (10 ∷ 11 ∷ []) $ free1 ! $ move ! (8 ∷ 9 ∷ []) $ free1 ! $ move ! (6 ∷ 7 ∷ []) $ free1 ! $ move ! (4 ∷ 5 ∷ []) $
+        free1 ! $ free0 ! $
         by ! (exits w₁ r₁ (ws .1 .0) (subst (λ (a : Answer). Promised recordCount prepare (now text) (now x) a (ws .1 .0)) (sym e₁) (in-other-words plainPrepared e)) l))))))))))))
 
 module _ {M : Type 1} (𝓤 : URA M) (H : Heap 𝓤) (A : Atoms 𝓤) (W : Given 𝓤 H A) (mem : Memory → SProp 𝓤) (run : Routine → Fun 𝓤) (𝓣 : Tables 𝓤 H)
-    (known-row : Triple 𝓤 (𝓣 .C #entry·prepare) (RowPrepare 𝓤 H A mem run)) (known-counted : Triple 𝓤 (𝓣 .C #plain·counted) (Counted 𝓤 H A mem run)) where
+    (known-row : Triple 𝓤 (𝓣 .C #entry·prepare) (RowPrepare 𝓤 H A mem run)) (known-counted : Triple 𝓤 (𝓣 .C #sakondreno·plain·counted) (Counted 𝓤 H A mem run)) where
   call-walks : Walks 𝓤 H A call.ended stayed (WpFn 𝓤 H (𝓣 .C) (𝓣 .Λ) code.function) (call.clauses 𝓤 H A mem run)
-  call-walks = walked 𝓤 H A call.ended stayed (call.clauses 𝓤 H A mem run) (WpFn 𝓤 H (𝓣 .C) (𝓣 .Λ) code.function) (λ κs. (slice-vals, (slice-vals, tt))) (λ κs. (shr-slice-tells (named 0) (κs .0) u8, (mut-slice-tells (named 1) (κs .1 .0) R, tt)))
+  call-walks =
+      walked 𝓤 H A call.ended stayed (call.clauses 𝓤 H A mem run) (WpFn 𝓤 H (𝓣 .C) (𝓣 .Λ) code.function) (λ κs. (slice-vals, (slice-vals, tt)))
+      (λ κs. (shr-slice-tells (named 0) (κs .0) u8, (mut-slice-tells (named 1) (κs .1 .0) R, tt)))
       (λ κs qs bounds a g are. via 𝓤 _ (fst∗ 𝓤 _ (emp 𝓤)) (walk 𝓤 H A W mem run (κs .0) (κs .1 .0) (qs .0) (qs .1 .0) (a .0) (a .1 .0) (are .0 .0 .1) (are .1 .0 .0 .1) 𝓣 known-row known-counted))
 
 pub sakondreno-prepare-spec : {M : Type 1} → stated.statement M
@@ -168,4 +174,4 @@ sakondreno-prepare-spec 𝓤 H 𝓜 𝓖 𝓡 =
     (goes-none-slice 𝓤 H (𝓖 .A) (givenOf 𝓤 H 𝓜 𝓖) 2 (0 ∷ []) tt (plain (λ _. u8)) yes, (goes-gave-slice 𝓤 H (𝓖 .A) (givenOf 𝓤 H 𝓜 𝓖) 2 1 tt (plain (λ _. R)), tt))
     (call-walks 𝓤 H (𝓖 .A) (givenOf 𝓤 H 𝓜 𝓖) (𝓜 .mem) (𝓡 .run) (here 𝓤 H 𝓜 𝓖 𝓡 code.env)
     (cited 𝓤 H (RowPrepare 𝓤 H (𝓖 .A) (𝓜 .mem) (𝓡 .run)) 𝓜 𝓡 code.env #entry·prepare row-def.routine code.calls-entry·prepare (row-thm.met 𝓤 H 𝓜 𝓖 𝓡))
-    (cited 𝓤 H (Counted 𝓤 H (𝓖 .A) (𝓜 .mem) (𝓡 .run)) 𝓜 𝓡 code.env #plain·counted counted-def.routine code.calls-plain·counted (counted-thm.met 𝓤 H 𝓜 𝓖 𝓡)))
+    (cited 𝓤 H (Counted 𝓤 H (𝓖 .A) (𝓜 .mem) (𝓡 .run)) 𝓜 𝓡 code.env #sakondreno·plain·counted counted-def.routine code.calls-sakondreno·plain·counted (counted-thm.met 𝓤 H 𝓜 𝓖 𝓡)))

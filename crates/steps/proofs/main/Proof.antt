@@ -1,4 +1,5 @@
-use Rattle.text.proofs.Writing.{wrote-fits, wrote-counts}
+-- What is shown lies within the buffer that `show` is lent.
+use Rattle.text.proofs.Wrote.{wrote-fits, wrote-counts}
 use borrow.Author.Needs.{needs}
 use Rattle.steps.proofs.main.Statement.{statement}
 use Rattle.steps.proofs.main.Tie as tie

@@ -1,5 +1,4 @@
--- `answers::texts::answer_steps` meets its contract: the text is within its bound, by what its reader says.
--- Assumes nothing.
+-- The text is within its bound, by what its reader says.
 use borrow.Author.Needs.{needs}
 use Rattle.answers.proofs.texts.answer_steps.Statement.{statement}
 use Rattle.answers.proofs.texts.answer_steps.Tie as tie

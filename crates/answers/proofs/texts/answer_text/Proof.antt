@@ -1,5 +1,4 @@
--- `answers::texts::answer_text` meets its contract: the room and the text are within their bounds, by what their readers say.
--- Assumes nothing.
+-- The room and the text are within their bounds, by what their readers say.
 use native.Mathlib.Omega.{arith}
 use borrow.Author.Needs.{needs}
 use Rattle.answers.proofs.texts.answer_text.Statement.{statement}
@@ -39,10 +38,21 @@ returns-2 : tie.Need-returns-2
 returns-2 c = search needs
 
 lend-requires : tie.Need-lend-requires
-lend-requires c κs = ((rw (c .before .before .before .before .n .given .1) at (c .before .before .before .before .before .before .read-text-of .ensures)) .0, omega (arith, rw (c .before .before .before .before .before .before .before .before .before .room .given .1) at (c .before .before .before .before .before .before .before .before .before .before .before .read-natural .ensures)))
+lend-requires c κs = (
+  (rw (c .before .before .before .before .n .given .1) at (c .before .before .before .before .before .before .read-text-of .ensures)) .0,
+  omega (
+    arith,
+    rw (c .before .before .before .before .before .before .before .before .before .room .given .1) at
+        (c .before .before .before .before .before .before .before .before .before .before .before .read-natural .ensures),
+  ),
+)
 
 say-lent-requires : tie.Need-say-lent-requires
-say-lent-requires c κs = (search needs, rw (c .before .before .before .before .before .before .before .before .before .before .before .before .room .given .1) at (c .before .before .before .before .before .before .before .before .before .before .before .before .before .before .read-natural .ensures))
+say-lent-requires c κs = (
+  search needs,
+  rw (c .before .before .before .before .before .before .before .before .before .before .before .before .room .given .1) at
+      (c .before .before .before .before .before .before .before .before .before .before .before .before .before .before .read-natural .ensures),
+)
 
 returns-3 : tie.Need-returns-3
 returns-3 c = search needs

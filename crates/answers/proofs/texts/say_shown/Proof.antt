@@ -1,6 +1,5 @@
--- `answers::texts::say_shown` meets its contract: what is shown lies within its room.
--- Assumes nothing.
-use Rattle.text.proofs.Writing.{wrote-fits}
+-- What is shown lies within its room.
+use Rattle.text.proofs.Wrote.{wrote-fits}
 use borrow.Author.Needs.{needs}
 use Rattle.answers.proofs.texts.say_shown.Statement.{statement}
 use Rattle.answers.proofs.texts.say_shown.Tie as tie

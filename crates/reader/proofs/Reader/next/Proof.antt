@@ -32,20 +32,20 @@ use denote.Triple.Spec.{tripleOf}
 use denote.Triple.Table.{cited}
 use denote.Triple.Walked.{says, Stays, stay-none, walkOf, goes-none, Walks, ends-at, walked}
 use denote.Exit.{yes}
-use Rattle.rules.specs.Reader.{next as nextOf}
+use Rattle.rules.specs.Text.Reader.{next as nextOf}
 use Rattle.rules.specs.declared.Found.{Found}
 use Rattle.rules.specs.declared.Cursor.{Cursor}
 use Rattle.rules.proofs.Found as F
 use Rattle.rules.proofs.Found.Laws as F′
-use Rattle.walks.proofs.Callee.{calls-known}
-use Rattle.walks.proofs.Close.{here, closes}
+use Rattle.byhand.proofs.Callee.{calls-known}
+use Rattle.byhand.proofs.Close.{here, closes}
 use Rattle.reader.specs.declared.Reader.{Reader}
 use Rattle.reader.proofs.Reader.Laws as T′
 use Rattle.reader.proofs.Holding.{Held, reader-val, text-val, Text, Own, held-spells, held-tells, held-typed, keeps, Cur, cursor-val, cursor-is, cursor-makes}
-use Rattle.leads.proofs.next_step as step
-use Rattle.leads.proofs.next_step.Symbol as step-def
-use Rattle.leads.proofs.next_step.Symbol.{name as #leads·next-step}
-use Rattle.leads.proofs.next_step.Met as step-thm
+use Rattle.reader.proofs.walk.next_step as step
+use Rattle.reader.proofs.walk.next_step.Symbol as step-def
+use Rattle.reader.proofs.walk.next_step.Symbol.{name as #reader·walk·next-step}
+use Rattle.reader.proofs.walk.next_step.Met as step-thm
 use Rattle.reader.proofs.Reader.next.Key.{name as #reader·Reader·next}
 use Rattle.reader.proofs.Reader.next as method
 use Rattle.reader.proofs.Reader.next.Statement as stated
@@ -83,13 +83,14 @@ module _ {M : Type 1} (𝓤 : URA M) (H : Heap 𝓤) (A : Atoms 𝓤) (W : Given
       qed W ((‵ (flft κ q) ⊛ ‵ ftrue) ∷ ‵ (Text κ (self .text)) ∷ []) ∵ nothing ! $ owned ! Cur (Is Cur) (cursor-makes 𝓤 H A) c _ (cursor-is c (typed .1 .1 .0 .fits)) $ fjoin ! $
       move ! (2 ∷ 0 ∷ []) $ fjoin ! $ move ! (1 ∷ 0 ∷ []) $ join ! $ frame ! $ nothing ! $ done !
 
-  exits : (w : Val) (f : Found) → f ≡ nextOf (now (self .text)) (self .at) → ent 𝓤 (⋆ 𝓤 H A (‵ (F.the-row .own f (w ∷ [])) ∷ (‵ (flft κ q) ⊛ ‵ ftrue) ∷ ‵ (Own κ self) ∷ [])) (Post w)
+  exits : (w : Val) (f : Found) → f ≡ nextOf (now (self .text)) (self .at)
+      → ent 𝓤 (⋆ 𝓤 H A (‵ (F.the-row .own f (w ∷ [])) ∷ (‵ (flft κ q) ⊛ ‵ ftrue) ∷ ‵ (Own κ self) ∷ [])) (Post w)
   exits w f e =
       qed W (‵ (F.the-row .own f (w ∷ [])) ∷ (‵ (flft κ q) ⊛ ‵ ftrue) ∷ ‵ (Own κ self) ∷ []) ∵
       suffices ! _ (ends-at 𝓤 H A method.ended after (method.clauses 𝓤 H A mem run) W (((κ, tt), (q, tt), tt, (self, tt), (v ∷ [], tt)), tt) w f (tt, tt) (tt, tt)) $ says ! e $
       nothing ! $ move ! (3 ∷ 0 ∷ []) $ fjoin ! $ move ! (2 ∷ 0 ∷ []) $ frame ! $ frame ! $ done !
 
-  module _ (𝓣 : Tables 𝓤 H) (known : Triple 𝓤 (𝓣 .C #leads·next-step) (NextStep 𝓤 H A mem run)) where
+  module _ (𝓣 : Tables 𝓤 H) (known : Triple 𝓤 (𝓣 .C #reader·walk·next-step) (NextStep 𝓤 H A mem run)) where
     walk : ent 𝓤 (onEntry 𝓤 H A method.signature (κ, tt) (q, tt) (self, tt) (v ∷ [], tt)) (WpFn 𝓤 H (𝓣 .C) (𝓣 .Λ) code.function (v ∷ []) Post)
     walk =
         qed W ((‵ (flft κ q) ⊛ ‵ ftrue) ∷ ‵ (owns (Held κ ∷ []) (self, tt) (v ∷ [], tt)) ∷ []) ∵ enter ! (𝓣 .C) (𝓣 .Λ) code.function (v ∷ []) _ $
@@ -108,9 +109,11 @@ module _ {M : Type 1} (𝓤 : URA M) (H : Heap 𝓤) (A : Atoms 𝓤) (W : Given
         move ! (1 ∷ []) $ peeks ! F.the-row (Is F.the-row) (shows 𝓤 H A F.the-row) f (w ∷ []) (λ is.
         land ! (from ! (stop !)) (init ! 11 refl (EL.lawful F.the-type F′.the-laws 𝓤 H A W tt .typed f _ is .0)) $
         returns ! (look ! 11 refl) $ forget ! 3 refl $ forget ! 5 refl $ forget ! 7 refl $ forget ! 9 refl $ forget ! 11 refl $
-        move ! (11 ∷ 12 ∷ []) $ free1 ! $ move ! (9 ∷ 10 ∷ []) $ free1 ! $ move ! (7 ∷ 8 ∷ []) $ free1 ! $ move ! (5 ∷ 6 ∷ []) $ free1 ! $ move ! (3 ∷ 4 ∷ []) $ free1 ! $ free0 ! $ by ! (exits w f e))))))))
+        move ! (11 ∷ 12 ∷ []) $ free1 ! $ move ! (9 ∷ 10 ∷ []) $ free1 ! $ move ! (7 ∷ 8 ∷ []) $ free1 ! $ move ! (5 ∷ 6 ∷ []) $ free1 ! $ move ! (3 ∷ 4 ∷ []) $
+        free1 ! $ free0 ! $ by ! (exits w f e))))))))
 
-module _ {M : Type 1} (𝓤 : URA M) (H : Heap 𝓤) (A : Atoms 𝓤) (W : Given 𝓤 H A) (mem : Memory → SProp 𝓤) (run : Routine → Fun 𝓤) (𝓣 : Tables 𝓤 H) (known : Triple 𝓤 (𝓣 .C #leads·next-step) (NextStep 𝓤 H A mem run)) where
+module _ {M : Type 1} (𝓤 : URA M) (H : Heap 𝓤) (A : Atoms 𝓤) (W : Given 𝓤 H A) (mem : Memory → SProp 𝓤) (run : Routine → Fun 𝓤) (𝓣 : Tables 𝓤 H)
+    (known : Triple 𝓤 (𝓣 .C #reader·walk·next-step) (NextStep 𝓤 H A mem run)) where
   walks : Walks 𝓤 H A method.ended after (WpFn 𝓤 H (𝓣 .C) (𝓣 .Λ) code.function) (method.clauses 𝓤 H A mem run)
   walks = walked 𝓤 H A method.ended after (method.clauses 𝓤 H A mem run) (WpFn 𝓤 H (𝓣 .C) (𝓣 .Λ) code.function) (λ κs. (held-spells (κs .0), tt)) (λ κs. (held-tells (κs .0), tt))
       (λ κs qs bounds a g are. via 𝓤 _ (fst∗ 𝓤 _ (emp 𝓤)) (walk 𝓤 H A W mem run (κs .0) (qs .0) (a .0) (held-typed 𝓤 H A W (κs .0) (a .0) _ (are .0)) 𝓣 known))
@@ -121,4 +124,5 @@ next-spec 𝓤 H 𝓜 𝓖 𝓡 =
     closes 𝓤 H 𝓜 𝓖 𝓡 method.ended after (method.clauses 𝓤 H (𝓖 .A) (𝓜 .mem) (𝓡 .run)) code.env #reader·Reader·next code.function (code.unfolded 𝓤 H 𝓜 𝓡)
     (goes-none 𝓤 H (𝓖 .A) (givenOf 𝓤 H 𝓜 𝓖) 1 Self yes (λ κs x f. refl), tt)
     (walks 𝓤 H (𝓖 .A) (givenOf 𝓤 H 𝓜 𝓖) (𝓜 .mem) (𝓡 .run) (here 𝓤 H 𝓜 𝓖 𝓡 code.env)
-    (cited 𝓤 H (NextStep 𝓤 H (𝓖 .A) (𝓜 .mem) (𝓡 .run)) 𝓜 𝓡 code.env #leads·next-step step-def.routine code.calls-leads·next-step (step-thm.met 𝓤 H 𝓜 𝓖 𝓡)))
+    (cited 𝓤 H (NextStep 𝓤 H (𝓖 .A) (𝓜 .mem) (𝓡 .run)) 𝓜 𝓡 code.env #reader·walk·next-step step-def.routine code.calls-reader·walk·next-step
+    (step-thm.met 𝓤 H 𝓜 𝓖 𝓡)))

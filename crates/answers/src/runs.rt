@@ -1,0 +1,166 @@
+// `run`: the text is prepared, a list and a store are lent to the run of its table, and both are looked at.
+use crate::tables::prepared;
+use answers_say::Heading;
+use answers_say::read_direction;
+use answers_say::say_refusal;
+use answers_say::say_what;
+use answers_steps::GUARD;
+use answers_steps::MOST_STEPS;
+use answers_steps::UNTOUCHED_NUMBER;
+use answers_steps::first;
+use answers_steps::is_untouched;
+use answers_steps::say_ran;
+use answers_wire::Natural;
+use answers_wire::Text;
+use pipeline::run;
+use prepare::Preparing;
+use rules::Direction;
+use rules::Prepared;
+use rules::Ran;
+use rules::Table;
+ghost use Prim.Native.Nat.{_+_, _≤_};
+ghost use lib.ListN.{length};
+
+// The most numbers of a list, and of a store: 65,537 tuples, one more than a run takes.
+const MOST_NUMBERS: usize = 262148;
+
+// `run DIR STORE TEXT NUMBERS`.
+pub fn answer_run(
+    line: &[u8],
+    text: &mut [u8; 65536],
+    list: &mut [f64; 262164],
+    store: &mut [f64; 262164],
+    out: &mut [u8; 65536],
+    at: usize,
+) -> usize
+    requires { ⌜ at ≤ 65536 ⌝ }
+    ensures { λ r. ⌜ r ≤ 65536 ⌝ }
+{
+    let Heading::Is(direction) = read_direction(answers_wire::field(line, 1)) else {
+        return say_what(out, at);
+    };
+    let Text::Is(n) = answers_wire::read_text_of(line, 5, 3, text) else {
+        return say_what(out, at);
+    };
+    run_text(line, direction, text, n, list, store, out, at)
+}
+
+// The same, with the first n bytes of `text` and the direction read.
+fn run_text(
+    line: &[u8],
+    direction: Direction,
+    text: &[u8],
+    n: usize,
+    list: &mut [f64; 262164],
+    store: &mut [f64; 262164],
+    out: &mut [u8; 65536],
+    at: usize,
+) -> usize
+    requires { ⌜ at ≤ 65536 ⌝ }
+    requires { ⌜ n ≤ length (now text) ⌝ }
+    ensures { λ r. ⌜ r ≤ 65536 ⌝ }
+{
+    let Natural::Is(room) = answers_wire::read_natural(answers_wire::field(line, 2), MOST_NUMBERS)
+    else {
+        return say_what(out, at);
+    };
+    let Natural::Is(k) = answers_wire::numbers(answers_wire::field(line, 4), MOST_NUMBERS) else {
+        return say_what(out, at);
+    };
+    let made = prepared(text, n, MOST_STEPS);
+    run_prepared(
+        made,
+        direction,
+        answers_wire::field(line, 4),
+        k,
+        room,
+        list,
+        store,
+        out,
+        at,
+    )
+}
+
+fn run_prepared(
+    made: Preparing,
+    direction: Direction,
+    field: &[u8],
+    k: usize,
+    room: usize,
+    list: &mut [f64; 262164],
+    store: &mut [f64; 262164],
+    out: &mut [u8; 65536],
+    at: usize,
+) -> usize
+    requires { ⌜ at ≤ 65536 ⌝ }
+    requires { ⌜ (k ≤ 262148) × (room ≤ 262148) ⌝ }
+    ensures { λ r. ⌜ r ≤ 65536 ⌝ }
+{
+    let answer = made.answer;
+    let table = made.table;
+    match answer {
+        Prepared::Steps(count) => {
+            let kept = is_untouched(table, count, MOST_STEPS);
+            let steps = first(table, count);
+            run_table(steps, direction, kept, field, k, room, list, store, out, at)
+        }
+        Prepared::Refused { number, place } => {
+            say_refusal(number, place, is_untouched(table, 0, MOST_STEPS), out, at)
+        }
+    }
+}
+
+// Lays out list and store, runs, and says what was answered.
+fn run_table(
+    table: Table,
+    direction: Direction,
+    kept: bool,
+    field: &[u8],
+    k: usize,
+    room: usize,
+    list: &mut [f64; 262164],
+    store: &mut [f64; 262164],
+    out: &mut [u8; 65536],
+    at: usize,
+) -> usize
+    requires { ⌜ at ≤ 65536 ⌝ }
+    requires { ⌜ (k ≤ 262148) × (room ≤ 262148) ⌝ }
+    ensures { λ r. ⌜ r ≤ 65536 ⌝ }
+{
+    lay(field, k, list);
+    clear(room, store);
+    let ran = lend(table, direction, k, room, list, store);
+    say_ran(ran, kept, field, k, room, list, store, out, at)
+}
+
+// The k numbers that `field` spells, and the guard behind them.
+fn lay(field: &[u8], k: usize, list: &mut [f64])
+    requires { ⌜ k + 16 ≤ length (now list) ⌝ }
+{
+    let end = k + GUARD;
+    answers_wire::read_numbers(field, &mut list[0..k]);
+    answers_wire::fill_numbers(&mut list[k..end], UNTOUCHED_NUMBER);
+}
+
+// A store of `room` numbers, and the guard behind them.
+fn clear(room: usize, store: &mut [f64])
+    requires { ⌜ room + 16 ≤ length (now store) ⌝ }
+{
+    let end = room + GUARD;
+    answers_wire::fill_numbers(&mut store[0..end], UNTOUCHED_NUMBER);
+}
+
+// Lends the k numbers of the list and exactly `room` of the store, and runs.
+fn lend(
+    table: Table,
+    direction: Direction,
+    k: usize,
+    room: usize,
+    list: &mut [f64],
+    store: &mut [f64],
+) -> Ran
+    requires { ⌜ k ≤ length (now list) ⌝ }
+    requires { ⌜ room ≤ length (now store) ⌝ }
+{
+    run(table, direction, &mut list[0..k], &mut store[0..room])
+}

@@ -1,0 +1,2 @@
+-- Laws that the proofs of the output cite.
+pub mod Digits

@@ -1,0 +1,14 @@
+// What the program `answers` says of a table's records, of a check and of a run. Nothing here prepares, checks or runs.
+mod checks;
+mod records;
+mod runs;
+
+pub use checks::say_foretold;
+pub use records::MOST_STEPS;
+pub use records::first;
+pub use records::is_untouched;
+pub use records::say_table;
+pub use records::untouched;
+pub use runs::GUARD;
+pub use runs::UNTOUCHED_NUMBER;
+pub use runs::say_ran;

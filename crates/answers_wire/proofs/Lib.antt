@@ -1,0 +1,3 @@
+-- Laws that the proofs of the numbers' readers and writers cite.
+pub mod Patterns
+pub mod PutWithin

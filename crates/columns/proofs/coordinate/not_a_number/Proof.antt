@@ -1,0 +1,15 @@
+-- `not_a_number`: zero over zero is NaN, by computing.
+use mathlib.Core.Path.{refl}
+use lib.Ieee.{ofBits, div}
+use Rattle.columns.proofs.coordinate.not_a_number.Statement.{statement}
+use Rattle.columns.proofs.coordinate.not_a_number.Tie as tie
+
+returns : tie.Need-returns
+unfolding ofBits div
+returns c = refl
+
+pub not-a-number-spec : {M : Type 1} → statement M
+not-a-number-spec =
+    tie.close
+    (tie.spec
+    returns)

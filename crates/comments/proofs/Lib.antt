@@ -1,3 +1,0 @@
-pub mod Lining
-pub mod Stripping
-pub mod Cleaning

@@ -1,4 +1,0 @@
-pub mod Firsts
-pub mod Loading
-pub mod Placing
-pub mod Ordering

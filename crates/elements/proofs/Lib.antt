@@ -1,4 +1,0 @@
-pub mod Cutting
-pub mod Filling
-pub mod Tabling
-pub mod Behind

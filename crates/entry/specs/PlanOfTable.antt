@@ -1,0 +1,96 @@
+-- What the call by value leaves in a table of blank records is a plan for every row of that length.
+use mathlib.Core.Path.{_≡_, refl, sym, ap, subst, _∙_}
+use Prim.Native.Nat.{ℕ, _≤_, min, zero-le}
+use mathlib.Core.Bool.{Bool, true, false, cond}
+use mathlib.Core.List.{List, _++_, append-assoc}
+use native.Mathlib.Omega.{arith}
+use borrow.Author.Tests.{lt-ltb, le-ltb, ltb-true, ltb-false}
+use lib.Dec.{ltb}
+use lib.ListN.{length, take, drop, length-take}
+use lib.Seq.{take-at}
+use Rattle.rules.specs.Text.Bytes.{Bytes}
+use Rattle.rules.specs.Text.Refusal.{Reply, answers, refuses, tested, lent, outcome, prepared}
+use Rattle.rules.specs.Pipeline.Prepare.{prepare}
+use Rattle.rules.specs.declared.Prepared.{Prepared}
+use Rattle.rules.specs.declared.Prepared.the-variants as prepared-is
+use Rattle.rules.specs.declared.Step.{Step}
+use Rattle.rules.specs.declared.Table.{Table}
+use Rattle.prepare.specs.declared.Preparing.{Preparing}
+use Rattle.prepare.specs.Lent.{withRow, lentTo, preparing}
+use Rattle.rows.specs.Row.{blanks, emptied, laid, Fits}
+use Rattle.rows.specs.LaidRow.{length-blanks, laid-none}
+use Rattle.entry.specs.declared.Plan.{Plan}
+use Rattle.entry.specs.Plans.{countOf, Plans}
+use Rattle.laws_records.specs.Made.{prepare-made, tested-answers}
+
+-- the plan that is made of what the call by value leaves
+unfoldable pub planOf : Preparing → Plan
+planOf q = record { answer = q .answer; steps = q .table .steps; n = countOf (q .answer) }
+
+-- a reply, brought into the blank records and from there into a row
+record Brings (reply : Reply (List Step)) (row : List Step) (p : Plan) : Type 0 where
+  fits : Fits (p .n) row
+  keeps : _≡_ {A = Prepared × List Step} (p .answer, laid (p .steps) (p .n) row) (lent prepared reply row)
+
+module _ (row : List Step) where
+  -- nothing is written
+  leaves : (reply : Reply (List Step)) (number place : ℕ) (steps : List Step)
+      → _≡_ {A = Prepared × List Step} (prepared-is.Refused number place, row) (lent prepared reply row)
+      → Brings reply row (record { answer = prepared-is.Refused number place; steps = steps; n = 0 })
+  leaves reply number place steps e =
+      record {
+        fits = record { held = zero-le; room = zero-le };
+        keeps = ap (λ (l : List Step). (prepared-is.Refused number place, l)) (laid-none steps row) ∙ e;
+      }
+
+  -- all records are written, from the first on
+  writes : (xs rest : List Step) → length xs ≤ 64 → length xs ≤ length row
+      → Brings (answers xs) row (record { answer = prepared-is.Steps (length xs); steps = xs ++ rest; n = length xs })
+  unfolding laid lent prepared
+  writes xs rest few room =
+      record {
+        fits = record { held = few; room = room };
+        keeps = rw (take-at xs rest (length xs) refl, le-ltb (length row) (length xs) room);
+      }
+
+-- of at most 64 records
+brought : (reply : Reply (List Step)) → ((xs : List Step) → reply ≡ answers xs → length xs ≤ 64) → (row : List Step)
+    → Brings reply row (planOf (lentTo reply (emptied (length row))))
+unfolding planOf lentTo withRow countOf lent prepared
+brought (refuses number place) few row = leaves row (refuses number place) number place _ refl
+brought (answers xs) few row = go (ltb (length front) (length xs)) refl
+  where
+    front : List Step
+    front = take (length row) blanks
+
+    size : length front ≡ min (length row) 64
+    size = length-take (length row) blanks ∙ ap (min (length row)) length-blanks
+
+    small : length xs ≤ 64
+    small = few xs refl
+
+    go : (b : Bool) → ltb (length front) (length xs) ≡ b
+        → Brings (answers xs) row (planOf (withRow (emptied (length row)) (cond b (prepared-is.Refused 7 0, front) (prepared-is.Steps (length xs), xs ++ drop (length xs) front))))
+    go true e = leaves row (answers xs) 7 0 _ (rw (lt-ltb (length row) (length xs) (omega (arith, size, small, ltb-true (length front) (length xs) e))))
+    go false e =
+        rw (append-assoc xs (drop (length xs) front) (drop (length row) blanks))
+        (writes row xs (drop (length xs) front ++ drop (length row) blanks) small (omega (arith, size, ltb-false (length front) (length xs) e)))
+
+-- the plan keeps what preparing promises
+pub plans : (text : Bytes) (room : ℕ) {p : Plan} → p ≡ planOf (preparing text (emptied room)) → Plans text room p
+unfolding preparing outcome
+plans text room {p} e =
+    record { fits = λ row l. brings row l .fits; keeps = λ row l. record { exactly = brings row l .keeps } }
+  where
+    brings : (row : List Step) → length row ≡ room → Brings (tested prepare text) row p
+    brings row l =
+        subst (Brings (tested prepare text) row) (ap (λ (n : ℕ). planOf (preparing text (emptied n))) l ∙ sym e)
+        (brought (tested prepare text) (λ xs h. prepare-made text xs (tested-answers text xs h) .1) row)
+
+-- the same, from what the callees promise
+pub planned-by : (text : Bytes) (room : ℕ) {t : Table} {q : Preparing} {n : ℕ} → t ≡ emptied room → q ≡ preparing text t → n ≡ countOf (q .answer)
+    → Plans text room (record { answer = q .answer; steps = q .table .steps; n = n })
+unfolding planOf
+planned-by text room {t} {q} e f g =
+    plans text room
+    ((λ i. record { answer = q .answer; steps = q .table .steps; n = g i }) ∙ ap planOf (f ∙ ap (preparing text) e))

@@ -1,2 +1,0 @@
-pub mod Inserting
-pub mod Entering

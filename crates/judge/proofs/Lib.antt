@@ -1,3 +1,0 @@
-pub mod Recording
-pub mod Choosing
-pub mod Ruling

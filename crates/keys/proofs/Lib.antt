@@ -1,3 +1,0 @@
-pub mod Looking
-pub mod Numbering
-pub mod Faulting

@@ -1,0 +1,175 @@
+-- `made` holds of exactly the records that preparations make, and each of them has its text: what is promised of writing.
+use mathlib.Core.Path.{_≡_, refl, ap}
+use Prim.Native.Nat.{ℕ, _-_, _≤_}
+use mathlib.Core.Bool.{Bool, true, false, cond}
+use mathlib.Core.Logic.{_↔_}
+use mathlib.Core.Option.{Option, none, some}
+use mathlib.Core.List.{List, [], _∷_, _++_, append-nil}
+use native.Mathlib.Omega.{arith}
+use borrow.Author.Tests.{leb-true}
+use lib.ListN.{length, drop, replicate, length-append, length-replicate}
+use lib.Dec.{leb, ltb, lit≤}
+use lib.IntN.{ℤ, pos}
+use Rattle.rules.specs.Text.Ascii.{ascii}
+use Rattle.rules.specs.Text.Lists.{anyOf, allOf}
+use Rattle.rules.specs.Text.Bytes.{Bytes, afterEach, joinedBy}
+use Rattle.rules.specs.Text.Refusal.{Reply, answers, refuses, andThen, tested, prepared}
+use Rattle.rules.specs.Text.Split.{steps, splitSteps}
+use Rattle.rules.specs.Text.Parameters.{Parameter, parametersOf}
+use Rattle.rules.specs.Operators.Arguments.{valueOf}
+use Rattle.rules.specs.Operators.Descriptions.{Operator, Chosen}
+use Rattle.rules.specs.Operators.Table.{wordingOf, greatest}
+use Rattle.rules.specs.Pipeline.Record.{stepWith, made}
+use Rattle.rules.specs.Pipeline.Keys.{kindOf, unknown, misspelt, tooLong}
+use Rattle.rules.specs.Pipeline.Prepare.{recordOf, recorded, ownRule, judged14, judged11, named, judged10, judged, atStep, prepareStep, prepareSteps, prepare, Prepares}
+use Rattle.rules.specs.declared.Step.{Step}
+use Rattle.rules.specs.declared.Name.{Name}
+use Rattle.rules.specs.declared.Named.{Named}
+use Rattle.rules.specs.declared.Named.the-variants.{Is, Not}
+use Rattle.rules.specs.declared.Prepared.the-variants as prepared-is
+use Rattle.laws_text.specs.Entry.{answered}
+use Rattle.laws_records.specs.Made.{then-answers, prepare-made, tested-answers}
+use Rattle.rules.specs.Pipeline.Write.{writing, tableWriting}
+use Rattle.laws_lists.specs.Lists.{Every}
+use Rattle.laws_lists.specs.Tests.{and-left, and-right, never}
+use Rattle.laws_records.specs.Faithful.{Slots, AllMade, made-each, prepare-again, table-short, table-domain, table-again}
+
+-- ---- one record
+
+alone : (s : Step) → Slots s → made s ≡ true → AllMade (s ∷ [])
+unfolding allOf Every
+alone s e h = record { each = rw h; slots = (e, tt) }
+
+one-text : (s : Step) → tableWriting (s ∷ []) ≡ writing s
+unfolding tableWriting joinedBy afterEach
+one-text s = append-nil (writing s)
+
+-- Preparing the text of a record that passes `made` gives exactly that record.
+pub writing-again : (s : Step) → Slots s → made s ≡ true → tested prepare (writing s) ≡ answers (s ∷ [])
+writing-again s e h = rw (← one-text s) (table-again (s ∷ []) (alone s e h) (lit≤ tt))
+
+-- ---- a lent table
+
+-- Where at most 64 records each pass `made`, and a step table has room for them, the call `prepare` brings exactly these
+-- records of their text to its front and leaves the rest.
+pub table-prepares : (l table : List Step) → AllMade l → length l ≤ 64 → length l ≤ length table
+    → Prepares (tableWriting l) table (prepared-is.Steps (length l)) (l ++ drop (length l) table)
+unfolding prepared
+table-prepares l table h few room =
+    let m = made-each l h in
+    answered (table-short l (h .each) few) (table-domain l m) (prepare-again l m few) room refl refl
+
+pub writing-prepares : (s : Step) (table : List Step) → Slots s → made s ≡ true → 1 ≤ length table → Prepares (writing s) table (prepared-is.Steps 1) (s ∷ drop 1 table)
+writing-prepares s table e h room = rw (← one-text s) (table-prepares (s ∷ []) table (alone s e h) (lit≤ tt) room)
+
+-- ---- the other half: a record that a preparation makes
+
+-- its arguments stand in its slots
+record Slotted (s : Step) : Type 0 where
+  slotted-by : Operator
+  given : List Parameter
+  listed : List ℤ
+  same-as : recordOf slotted-by given listed ≡ s
+
+-- whatever the operator's own rule chose
+own-slotted : (n : Name) (ps : List Parameter) (s : Step) → ownRule n ps ≡ some s → Slotted s
+unfolding ownRule
+own-slotted n ps s h = go (wordingOf n .chosen ps) h
+  where
+    go : (c : Option Chosen) → recorded ps c ≡ some s → Slotted s
+    go none h = unfold recorded in absurd (never (cc h))
+    go (some c) h = unfold recorded in record { slotted-by = c .operator; given = ps; listed = c .arguments; same-as = cc h }
+
+judged-slotted : (ps : List Parameter) (s : Step) → judged ps ≡ answers s → Slotted s
+unfolding judged judged10 judged11 judged14
+judged-slotted ps s h = by10 (named (valueOf (ascii "_name") ps)) h
+  where
+    by14 : (o : Option Step) → ((r : Step) → o ≡ some r → Slotted r) → judged14 o ≡ answers s → Slotted s
+    by14 none f h = absurd (never (cc h))
+    by14 (some r) f h = f s (cc h)
+
+    by13 : (n : Name) (a b c : Bool) → cond a (refuses 11 0) (cond b (refuses 12 0) (cond c (refuses 13 0) (judged14 (ownRule n ps)))) ≡ answers s → Slotted s
+    by13 n true b c h = absurd (never (cc h))
+    by13 n false true c h = absurd (never (cc h))
+    by13 n false false true h = absurd (never (cc h))
+    by13 n false false false h = by14 (ownRule n ps) (own-slotted n ps) h
+
+    by10 : (o : Named) → judged10 o ps ≡ answers s → Slotted s
+    by10 Not h = absurd (never (cc h))
+    by10 (Is n) h =
+        by13 n (anyOf (unknown n) ps) (anyOf (λ (p : Parameter). misspelt (kindOf n p) (p .value)) ps) (anyOf (λ (p : Parameter). tooLong (kindOf n p) (p .value)) ps) h
+
+step-slotted : (place : ℕ) (t : Bytes) (s : Step) → prepareStep place t ≡ answers s → Slotted s
+unfolding prepareStep atStep
+step-slotted place t s h = go (ltb 4096 (length t)) h
+  where
+    at : (r : Reply Step) → atStep place r ≡ answers s → r ≡ answers s
+    at (answers x) h = h
+    at (refuses n p) h = absurd (never (cc h))
+
+    go : (b : Bool) → atStep place (cond b (refuses 1 0) (andThen (parametersOf t) judged)) ≡ answers s → Slotted s
+    go true h = absurd (never (cc h))
+    go false h = let f = then-answers (parametersOf t) judged s (at _ h) in judged-slotted (f .0) s (f .2)
+
+steps-slotted : (place : ℕ) (ts : List Bytes) (l : List Step) → prepareSteps place ts ≡ answers l → Every Slotted l
+unfolding prepareSteps Every
+steps-slotted place [] l h = let e : [] ≡ l = cc h in rw (← e) tt
+steps-slotted place (t ∷ ts) l h =
+    let f = then-answers (prepareStep place t) _ l h in
+    let g = then-answers (prepareSteps _ ts) _ l (f .2) in
+    let e : f .0 ∷ g .0 ≡ l = cc (g .2) in
+    rw (← e) (step-slotted place t (f .0) (f .1), steps-slotted _ ts (g .0) (g .1))
+
+-- such a record that passes `made` has its eight slots
+slotted-eight : (s : Step) → Slotted s → made s ≡ true → Slots s
+slotted-eight s h m = go (h .slotted-by) (h .given) (h .listed) (h .same-as)
+  where
+    few : leb (s .n) 8 ≡ true
+    few = unfold made in and-left (leb (s .n) 8) _ (and-right (leb (s .operator) greatest) _ m)
+
+    go : (o : Operator) (ps : List Parameter) (l : List ℤ) → recordOf o ps l ≡ s → Slots s
+    go o ps l e =
+        let n : length l ≡ s .n = unfold recordOf stepWith in ap (λ (r : Step). r .n) e in
+        let a : length (l ++ replicate (8 - length l) (pos 0)) ≡ length (s .args) = unfold recordOf stepWith in ap (λ (r : Step). length (r .args)) e in
+        omega (arith, length-append l (replicate (8 - length l) (pos 0)), length-replicate {A = ℤ} (8 - length l) (pos 0), leb-true (s .n) 8 few)
+
+eight-each : (l : List Step) → allOf made l ≡ true → Every Slotted l → AllMade l
+unfolding allOf Every
+eight-each [] h k = record { each = refl; slots = tt }
+eight-each (s ∷ l) h k =
+    let m = and-left (made s) (allOf made l) h in
+    let r = eight-each l (and-right (made s) (allOf made l) h) (k .1) in
+    record { each = h; slots = (slotted-eight s (k .0) m, r .slots) }
+
+-- The records of every prepared text pass `made`, have their slots, and are at most 64.
+pub prepared-all : (t : Bytes) (l : List Step) → tested prepare t ≡ answers l → AllMade l × (length l ≤ 64)
+unfolding prepare
+prepared-all t l h =
+    let p = tested-answers t l h in
+    let m = prepare-made t l p in
+    let f = then-answers (splitSteps (steps t)) (prepareSteps 1) l p in
+    (eight-each l (m .0) (steps-slotted 1 (f .0) l (f .2)), m .1)
+
+-- ---- both halves
+
+-- some text prepares to exactly these records
+pub record Texted (l : List Step) : Type 0 where
+  pub text : Bytes
+  pub prepares : tested prepare text ≡ answers l
+
+-- A table has a text that prepares to it exactly when its records are at most 64, each of eight slots, and each passes `made`.
+pub tables-exactly : (l : List Step) → (AllMade l × (length l ≤ 64)) ↔ Texted l
+tables-exactly l = (
+  λ h. record { text = tableWriting l; prepares = table-again l (h .0) (h .1) },
+  λ t. prepared-all (t .text) l (t .prepares),
+)
+
+-- A record of eight slots, as every record of the code is, passes `made` exactly when some text prepares to it.
+pub made-exactly : (s : Step) → Slots s → (made s ≡ true) ↔ Texted (s ∷ [])
+made-exactly s e = (
+  λ h. record { text = writing s; prepares = writing-again s e h },
+  λ t. first (prepared-all (t .text) (s ∷ []) (t .prepares) .0 .each),
+)
+  where
+    first : allOf made (s ∷ []) ≡ true → made s ≡ true
+    first h = unfold allOf in and-left (made s) true h

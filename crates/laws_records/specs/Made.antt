@@ -1,0 +1,163 @@
+-- Every record that a preparation makes passes the test of refusal 18, so no check and no run of a prepared table is
+-- refused 18.
+use mathlib.Core.Path.{_≡_, refl, ap}
+use Prim.Native.Nat.{ℕ, suc, _≤_}
+use mathlib.Core.Bool.{Bool, true, false, cond, not}
+use mathlib.Core.Option.{Option, none, some}
+use mathlib.Core.List.{List, [], _∷_, _++_}
+use native.Mathlib.Omega.{arith}
+use borrow.Author.Tests.{le-ltb}
+use lib.ListN.{length, take, drop}
+use lib.Seq.{take-append-seam}
+use lib.Dec.{ltb}
+use lib.Ieee.{Float}
+use Rattle.rules.specs.Text.Ascii.{ascii}
+use Rattle.rules.specs.Text.Lists.{anyOf, allOf}
+use Rattle.rules.specs.Text.Bytes.{Bytes, inDomain}
+use Rattle.rules.specs.Text.Refusal.{Reply, answers, refuses, andThen, tested, lent, outcome, prepared}
+use Rattle.rules.specs.Text.Split.{steps, splitSteps}
+use Rattle.rules.specs.Text.Parameters.{Parameter, parametersOf}
+use Rattle.rules.specs.Pipeline.Record.{made, firstBad, refusal18}
+use Rattle.rules.specs.Pipeline.Keys.{kindOf, unknown, misspelt, tooLong}
+use Rattle.rules.specs.Operators.Table.{wordingOf}
+use Rattle.rules.specs.Operators.Arguments.{valueOf}
+use Rattle.rules.specs.Pipeline.Prepare.{ownRule, judged14, judged11, named, judged10, judged, atStep, prepareStep, prepareSteps, prepare, Prepares}
+use Rattle.rules.specs.Pipeline.Run.{runs}
+use Rattle.rules.specs.Pipeline.Check.{check}
+use Rattle.rules.specs.declared.Step.{Step}
+use Rattle.rules.specs.declared.Name.{Name}
+use Rattle.rules.specs.declared.Named.{Named}
+use Rattle.rules.specs.declared.Named.the-variants.{Is, Not}
+use Rattle.rules.specs.declared.Prepared.{Prepared}
+use Rattle.rules.specs.declared.Prepared.the-variants as prepared-is
+use Rattle.rules.specs.declared.Direction.{Direction}
+use Rattle.rules.specs.declared.Verdict.the-variants as verdict-is
+use Rattle.rules.specs.declared.Ran.the-variants as ran-is
+use Rattle.laws_lists.specs.Tests.{and-left, and-right, never}
+use Rattle.laws_text.specs.Refusals.{split-few}
+use Rattle.laws_steps.specs.Foretold.{check-refused}
+use Rattle.laws_steps.specs.Runs.{run-refused}
+use Rattle.laws_records.specs.Kept.{recorded-made}
+use Rattle.laws_records.specs.Owed.{Short}
+use Rattle.laws_records.specs.Operators.Table.{keeps-rule}
+
+-- ---- one step
+
+-- Every record that judging a step's parameters answers is `made`.
+pub prepared-made : (ps : List Parameter) (s : Step) → judged ps ≡ answers s → made s ≡ true
+unfolding judged judged10 judged11 judged14
+prepared-made ps s h = by10 (named (valueOf (ascii "_name") ps)) h
+  where
+    by14 : (n : Name) (o : Option Step) → Short n ps → ownRule n ps ≡ o → judged14 o ≡ answers s → made s ≡ true
+    by14 n none short e h = absurd (never (cc h))
+    by14 n (some r) short e h =
+        let z : r ≡ s = cc h in
+        rw (← z) (recorded-made ps (wordingOf n .chosen ps) (keeps-rule n ps short) r (unfold ownRule in e))
+
+    by13 : (n : Name) (a b c : Bool) → (c ≡ false → Short n ps)
+        → cond a (refuses 11 0) (cond b (refuses 12 0) (cond c (refuses 13 0) (judged14 (ownRule n ps)))) ≡ answers s → made s ≡ true
+    by13 n true b c e h = absurd (never (cc h))
+    by13 n false true c e h = absurd (never (cc h))
+    by13 n false false true e h = absurd (never (cc h))
+    by13 n false false false e h = by14 n (ownRule n ps) (e refl) refl h
+
+    by10 : (o : Named) → judged10 o ps ≡ answers s → made s ≡ true
+    by10 Not h = absurd (never (cc h))
+    by10 (Is n) h =
+        by13 n (anyOf (unknown n) ps) (anyOf (λ (p : Parameter). misspelt (kindOf n p) (p .value)) ps) (anyOf (λ (p : Parameter). tooLong (kindOf n p) (p .value)) ps) (λ e. e) h
+
+-- what an answer of two calls, one after the other, is made of
+pub then-answers : {A B : Type 0} (r : Reply A) (next : A → Reply B) (y : B) → andThen r next ≡ answers y → (x : A) × (r ≡ answers x) × (next x ≡ answers y)
+unfolding andThen
+then-answers (answers x) next y h = (x, refl, h)
+then-answers (refuses n p) next y h = absurd (never (cc h))
+
+-- So is the record that preparing one step's text answers.
+pub step-made : (place : ℕ) (t : Bytes) (s : Step) → prepareStep place t ≡ answers s → made s ≡ true
+unfolding prepareStep atStep
+step-made place t s h = go (ltb 4096 (length t)) h
+  where
+    at : (r : Reply Step) → atStep place r ≡ answers s → r ≡ answers s
+    at (answers x) h = h
+    at (refuses n p) h = absurd (never (cc h))
+
+    go : (b : Bool) → atStep place (cond b (refuses 1 0) (andThen (parametersOf t) judged)) ≡ answers s → made s ≡ true
+    go true h = absurd (never (cc h))
+    go false h = let f = then-answers (parametersOf t) judged s (at _ h) in prepared-made (f .0) s (f .2)
+
+-- ---- a whole preparation
+
+-- the records of an answer: one for each step's text, and each is `made`
+pub record AllMade (n : ℕ) (l : List Step) : Type 0 where
+  pub each : allOf made l ≡ true
+  pub many : length l ≡ n
+
+pub steps-made : (place : ℕ) (ts : List Bytes) (l : List Step) → prepareSteps place ts ≡ answers l → AllMade (length ts) l
+unfolding prepareSteps allOf
+steps-made place [] l h = let e : [] ≡ l = cc h in rw (← e) (record { each = refl; many = refl })
+steps-made place (t ∷ ts) l h =
+    let f = then-answers (prepareStep place t) _ l h in
+    let g = then-answers (prepareSteps (suc place) ts) _ l (f .2) in
+    let k = steps-made (suc place) ts (g .0) (g .1) in
+    let e : f .0 ∷ g .0 ≡ l = cc (g .2) in
+    rw (← e) (record { each = rw (step-made place t (f .0) (f .1)) (k .each); many = ap suc (k .many) })
+
+none-bad : (k : ℕ) (l : List Step) → allOf made l ≡ true → firstBad k l ≡ none
+unfolding firstBad allOf
+none-bad k [] h = refl
+none-bad k (s ∷ l) h = rw (and-left (made s) (allOf made l) h) (none-bad (suc k) l (and-right (made s) (allOf made l) h))
+
+-- Every record of a prepared text is `made`, and they are 64 at most.
+pub prepare-made : (t : Bytes) (l : List Step) → prepare t ≡ answers l → (allOf made l ≡ true) × (length l ≤ 64)
+unfolding prepare
+prepare-made t l h =
+    let f = then-answers (splitSteps (steps t)) (prepareSteps 1) l h in
+    let k = steps-made 1 (f .0) l (f .2) in
+    (k .each, omega (arith, k .many, split-few (steps t) (f .0) (f .1) .1))
+
+-- Refusal 18 does not apply to them,
+pub never-18 : (t : Bytes) (l : List Step) → prepare t ≡ answers l → refusal18 l ≡ none
+unfolding refusal18
+never-18 t l h = let k = prepare-made t l h in rw (le-ltb 64 (length l) (k .1)) (none-bad 1 l (k .0))
+
+-- so no check of them is refused
+pub check-never-18 : (t : Bytes) (l : List Step) → prepare t ≡ answers l → (d : Direction) (number place : ℕ) → check d l .verdict ≡ verdict-is.Refused number place → ⊥
+check-never-18 t l h d number place e = never (cc (never-18 t l h, check-refused d l number place e .1))
+
+-- and no run of them is refused 18.
+pub run-never-18 : (t : Bytes) (l : List Step) → prepare t ≡ answers l → (d : Direction) (xs store : List Float) (place : ℕ) → runs d l xs store .answer ≡ ran-is.Refused 18 place → ⊥
+run-never-18 t l h d xs store place e = never (cc (never-18 t l h, run-refused d l xs store place e))
+
+-- ---- a lent table
+
+-- what the promise of preparing says where it answers: the records stand at the front of the table
+lent-answers : (r : Reply (List Step)) (table table′ : List Step) (n : ℕ)
+    → _≡_ {A = Prepared × List Step} (prepared-is.Steps n, table′) (lent prepared r table) → r ≡ answers (take n table′)
+unfolding lent prepared
+lent-answers (refuses number place) table table′ n h = absurd (never (cc (ap (λ (x : Prepared × List Step). x .0) h)))
+lent-answers (answers l) table table′ n h = go (ltb (length table) (length l)) h
+  where
+    go : (b : Bool) → _≡_ {A = Prepared × List Step} (prepared-is.Steps n, table′) (cond b (prepared-is.Refused 7 0, table) (prepared-is.Steps (length l), l ++ drop (length l) table))
+        → answers l ≡ answers (take n table′)
+    go true h = absurd (never (cc (ap (λ (x : Prepared × List Step). x .0) h)))
+    go false h =
+        let e : n ≡ length l = cc (ap (λ (x : Prepared × List Step). x .0) h) in
+        let f : table′ ≡ l ++ drop (length l) table = ap (λ (x : Prepared × List Step). x .1) h in
+        rw (e, f, take-append-seam l (drop (length l) table))
+
+pub tested-answers : (t : Bytes) (l : List Step) → tested prepare t ≡ answers l → prepare t ≡ answers l
+unfolding tested
+tested-answers t l h = go (ltb 4096 (length t)) (not (inDomain t)) h
+  where
+    go : (a b : Bool) → cond a (refuses 1 0) (cond b (refuses 2 0) (prepare t)) ≡ answers l → prepare t ≡ answers l
+    go true b h = absurd (never (cc h))
+    go false true h = absurd (never (cc h))
+    go false false h = h
+
+-- Of a table that preparing answered into, the records that it counts are those of the text. So they are not refused 18.
+pub table-prepared : {t : Bytes} {table table′ : List Step} {n : ℕ} → Prepares t table (prepared-is.Steps n) table′ → prepare t ≡ answers (take n table′)
+unfolding outcome
+table-prepared {t} {table} {table′} {n} p = tested-answers t (take n table′) (lent-answers (tested prepare t) table table′ n (p .exactly))
+
+pub table-never-18 : {t : Bytes} {table table′ : List Step} {n : ℕ} → Prepares t table (prepared-is.Steps n) table′ → refusal18 (take n table′) ≡ none
+table-never-18 {t} {table} {table′} {n} p = never-18 t (take n table′) (table-prepared p)

@@ -1,0 +1,19 @@
+-- Theorems about the definitions of check and run.
+pub mod Depth
+pub mod Rolls
+pub mod PlacesOf
+pub mod Verdict
+pub mod Places
+pub mod Keeps
+pub mod Named
+pub mod Lengths
+pub mod Foretold
+pub mod Exactly
+pub mod Runs
+pub mod OwnNumbers
+pub mod Bits
+pub mod Ending
+pub mod Exported
+pub mod Walk
+pub mod Limits
+pub mod FourPlaces

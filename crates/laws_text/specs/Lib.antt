@@ -1,0 +1,12 @@
+-- Theorems about the definitions of `rules` on texts.
+pub mod Once
+pub mod Library
+pub mod Entry
+pub mod Numerals
+pub mod Passes
+pub mod Words
+pub mod Sizes
+pub mod Refusals
+pub mod Separators
+pub mod Table
+pub mod Walk

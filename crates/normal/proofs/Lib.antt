@@ -1,3 +1,0 @@
-pub mod Weighing
-pub mod Running
-pub mod Calming

@@ -1,0 +1,21 @@
+-- What `normalise` returns is what its promise names: the normal form, handed out.
+use mathlib.Core.Path.{_≡_, refl}
+use mathlib.Core.Bool.{true}
+use Prim.Native.Nat.{ℕ, _≤_}
+use lib.ListN.{length, take}
+use Rattle.rules.specs.Text.Bytes.{Bytes, inDomain}
+use Rattle.rules.specs.Text.Normal.{normal, normalise}
+use Rattle.rules.specs.Text.Refusal.{answers, Writes, Lends}
+use Rattle.rules.specs.declared.Written.{Written}
+use Rattle.laws_text.specs.Entry.{lends-so}
+use Rattle.text.specs.Wrote.{Holds}
+use Rattle.text.proofs.Wrote.{wrote-front}
+
+is-normal : (t : Bytes) → normalise t ≡ answers (normal t)
+unfolding normalise
+is-normal t = refl
+
+-- the normal form, as it stands in a, handed out
+pub normalise-so : {t a out out′ : Bytes} {n : ℕ} {r : Written} → length t ≤ 4096 → inDomain t ≡ true → Holds (normal t) n a → Lends (answers (take n a)) out r out′
+    → Writes normalise t out r out′
+normalise-so {t} short domain h w = lends-so short domain (is-normal t) (rw (wrote-front h) at w)

@@ -1,3 +1,0 @@
-pub mod Saying
-pub mod Spelling
-pub mod Heading

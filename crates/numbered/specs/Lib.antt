@@ -1,2 +1,0 @@
--- Numbers and steps as the program `steps` prints them.
-pub mod Spelling

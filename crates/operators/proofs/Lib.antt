@@ -1,3 +1,0 @@
-pub mod Signing
-pub mod Counting
-pub mod Wording

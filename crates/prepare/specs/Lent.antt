@@ -1,0 +1,56 @@
+-- The lent step table, before and after; and preparing a text and a normalised text.
+use Prim.Native.Nat.{ℕ}
+use mathlib.Core.Bool.{cond, not}
+use mathlib.Core.List.{List, _++_, map}
+use lib.ListN.{take, drop}
+use lib.Dec.{eqb, ltb}
+use Rattle.rules.specs.Text.Bytes.{Bytes}
+use Rattle.rules.specs.Text.Refusal.{Reply, andThen, tested, lent, prepared}
+use Rattle.rules.specs.Text.Split.{stepsOf, splitSteps, stepText}
+use Rattle.rules.specs.Pipeline.Prepare.{prepareSteps, prepare}
+use Rattle.rules.specs.declared.Prepared.{Prepared}
+use Rattle.rules.specs.declared.Prepared.the-variants as prepared-is
+use Rattle.rules.specs.declared.Step.{Step}
+use Rattle.rules.specs.declared.Table.{Table}
+use Rattle.prepare.specs.declared.Preparing.{Preparing}
+
+-- ---- the lent row
+
+-- The records lent: the first `n` of the table. (A table that says more than its 64 lends these.)
+abbrev pub row : Table → List Step
+row t = take (t .n) (t .steps)
+
+-- what is answered, and the table with the row as it is then: what lies past the row, and its length, stay
+unfoldable pub withRow : Table → Prepared × List Step → Preparing
+withRow t x = record { answer = x .0; table = record { steps = x .1 ++ drop (t .n) (t .steps); n = t .n } }
+
+-- a reply brought into the row
+unfoldable pub lentTo : Reply (List Step) → Table → Preparing
+lentTo reply t = withRow t (lent prepared reply (row t))
+
+-- The call `prepare`, by the promise of `rules` on the records lent.
+unfoldable pub preparing : Bytes → Table → Preparing
+preparing text t = lentTo (tested prepare text) t
+
+-- ---- a normalised text
+
+-- of the texts of its steps, and of the whole, which is split first
+unfoldable pub stepsReply : Bytes → Reply (List Step)
+stepsReply normalised = prepareSteps 1 (map stepText (stepsOf normalised))
+
+unfoldable pub normalReply : Bytes → Reply (List Step)
+normalReply normalised = andThen (splitSteps (stepsOf normalised)) (prepareSteps 1)
+
+-- ---- as the code has them
+
+-- a refusal, which leaves the table as it was
+abbrev pub refusing : ℕ → ℕ → Table → Preparing
+refusing number place t = record { answer = prepared-is.Refused number place; table = t }
+
+-- the answer after n steps, by the first refusal of one of them, which is 0 where there is none
+unfoldable pub answered : Table → List Step → ℕ → ℕ → ℕ → Preparing
+answered t steps n number place =
+    cond (ltb 64 n) (refusing 8 0 t)
+    (cond (not (eqb number 0)) (refusing number place t)
+    (cond (ltb (t .n) n) (refusing 7 0 t)
+    (record { answer = prepared-is.Steps n; table = record { steps = steps; n = t .n } })))

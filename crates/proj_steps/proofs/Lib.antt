@@ -1,0 +1,5 @@
+pub mod Added
+pub mod Emitted
+pub mod Globals
+pub mod Penned
+pub mod Plans

@@ -1,0 +1,5 @@
+pub mod Clean
+pub mod Cuts
+pub mod Facts
+pub mod Heads
+pub mod Words

@@ -1,2 +1,0 @@
-pub mod Wording
-pub mod Piecing

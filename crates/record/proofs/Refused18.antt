@@ -1,0 +1,63 @@
+-- Refusal 18 of a record and of a table, by what the code has found out.
+use mathlib.Core.Path.{_≡_, refl, ap, _∙_}
+use Prim.Native.Nat.{ℕ, _+_, _-_, _≤_, _<_}
+use native.Mathlib.Numerals.{add-one}
+use native.Mathlib.Omega.{arith}
+use mathlib.Core.List.{List, [], _∷_, _++_, append-nil}
+use mathlib.Core.Option.{none, some}
+use mathlib.Core.Bool.{Bool, true, false, _&&_}
+use lib.Dec.{leb}
+use lib.ListN.{length, take, length-append, length-take, length-replicate, replicate}
+use borrow.Author.Tests.{lt-ltb, le-ltb}
+use Rattle.rules.specs.Operators.Table.{greatest}
+use Rattle.rules.specs.Pipeline.Record.{made, firstBad, refusal18, listed, blank, operator, args, unused}
+use Rattle.rules.specs.declared.Step.{Step}
+use Rattle.rules.specs.declared.Table.{Table}
+use Rattle.record.specs.Records.{isMarked, isWritten, badOf}
+use Rattle.record.specs.declared.tests.Bad.the-variants.{At}
+
+-- ---- a record
+
+and-both : (a b c : Bool) → (a && (b && c)) ≡ ((a && b) && c)
+and-both true b c = refl
+and-both false b c = refl
+
+pub made-tests : (s : Step) → made s ≡ (leb (s .operator) greatest && (leb (s .n) 8 && (isMarked s && isWritten (s .operator) (args s) (unused s))))
+unfolding made isMarked isWritten operator
+made-tests s =
+    ap (λ (b : Bool). leb (s .operator) greatest && (leb (s .n) 8 && b))
+    (ap (λ (b : Bool). leb (s .inv) 1 && b) (and-both (leb (s .«omit_fwd») 1) (leb (s .«omit_inv») 1) _)
+    ∙ and-both (leb (s .inv) 1) _ _)
+
+-- ---- a table
+
+pub listed-few : (t : Table) → t .n ≤ 64 → listed t ≡ take (t .n) (t .steps)
+unfolding listed
+listed-few t h = ap (λ (k : ℕ). take (t .n) (t .steps) ++ replicate k blank) (past (t .n) h) ∙ append-nil _
+  where
+    past : (n : ℕ) → n ≤ 64 → n - 64 ≡ 0
+    past n h = omega (arith, h)
+
+pub listed-length : (t : Table) → length (t .steps) ≡ 64 → length (listed t) ≡ t .n
+unfolding listed
+listed-length t full = length-append (take (t .n) (t .steps)) _ ∙ rw (length-take, length-replicate, full) (omega arith)
+
+pub bad-long : (t : Table) → length (t .steps) ≡ 64 → 64 < t .n → At 0 ≡ badOf (refusal18 (listed t))
+unfolding refusal18 badOf
+bad-long t full h = rw (listed-length t full, lt-ltb _ _ h) refl
+
+pub bad-few : (t : Table) → length (t .steps) ≡ 64 → t .n ≤ 64 → refusal18 (listed t) ≡ firstBad 1 (take (t .n) (t .steps))
+unfolding refusal18
+bad-few t full h = rw (listed-length t full, le-ltb _ _ h) (ap (firstBad 1) (listed-few t h))
+
+pub bad-next : (k : ℕ) (s : Step) (l : List Step) → made s ≡ true → firstBad k (s ∷ l) ≡ firstBad (k + 1) l
+unfolding firstBad
+bad-next k s l e = rw (e, add-one k) refl
+
+pub bad-here : (k : ℕ) (s : Step) (l : List Step) → made s ≡ false → firstBad k (s ∷ l) ≡ some k
+unfolding firstBad
+bad-here k s l e = rw e refl
+
+pub bad-none : (k : ℕ) → firstBad k [] ≡ none
+unfolding firstBad
+bad-none k = refl

@@ -1,0 +1,119 @@
+-- The words of the release's demands: what the page of promises says of a result, and of lent storage before and after.
+use mathlib.Core.Path.{_≡_}
+use Prim.Native.Nat.{ℕ, _+_, _-_, _*_, _^_, _≤_, _<_}
+use mathlib.Core.Bool.{Bool, true, cond}
+use mathlib.Core.List.{List, [], _∷_, _++_}
+use lib.Dec.{leb, eqb}
+use lib.ListN.{length, drop, getD}
+use lib.Ieee.{Float, nan, binary64, nanBits, ofBits}
+use Rattle.rules.specs.Text.Lists.{anyOf}
+use Rattle.rules.specs.Pipeline.Running.{Numbered}
+use Rattle.rules.specs.Pipeline.Columns.{takes, after}
+use Rattle.rules.specs.Pipeline.Tuples.{acted}
+use Rattle.rules.specs.Pipeline.Run.{start}
+use Rattle.rules.specs.Text.Bytes.{Bytes}
+use Rattle.rules.specs.Text.Refusal.{Reply, Promised, Writes}
+use Rattle.rules.specs.Face.Plain.{plainWritten, replied}
+use Rattle.rules.specs.Text.Reader.{step}
+use Rattle.rules.specs.declared.Written.{Written}
+use Rattle.rules.specs.declared.Written.the-variants.{Wrote}
+use Rattle.rules.specs.declared.Answer.{Answer}
+use Rattle.rules.specs.declared.Found.{Found}
+use Rattle.rules.specs.declared.Found.the-variants.{End}
+use Rattle.rules.specs.declared.Foretold.{Foretold}
+use Rattle.rules.specs.declared.Verdict.the-variants as verdict-is
+use Rattle.rules.specs.declared.Ran.{Ran}
+use Rattle.rules.specs.declared.Ran.the-variants.{Done, Refused}
+
+-- ---- demand 1
+
+-- one of the numbers listed
+abbrev pub OneOf : List ℕ → ℕ → Type 0
+OneOf numbers number = anyOf (eqb number) numbers ≡ true
+
+-- "It answers, or refuses with a number from the documents' tables, and a refused call alters nothing it was lent": what a call
+-- returned, and the storage that it was lent, before and after. An answer of n fits, and "writes nothing past its own end".
+pub data Ends {A R : Type 0} (answer : ℕ → R) (refusal : ℕ → ℕ → R) (numbers : List ℕ) (storage : List A) (result : R) (storage′ : List A) : Type 0 where
+  answers : (n : ℕ) → result ≡ answer n → n ≤ length storage → length storage′ ≡ length storage → drop n storage′ ≡ drop n storage
+      → Ends answer refusal numbers storage result storage′
+  refuses : (number place : ℕ) → result ≡ refusal number place → OneOf numbers number → storage′ ≡ storage
+      → Ends answer refusal numbers storage result storage′
+
+-- The same of a run, which is lent a list and a store, and uses the store up to a place.
+pub data RunEnds (numbers : List ℕ) (used : ℕ) (xs store : List Float) (result : Ran) (xs′ store′ : List Float) : Type 0 where
+  answers : (count left : ℕ) → result ≡ Done count left → length xs′ ≡ length xs → length store′ ≡ length store → drop used store′ ≡ drop used store
+      → RunEnds numbers used xs store result xs′ store′
+  refuses : (number place : ℕ) → result ≡ Refused number place → OneOf numbers number → xs′ ≡ xs → store′ ≡ store
+      → RunEnds numbers used xs store result xs′ store′
+
+-- the check, which is lent nothing to write into: a pass, a step and what is wrong with it, or refusal 18
+pub data CheckEnds (f : Foretold) : Type 0 where
+  passes : f .verdict ≡ verdict-is.Passes → CheckEnds f
+  too-few : (k : ℕ) → f .verdict ≡ verdict-is.TooFew k → CheckEnds f
+  too-many : (k : ℕ) → f .verdict ≡ verdict-is.TooMany k → CheckEnds f
+  refuses : (k : ℕ) → f .verdict ≡ verdict-is.Refused 18 k → CheckEnds f
+
+-- the reader, which is lent nothing to write into: the end, or a step of at least one byte, at its place or further on
+pub data NextEnds (text : Bytes) (at : ℕ) (r : Found) : Type 0 where
+  ends : r ≡ End → NextEnds text at r
+  finds : (from to : ℕ) → r ≡ step from to → at ≤ from → from < to → to ≤ length text → NextEnds text at r
+
+-- A text call for C and Rust: behind its answer there is one of the call that it exports, with the same buffer afterwards, and number 0
+-- is an answer, of that length.
+abbrev pub ExportsText : (Bytes → Reply Bytes) → Type 0
+ExportsText own = (text out : Bytes) (r : Answer) (out′ : Bytes) → Promised replied own text out r out′
+    → (w : Written) × Writes own text out w out′ × (r ≡ plainWritten w) × (r .number ≡ 0 → w ≡ Wrote (r .length))
+
+-- ---- demand 3: the steps of a run, in running order
+
+-- the columns that there are after these steps of a run on a list
+abbrev pub depthAfter : List Numbered → List Float → ℕ
+depthAfter l xs = length (after acted l (start xs) .columns)
+
+-- a step finds as many columns as it takes, after the steps before it, and leaves at most 64
+pub record Well (xs : List Float) (before : List Numbered) (s : Numbered) : Type 0 where
+  pub finds : takes (s .does) ≤ depthAfter before xs
+  pub leaves : depthAfter (before ++ (s ∷ [])) xs ≤ 64
+
+-- every step of them, wherever they are cut in two
+abbrev pub EachWell : List Numbered → List Float → Type 0
+EachWell l xs = (before : List Numbered) (s : Numbered) (rest : List Numbered) → l ≡ before ++ (s ∷ rest) → Well xs before s
+
+-- a step "finds fewer columns than it takes"
+pub record Few (xs : List Float) (before : List Numbered) (s : Numbered) : Type 0 where
+  pub finds : depthAfter before xs < takes (s .does)
+
+-- or it finds enough, and "the depth exceeds 64"
+pub record Many (xs : List Float) (before : List Numbered) (s : Numbered) : Type 0 where
+  pub finds : takes (s .does) ≤ depthAfter before xs
+  pub leaves : 64 < depthAfter (before ++ (s ∷ [])) xs
+
+-- "the first step at fault in running order", which stands at place k of the table: all before it are well, and it is not
+pub record FirstAtFault (fault : List Numbered → Numbered → Type 0) (k : ℕ) (l : List Numbered) (xs : List Float) : Type 0 where
+  pub before : List Numbered
+  pub step : Numbered
+  pub rest : List Numbered
+  pub in-order : l ≡ before ++ (step ∷ rest)
+  pub well-before : EachWell before xs
+  pub at-place : step .place ≡ k
+  pub at-fault : fault before step
+
+-- ---- demand 3: the bits of numbers
+
+-- number j of tuple i of a list: tuples count from 0, places from 1
+abbrev pub numberAt : List Float → ℕ → ℕ → Float
+numberAt xs i j = getD xs (i * 4 + (j - 1)) nan
+
+-- 64 bits that stand for a number in storage: each number but NaN has one such pattern
+pub record Bits (p : ℕ) (x : Float) : Type 0 where
+  pub wide : p < 2 ^ 64
+  pub reads : ofBits binary64 p ≡ x
+
+-- bits with the sign, bit 63, turned
+abbrev pub signTurned : ℕ → ℕ
+signTurned p = cond (leb (2 ^ 63) p) (p - 2 ^ 63) (p + 2 ^ 63)
+
+-- "sign kept or turned": the bits p of an input and q of an output, bit for bit, or NaN for NaN
+pub data Alike (minus : Bool) (p q : ℕ) : Type 0 where
+  bit-for-bit : q ≡ cond minus (signTurned p) p → Alike minus p q
+  nan-for-nan : nanBits binary64 p ≡ true → nanBits binary64 q ≡ true → Alike minus p q

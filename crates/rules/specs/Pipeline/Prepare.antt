@@ -1,0 +1,96 @@
+-- Preparing: from a text to its step records, or the refusal.
+use Prim.Native.Nat.{ℕ, suc}
+use Prim.Native.String.{String}
+use mathlib.Core.Bool.{cond}
+use mathlib.Core.Option.{Option, none, some}
+use mathlib.Core.List.{List, [], _∷_}
+use lib.ListN.{length}
+use lib.Dec.{ltb}
+use lib.IntN.{ℤ}
+use Rattle.rules.specs.Text.Ascii.{ascii}
+use Rattle.rules.specs.Text.Lists.{anyOf}
+use Rattle.rules.specs.Text.Bytes.{Bytes}
+use Rattle.rules.specs.Text.Refusal.{Reply, answers, refuses, andThen, prepared, Promised}
+use Rattle.rules.specs.Text.Split.{steps, splitSteps}
+use Rattle.rules.specs.Text.Parameters.{Parameter, parametersOf}
+use Rattle.rules.specs.Operators.Arguments.{valueOf, isGiven}
+use Rattle.rules.specs.Operators.Descriptions.{Operator, Chosen}
+use Rattle.rules.specs.Operators.Table.{numberOf, wordingOf, nameOf}
+use Rattle.rules.specs.Pipeline.Record.{stepWith}
+use Rattle.rules.specs.Pipeline.Keys.{kindOf, unknown, misspelt, tooLong}
+use Rattle.rules.specs.declared.Step.{Step}
+use Rattle.rules.specs.declared.Name.{Name}
+use Rattle.rules.specs.declared.Named.{Named}
+use Rattle.rules.specs.declared.Named.the-variants.{Is, Not}
+use Rattle.rules.specs.declared.Prepared.{Prepared}
+
+-- ---- the record of one step
+
+unfoldable pub mark : String → List Parameter → ℕ
+mark key ps = cond (isGiven key ps) 1 0
+
+-- the operator and its arguments, and the marks from the parameters
+unfoldable pub recordOf : Operator → List Parameter → List ℤ → Step
+recordOf o ps l = stepWith (numberOf o) l (mark "inv" ps) (mark "omit_fwd" ps) (mark "omit_inv" ps)
+
+unfoldable pub recorded : List Parameter → Option Chosen → Option Step
+recorded ps none = none
+recorded ps (some c) = some (recordOf (c .operator) ps (c .arguments))
+
+-- the record that the operator's own rule gives; none for 14, "the operator's own rule is broken"
+unfoldable pub ownRule : Name → List Parameter → Option Step
+ownRule n ps = recorded ps (wordingOf n .chosen ps)
+
+-- ---- one step
+
+-- "judging 14 only if no other applies"
+unfoldable pub judged14 : Option Step → Reply Step
+judged14 none = refuses 14 0
+judged14 (some s) = answers s
+
+-- "its lowest number of .. 9 to 14": 11, 12, 13, then 14
+unfoldable pub judged11 : Name → List Parameter → Reply Step
+judged11 n ps =
+    cond (anyOf (unknown n) ps) (refuses 11 0)
+    (cond (anyOf (λ (p : Parameter). misspelt (kindOf n p) (p .value)) ps) (refuses 12 0)
+    (cond (anyOf (λ (p : Parameter). tooLong (kindOf n p) (p .value)) ps) (refuses 13 0)
+    (judged14 (ownRule n ps))))
+
+-- 10: "no operator name, or not one of the five"
+unfoldable pub named : Option Bytes → Named
+named none = Not
+named (some value) = nameOf value
+
+unfoldable pub judged10 : Named → List Parameter → Reply Step
+judged10 Not ps = refuses 10 0
+judged10 (Is n) ps = judged11 n ps
+
+unfoldable pub judged : List Parameter → Reply Step
+judged ps = judged10 (named (valueOf (ascii "_name") ps)) ps
+
+-- "A refusal returns .. a place: that of the faulty step"
+unfoldable pub atStep : ℕ → Reply Step → Reply Step
+atStep place (answers s) = answers s
+atStep place (refuses number nowhere) = refuses number place
+
+-- one step's text at its place: 1, "in preparing one step's text, is over 4,096 bytes"; then 6 and 9 as it is cut into
+-- parameters, then 10 to 14
+unfoldable pub prepareStep : ℕ → Bytes → Reply Step
+prepareStep place t =
+    atStep place (cond (ltb 4096 (length t)) (refuses 1 0) (andThen (parametersOf t) judged))
+
+-- ---- all steps
+
+-- "takes the first faulty step": the steps' texts, the first of them at `place`
+unfoldable pub prepareSteps : ℕ → List Bytes → Reply (List Step)
+prepareSteps place [] = answers []
+prepareSteps place (t ∷ ts) =
+    andThen (prepareStep place t) (λ s. andThen (prepareSteps (suc place) ts) (λ l. answers (s ∷ l)))
+
+-- the call `prepare`: "Preparing splits first"
+unfoldable pub prepare : Bytes → Reply (List Step)
+prepare t = andThen (splitSteps (steps t)) (prepareSteps 1)
+
+-- what preparing promises: the answer, and the lent step table afterwards
+abbrev pub Prepares : Bytes → List Step → Prepared → List Step → Type 0
+Prepares text table result table′ = Promised prepared prepare text table result table′

@@ -1,0 +1,2 @@
+-- What the proofs of the exports share.
+pub mod PlainPromises

@@ -1,0 +1,62 @@
+-- What preparing leaves in a table of 64 blank records.
+use mathlib.Core.Path.{_≡_, refl, sym, ap, _∙_, subst}
+use Prim.Native.Nat.{ℕ, _-_, _≤_}
+use mathlib.Core.List.{List, _++_, append-assoc, append-nil}
+use native.Mathlib.Omega.{arith}
+use borrow.Author.Tests.{le-ltb}
+use lib.ListN.{length, take, drop}
+use lib.Seq.{take-at}
+use Rattle.rules.specs.Text.Bytes.{Bytes}
+use Rattle.rules.specs.Text.Refusal.{Reply, answers, refuses, tested, lent, prepared}
+use Rattle.rules.specs.Pipeline.Prepare.{prepare}
+use Rattle.rules.specs.Pipeline.Record.{listed}
+use Rattle.laws_lists.specs.Tests.{never}
+use Rattle.rules.specs.declared.Step.{Step}
+use Rattle.rules.specs.declared.Table.{Table}
+use Rattle.rules.specs.declared.Prepared.the-variants as variant
+use Rattle.prepare.specs.declared.Preparing.{Preparing}
+use Rattle.prepare.specs.Lent.{withRow, lentTo, preparing}
+use Rattle.rows.specs.Row.{blanks, tabled, emptied}
+use Rattle.show.proofs.Replies.{Of, AtMost, prepared-few}
+
+-- the first records of a row, and nothing past 64
+listed-front : (xs rest : List Step) → length xs ≤ 64 → listed (tabled (xs ++ rest) (length xs)) ≡ xs
+unfolding listed
+listed-front xs rest h =
+    let z : length xs - 64 ≡ 0 = omega arith in
+    rw (z, take-at xs rest (length xs) refl) (append-nil xs)
+
+record Told (reply : Reply (List Step)) (q : Preparing) : Type 0 where
+  refusal : (n place : ℕ) → q .answer ≡ variant.Refused n place → reply ≡ refuses n place
+  records : (n : ℕ) → q .answer ≡ variant.Steps n → reply ≡ answers (listed (tabled (q .table .steps) n))
+
+told : (reply : Reply (List Step)) → Of (AtMost 64) reply → Told reply (lentTo reply (emptied 64))
+unfolding lentTo withRow lent prepared Of
+told (refuses m q) few =
+    record {
+      refusal = λ n place e. let a : m ≡ n = cc e in let b : q ≡ place = cc e in rw (a, b);
+      records = λ n e. let z : _≡_ {A = ℕ} 0 1 = cc e in absurd (never z);
+    }
+told (answers xs) few =
+    rw (le-ltb (length (take 64 blanks)) (length xs) room)
+    (record {
+      refusal = λ n place e. let z : _≡_ {A = ℕ} 0 1 = cc e in absurd (never z);
+      records = λ n e.
+          let a : length xs ≡ n = cc e in
+          rw (← a, append-assoc xs (drop (length xs) (take 64 blanks)) (drop 64 blanks))
+          (ap answers (sym (listed-front xs (drop (length xs) (take 64 blanks) ++ drop 64 blanks) few)));
+    })
+  where
+    room : length xs ≤ length (take 64 blanks)
+    room = unfold blanks in few
+
+module _ (t : Bytes) {e : Table} {q : Preparing} (f : e ≡ emptied 64) (g : q ≡ preparing t e) where
+  all-told : Told (tested prepare t) q
+  unfolding preparing
+  all-told = subst (Told (tested prepare t)) (sym (g ∙ ap (preparing t) f)) (told (tested prepare t) (prepared-few t))
+
+  pub prepare-refused : {n place : ℕ} → q .answer ≡ variant.Refused n place → tested prepare t ≡ refuses n place
+  prepare-refused {n} {place} h = all-told .refusal n place h
+
+  pub prepare-steps : {n : ℕ} {u : Table} → q .answer ≡ variant.Steps n → u ≡ tabled (q .table .steps) n → tested prepare t ≡ answers (listed u)
+  prepare-steps {n} {u} h k = all-told .records n h ∙ ap (λ (x : Table). answers (listed x)) (sym k)

@@ -1,0 +1,80 @@
+-- By what preparing answers in a table of 64 records, which are room enough.
+use Rattle.show.proofs.CallAnswers.{room-so, said-so, checks-refused, checks-told}
+use Rattle.show.proofs.PreparedTable.{prepare-refused, prepare-steps}
+use Rattle.rules.specs.Face.Shown.{refusalText, shownChecks, bothChecks}
+use Rattle.rules.specs.Pipeline.Record.{listed}
+use Rattle.rules.specs.Text.Split.{line}
+use borrow.Author.Needs.{needs}
+use Rattle.show.proofs.show_checks.Statement.{statement}
+use Rattle.show.proofs.show_checks.Tie as tie
+
+empty-requires : tie.Need-empty-requires
+empty-requires c κs = search needs
+
+prepare-requires : tie.Need-prepare-requires
+prepare-requires c κs = search needs
+
+enum-known-answer : tie.Need-enum-known-answer
+enum-known-answer c = search needs
+
+first-of-requires : tie.Need-first-of-requires
+first-of-requires c κs = search needs
+
+say-checks-requires : tie.Need-say-checks-requires
+say-checks-requires c κs =
+    let t = c .before .before .before .before .before .before .before .before .before .before in
+    room-so (shownChecks (t .args .text .now)) (bothChecks (listed (c .before .first-of .result))) (t .args .out .now) (t .args .at)
+    (checks-told (t .args .text .now)
+    (prepare-steps (t .args .text .now) (c .before .before .before .before .before .before .before .empty .ensures) (c .before .before .before .before .before .before .prepare .ensures)
+    (c .before .before .before .before .answer .given .1) (c .before .first-of .ensures))) (t .pre)
+
+enum-known-answer-2 : tie.Need-enum-known-answer-2
+enum-known-answer-2 c = search needs
+
+say-refusal-requires : tie.Need-say-refusal-requires
+say-refusal-requires c κs =
+    let t = c .before .before .before .before .before .before .before .before in
+    room-so (shownChecks (t .args .text .now)) (line (refusalText (c .before .before .answer2 .given .0 .0) (c .before .before .answer2 .given .0 .1 .0))) (t .args .out .now) (t .args .at)
+    (checks-refused (t .args .text .now)
+    (prepare-refused (t .args .text .now) (c .before .before .before .before .before .empty .ensures) (c .before .before .before .before .prepare .ensures) (c .before .before .answer2 .given .1)))
+    (t .pre)
+
+same-length : tie.Need-same-length
+same-length c = search needs
+
+returns : tie.Need-returns
+returns c =
+    let t = c .before .before .before .before .before .before .before .before .before .before .before .before .before in
+    said-so (shownChecks (t .args .text .now)) (bothChecks (listed (c .before .before .before .before .first-of .result))) (t .args .out .now) (t .args .at)
+    (checks-told (t .args .text .now)
+    (prepare-steps (t .args .text .now) (c .before .before .before .before .before .before .before .before .before .before .empty .ensures)
+    (c .before .before .before .before .before .before .before .before .before .prepare .ensures) (c .before .before .before .before .before .before .before .answer .given .1)
+    (c .before .before .before .before .first-of .ensures))) (c .before .before .say-checks .ensures)
+
+same-length-2 : tie.Need-same-length-2
+same-length-2 c = search needs
+
+returns-2 : tie.Need-returns-2
+returns-2 c =
+    let t = c .before .before .before .before .before .before .before .before .before .before .before in
+    said-so (shownChecks (t .args .text .now))
+    (line (refusalText (c .before .before .before .before .before .answer2 .given .0 .0) (c .before .before .before .before .before .answer2 .given .0 .1 .0))) (t .args .out .now) (t .args .at)
+    (checks-refused (t .args .text .now)
+    (prepare-refused (t .args .text .now) (c .before .before .before .before .before .before .before .before .empty .ensures)
+    (c .before .before .before .before .before .before .before .prepare .ensures) (c .before .before .before .before .before .answer2 .given .1))) (c .before .before .say-refusal .ensures)
+
+pub show-checks-spec : {M : Type 1} → statement M
+show-checks-spec =
+    tie.close
+    (tie.spec
+    empty-requires
+    prepare-requires
+    enum-known-answer
+    first-of-requires
+    say-checks-requires
+    enum-known-answer-2
+    say-refusal-requires
+    same-length
+    returns
+    same-length-2
+    returns-2)

@@ -1,0 +1,2 @@
+-- What the numbered lines of the steps are.
+pub mod Lines

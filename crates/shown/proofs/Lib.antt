@@ -1,4 +1,0 @@
-pub mod Replies
-pub mod Calling
-pub mod Recording
-pub mod Sizes

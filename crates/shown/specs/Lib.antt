@@ -1,2 +1,0 @@
--- What the program `steps` prints.
-pub mod Lines

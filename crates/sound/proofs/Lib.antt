@@ -1,3 +1,0 @@
-pub mod Refusing
-pub mod Visiting
-pub mod Sounding

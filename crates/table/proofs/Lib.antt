@@ -1,4 +1,0 @@
-pub mod Rows
-pub mod Growing
-pub mod Comparing
-pub mod Placing

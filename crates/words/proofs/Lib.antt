@@ -1,3 +1,0 @@
-pub mod Flagging
-pub mod Rows
-pub mod Texts
