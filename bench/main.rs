@@ -33,11 +33,11 @@ struct Reply {
 #[derive(Clone, Copy, Default)]
 struct Step {
     operator: u8,
-    args: [i32; 8],
-    n: usize,
+    n: u8,
     inv: u8,
     omit_fwd: u8,
     omit_inv: u8,
+    args: [i32; 8],
 }
 
 // A row of 64 records to lend, of which the first n are in use.
@@ -48,7 +48,7 @@ struct Steps {
 
 #[repr(C)]
 struct Place {
-    axis: u32,
+    axis: u8,
     minus: bool,
 }
 

@@ -11,11 +11,11 @@ mod sakondreno {
     #[derive(Clone, Copy, Default)]
     pub struct Step {
         pub operator: u8,
-        pub args: [i32; 8],
-        pub n: usize,
+        pub n: u8,
         pub inv: u8,
         pub omit_fwd: u8,
         pub omit_inv: u8,
+        pub args: [i32; 8],
     }
 
     #[repr(C)]
@@ -28,7 +28,7 @@ mod sakondreno {
     #[repr(C)]
     #[derive(Clone, Copy)]
     pub struct Place {
-        pub axis: u32,
+        pub axis: u8,
         pub minus: bool,
     }
 

@@ -63,14 +63,14 @@ enum {
 };
 
 /* A step. `sakondreno_prepare` makes it; a record made otherwise is refused 18 unless preparing could have made it: slots of
- * args that are not used hold 0, marks are 0 or 1. 56 bytes. */
+ * args that are not used hold 0, marks are 0 or 1. 40 bytes. */
 typedef struct {
     uint8_t operator_; /* by its number */
-    int32_t args[8];
-    size_t n;          /* how many of args are used */
+    uint8_t n;         /* how many of args are used */
     uint8_t inv;       /* marks */
     uint8_t omit_fwd;
     uint8_t omit_inv;
+    int32_t args[8];
 } sakondreno_step;
 
 /* ---- texts: each call reads `text` and writes its answer to the front of `out` */
@@ -107,7 +107,7 @@ sakondreno_answer sakondreno_prepare(const uint8_t *text, size_t length, sakondr
 
 /* A place of a tuple, 1 to 4, and whether its sign is turned. */
 typedef struct {
-    uint32_t axis;
+    uint8_t axis;
     bool minus;
 } sakondreno_place;
 

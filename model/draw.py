@@ -385,7 +385,7 @@ def disguised(rng, word):
 
 def step_text(rng, step, plain=False):
     """A text that prepares to this record, and stays so after `|`."""
-    set_marks = [name for name, mark in zip(MARK_NAMES, step[3:]) if mark]
+    set_marks = [name for name, mark in zip(MARK_NAMES, (step.inv, step.omit_fwd, step.omit_inv)) if mark]
     words = argument_words(rng, step, plain)
     name = OPERATORS[step.operator]
     if plain:

@@ -307,16 +307,16 @@ NAMES = ["push", "pop", "stack.push", "stack.pop", "stack.flip", "stack.roll",
 # "A step record carries up to eight arguments in place"
 class Step(NamedTuple):
     operator: int
-    args: tuple  # eight whole numbers, unused ones 0
-    n: int       # how many of them are used
+    n: int       # how many arguments are used
     inv: int
     omit_fwd: int
     omit_inv: int
+    args: tuple  # eight whole numbers, unused ones 0
 
 
 def new_step(operator, args, inv=0, omit_fwd=0, omit_inv=0):
     filled = tuple(args) + (0,) * (MOST_ARGUMENTS - len(args))
-    return Step(operator, filled, len(args), inv, omit_fwd, omit_inv)
+    return Step(operator, len(args), inv, omit_fwd, omit_inv, filled)
 
 
 def used(step):

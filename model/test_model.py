@@ -256,7 +256,7 @@ def requests():
             ("normalise 9 ff", "refused 2 0"), ("normalise 131072 -", "ok -"),
             ("normalise 131073 -", "what"), ("normalise 1 6", "what"), ("normalise 1 6A", "what"),
             ("normalise 1 ", "what"), ("normalise 1 61 ", "what"), ("", "what"),
-            ("write -", "what"),
+            ("write -", "ok -"),
             ("prepare 1 " + b"inv stack roll=3,-2".hex(), "ok 1 stack.roll:i:3,-2"),
             ("prepare 64 -", "ok 0"), ("prepare 65 -", "what"),
             ("prepare 9 " + b"push|>axisswap|adapt omit_fwd|adapt to=seuf".hex(),
