@@ -1,10 +1,10 @@
 -- `made` holds of exactly the records that preparations make, and each of them has its text: what is promised of writing.
-use mathlib.Core.Path.{_≡_, refl, ap}
+use mathlib.Core.Path.{_≡_, refl, ap, sym, _∙_}
 use Prim.Native.Nat.{ℕ, _-_, _≤_}
 use mathlib.Core.Bool.{Bool, true, false, cond}
 use mathlib.Core.Logic.{_↔_}
 use mathlib.Core.Option.{Option, none, some}
-use mathlib.Core.List.{List, [], _∷_, _++_, append-nil}
+use mathlib.Core.List.{List, [], _∷_, _++_, map, append-nil}
 use native.Mathlib.Omega.{arith}
 use borrow.Author.Tests.{leb-true}
 use lib.ListN.{length, drop, replicate, length-append, length-replicate}
@@ -13,54 +13,59 @@ use lib.IntN.{ℤ, pos}
 use Rattle.rules.specs.Text.Ascii.{ascii}
 use Rattle.rules.specs.Text.Lists.{anyOf, allOf}
 use Rattle.rules.specs.Text.Bytes.{Bytes, afterEach, joinedBy}
-use Rattle.rules.specs.Text.Refusal.{Reply, answers, refuses, andThen, tested, prepared}
+use Rattle.rules.specs.Text.Refusal.{Reply, answers, refuses, andThen, tested, outcome, prepared}
 use Rattle.rules.specs.Text.Split.{steps, splitSteps}
 use Rattle.rules.specs.Text.Parameters.{Parameter, parametersOf}
 use Rattle.rules.specs.Operators.Arguments.{valueOf}
 use Rattle.rules.specs.Operators.Descriptions.{Operator, Chosen}
 use Rattle.rules.specs.Operators.Table.{wordingOf, greatest}
-use Rattle.rules.specs.Pipeline.Record.{stepWith, made}
+use Rattle.rules.specs.Pipeline.Record.{readingNumber, readingOf, inReading, stepWith, made}
 use Rattle.rules.specs.Pipeline.Keys.{kindOf, unknown, misspelt, tooLong}
-use Rattle.rules.specs.Pipeline.Prepare.{recordOf, recorded, ownRule, judged14, judged11, named, judged10, judged, atStep, prepareStep, prepareSteps, prepare, Prepares}
+use Rattle.rules.specs.Pipeline.Prepare.{recordOf, recorded, ownRule, judged14, judged11, named, judged10, judged, atStep, prepareStep, prepareSteps, prepare, prepareAs, Prepares, PreparesAs}
+use Rattle.rules.specs.declared.Reading.{Reading}
+use Rattle.rules.specs.declared.Reading.the-variants.{Crate}
 use Rattle.rules.specs.declared.Step.{Step}
 use Rattle.rules.specs.declared.Name.{Name}
 use Rattle.rules.specs.declared.Named.{Named}
 use Rattle.rules.specs.declared.Named.the-variants.{Is, Not}
+use Rattle.rules.specs.declared.Prepared.{Prepared}
 use Rattle.rules.specs.declared.Prepared.the-variants as prepared-is
 use Rattle.laws_text.specs.Entry.{answered}
-use Rattle.laws_records.specs.Made.{then-answers, prepare-made, tested-answers}
+use Rattle.laws_records.specs.Made.{then-answers, prepare-made, prepared-as, prepare-as-made, tested-answers}
 use Rattle.rules.specs.Pipeline.Write.{writing, tableWriting}
 use Rattle.laws_lists.specs.Lists.{Every}
 use Rattle.laws_lists.specs.Tests.{and-left, and-right, never}
-use Rattle.laws_records.specs.Faithful.{Slots, AllMade, made-each, prepare-again, table-short, table-domain, table-again}
+use Rattle.laws_records.specs.Faithful.{Slots, AllMade, slots-named, prepare-again, table-short, table-domain, table-again}
+use Rattle.laws_records.specs.MadeSo.{made-so}
+use Rattle.laws_records.specs.Readings.{InIt, number-again, named-all}
 
 -- ---- one record
 
-alone : (s : Step) → Slots s → made s ≡ true → AllMade (s ∷ [])
+-- in its reading
+alone : (s : Step) → Slots s → made s ≡ true → AllMade (readingOf (s .reading)) (s ∷ [])
 unfolding allOf Every
-alone s e h = record { each = rw h; slots = (e, tt) }
+alone s e h = record { each = rw h; slots = (e, tt); alike = (number-again (s .reading) (made-so s h .reading), tt) }
 
 one-text : (s : Step) → tableWriting (s ∷ []) ≡ writing s
 unfolding tableWriting joinedBy afterEach
 one-text s = append-nil (writing s)
 
--- Preparing the text of a record that passes `made` gives exactly that record.
-pub writing-again : (s : Step) → Slots s → made s ≡ true → tested prepare (writing s) ≡ answers (s ∷ [])
-writing-again s e h = rw (← one-text s) (table-again (s ∷ []) (alone s e h) (lit≤ tt))
+-- Preparing the text of a record that passes `made`, in its reading, gives exactly that record.
+pub writing-again : (s : Step) → Slots s → made s ≡ true → tested (prepareAs (readingOf (s .reading))) (writing s) ≡ answers (s ∷ [])
+writing-again s e h = rw (← one-text s) (table-again (readingOf (s .reading)) (s ∷ []) (alone s e h) (lit≤ tt))
 
 -- ---- a lent table
 
--- Where at most 64 records each pass `made`, and a step table has room for them, the call `prepare` brings exactly these
--- records of their text to its front and leaves the rest.
-pub table-prepares : (l table : List Step) → AllMade l → length l ≤ 64 → length l ≤ length table
-    → Prepares (tableWriting l) table (prepared-is.Steps (length l)) (l ++ drop (length l) table)
+-- Where at most 64 records of one reading each pass `made`, and a step table has room for them, the call `prepare_as` in that reading brings
+-- exactly these records of their text to its front and leaves the rest.
+pub table-prepares : (r : Reading) (l table : List Step) → AllMade r l → length l ≤ 64 → length l ≤ length table
+    → PreparesAs r (tableWriting l) table (prepared-is.Steps (length l)) (l ++ drop (length l) table)
 unfolding prepared
-table-prepares l table h few room =
-    let m = made-each l h in
-    answered (table-short l (h .each) few) (table-domain l m) (prepare-again l m few) room refl refl
+table-prepares r l table h few room = answered (table-short l (h .each) few) (table-domain r l h) (prepare-again r l h few) room refl refl
 
-pub writing-prepares : (s : Step) (table : List Step) → Slots s → made s ≡ true → 1 ≤ length table → Prepares (writing s) table (prepared-is.Steps 1) (s ∷ drop 1 table)
-writing-prepares s table e h room = rw (← one-text s) (table-prepares (s ∷ []) table (alone s e h) (lit≤ tt) room)
+pub writing-prepares : (s : Step) (table : List Step) → Slots s → made s ≡ true → 1 ≤ length table
+    → PreparesAs (readingOf (s .reading)) (writing s) table (prepared-is.Steps 1) (s ∷ drop 1 table)
+writing-prepares s table e h room = rw (← one-text s) (table-prepares (readingOf (s .reading)) (s ∷ []) table (alone s e h) (lit≤ tt) room)
 
 -- ---- the other half: a record that a preparation makes
 
@@ -133,43 +138,78 @@ slotted-eight s h m = go (h .slotted-by) (h .given) (h .listed) (h .same-as)
         let a : length (l ++ replicate (8 - length l) (pos 0)) ≡ length (s .args) = unfold recordOf stepWith in ap (λ (r : Step). length (r .args)) e in
         omega (arith, length-append l (replicate (8 - length l) (pos 0)), length-replicate {A = ℤ} (8 - length l) (pos 0), leb-true (s .n) 8 few)
 
-eight-each : (l : List Step) → allOf made l ≡ true → Every Slotted l → AllMade l
+eight-each : (l : List Step) → allOf made l ≡ true → Every Slotted l → Every Slots l
 unfolding allOf Every
-eight-each [] h k = record { each = refl; slots = tt }
+eight-each [] h k = tt
 eight-each (s ∷ l) h k =
     let m = and-left (made s) (allOf made l) h in
-    let r = eight-each l (and-right (made s) (allOf made l) h) (k .1) in
-    record { each = h; slots = (slotted-eight s (k .0) m, r .slots) }
+    (slotted-eight s (k .0) m, eight-each l (and-right (made s) (allOf made l) h) (k .1))
 
--- The records of every prepared text pass `made`, have their slots, and are at most 64.
-pub prepared-all : (t : Bytes) (l : List Step) → tested prepare t ≡ answers l → AllMade l × (length l ≤ 64)
+-- and it is of the crate's reading
+slotted-crates : (l : List Step) → Every Slotted l → Every (InIt (readingNumber Crate)) l
+unfolding Every recordOf stepWith
+slotted-crates [] k = tt
+slotted-crates (s ∷ l) k = (ap (λ (r : Step). r .reading) (k .0 .same-as), slotted-crates l (k .1))
+
+-- The records of every prepared text pass `made`, have their slots, are of the crate's reading, and are at most 64.
+crates-all : (t : Bytes) (l : List Step) → prepare t ≡ answers l → AllMade Crate l × (length l ≤ 64)
 unfolding prepare
-prepared-all t l h =
-    let p = tested-answers t l h in
+crates-all t l p =
     let m = prepare-made t l p in
     let f = then-answers (splitSteps (steps t)) (prepareSteps 1) l p in
-    (eight-each l (m .0) (steps-slotted 1 (f .0) l (f .2)), m .1)
+    let k = steps-slotted 1 (f .0) l (f .2) in
+    (record { each = m .0; slots = eight-each l (m .0) k; alike = slotted-crates l k }, m .1)
+
+-- The same of every text that is prepared in a reading.
+pub prepared-all : (r : Reading) (t : Bytes) (l : List Step) → tested (prepareAs r) t ≡ answers l → AllMade r l × (length l ≤ 64)
+prepared-all r t l h =
+    let e = tested-answers (prepareAs r) t l h in
+    let k = prepare-as-made r t l e in
+    let p = prepared-as r t l e in
+    let slots : Every Slots (map (inReading r) (p .0)) = slots-named r (p .0) (crates-all t (p .0) (p .1) .0 .slots) in
+    (record { each = k .0; slots = rw (p .2) at slots; alike = k .2 }, k .1)
+
+-- `prepare` is the case of `prepare_as` for the crate's reading.
+pub prepare-is-crates : (t : Bytes) → prepareAs Crate t ≡ prepare t
+unfolding prepareAs
+prepare-is-crates t = go (prepare t) refl
+  where
+    go : (o : Reply (List Step)) → prepare t ≡ o → andThen o (λ l. answers (map (inReading Crate) l)) ≡ o
+    go (answers l) e = unfold andThen in ap answers (named-all Crate l (crates-all t l e .0 .alike))
+    go (refuses number place) e = unfold andThen in refl
 
 -- ---- both halves
 
--- some text prepares to exactly these records
-pub record Texted (l : List Step) : Type 0 where
+-- some text prepares to exactly these records, in a reading
+pub record Texted (r : Reading) (l : List Step) : Type 0 where
   pub text : Bytes
-  pub prepares : tested prepare text ≡ answers l
+  pub prepares : tested (prepareAs r) text ≡ answers l
 
--- A table has a text that prepares to it exactly when its records are at most 64, each of eight slots, and each passes `made`.
-pub tables-exactly : (l : List Step) → (AllMade l × (length l ≤ 64)) ↔ Texted l
-tables-exactly l = (
-  λ h. record { text = tableWriting l; prepares = table-again l (h .0) (h .1) },
-  λ t. prepared-all (t .text) l (t .prepares),
+-- A table has a text that prepares to it in a reading exactly when its records are at most 64, of that reading, each of eight slots, and
+-- each passes `made`.
+pub tables-exactly : (r : Reading) (l : List Step) → (AllMade r l × (length l ≤ 64)) ↔ Texted r l
+tables-exactly r l = (
+  λ h. record { text = tableWriting l; prepares = table-again r l (h .0) (h .1) },
+  λ t. prepared-all r (t .text) l (t .prepares),
 )
 
--- A record of eight slots, as every record of the code is, passes `made` exactly when some text prepares to it.
-pub made-exactly : (s : Step) → Slots s → (made s ≡ true) ↔ Texted (s ∷ [])
+-- A record of eight slots, as every record of the code is, passes `made` exactly when some text prepares to it in its reading.
+pub made-exactly : (s : Step) → Slots s → (made s ≡ true) ↔ Texted (readingOf (s .reading)) (s ∷ [])
 made-exactly s e = (
   λ h. record { text = writing s; prepares = writing-again s e h },
-  λ t. first (prepared-all (t .text) (s ∷ []) (t .prepares) .0 .each),
+  λ t. first (prepared-all (readingOf (s .reading)) (t .text) (s ∷ []) (t .prepares) .0 .each),
 )
   where
     first : allOf made (s ∷ []) ≡ true → made s ≡ true
     first h = unfold allOf in and-left (made s) true h
+
+-- so what is promised of the one is promised of the other
+pub crates-alike : (t : Bytes) (table : List Step) → outcome prepared (prepareAs Crate) t table ≡ outcome prepared prepare t table
+unfolding outcome tested
+crates-alike t table = rw (prepare-is-crates t) refl
+
+pub crates-prepare : {t : Bytes} {table : List Step} {answer : Prepared} {table′ : List Step} → PreparesAs Crate t table answer table′ ↔ Prepares t table answer table′
+crates-prepare {t} {table} {answer} {table′} = (
+  λ p. record { exactly = p .exactly ∙ crates-alike t table },
+  λ p. record { exactly = p .exactly ∙ sym (crates-alike t table) },
+)

@@ -1,6 +1,6 @@
 -- The record is a faithful picture of a step: every record that passes `made` has its text, and preparing that text gives the
 -- record again; so `made` holds of exactly the records that preparations make. The same of a whole table.
-use mathlib.Core.Path.{_≡_, refl, ap, _∙_}
+use mathlib.Core.Path.{_≡_, refl, ap, sym, _∙_}
 use Prim.Native.Nat.{ℕ, _+_, _*_, _≤_}
 use mathlib.Core.Bool.{true}
 use mathlib.Core.List.{List, [], _∷_, _++_, map}
@@ -12,22 +12,25 @@ use lib.Dec.{leb}
 use Rattle.rules.specs.Text.Ascii.{ascii}
 use Rattle.rules.specs.Text.Lists.{allOf}
 use Rattle.rules.specs.Text.Bytes.{Bytes, inDomain, afterEach, joinedBy, joined}
-use Rattle.rules.specs.Text.Refusal.{answers, tested}
-use Rattle.rules.specs.Pipeline.Record.{operator, made}
-use Rattle.rules.specs.Pipeline.Prepare.{prepareStep, prepare}
+use Rattle.rules.specs.Text.Refusal.{answers, andThen, tested}
+use Rattle.rules.specs.Pipeline.Record.{readingNumber, inReading, operator, made}
+use Rattle.rules.specs.Pipeline.Prepare.{prepareStep, prepare, prepareAs}
 use Rattle.rules.specs.Pipeline.Write.{operatorWords, stepWords, writing, tableWriting}
+use Rattle.rules.specs.declared.Reading.{Reading}
+use Rattle.rules.specs.declared.Reading.the-variants.{Crate}
 use Rattle.rules.specs.declared.Step.{Step}
 use Rattle.laws_lists.specs.Lists.{Every}
 use Rattle.laws_lists.specs.Tests.{and-left, and-right}
 use Rattle.laws_records.specs.Worded.{step-prepared}
 use Rattle.laws_records.specs.Whole.{Speaks, spaced, spaced-prepared, spaced-domain, Prepared, Each, end, also, all-prepared}
+use Rattle.laws_records.specs.Readings.{InIt, all-named, back-again, all-made-named, table-named}
 use Rattle.laws_records.specs.Records.{IsMade, made-keeps, made-is}
 use Rattle.laws_records.specs.Operators.Table.{has-text}
 use Rattle.laws_records.specs.Written.{step-spoken, writing-short}
 
 -- ---- one step
 
--- preparing the text of a record, at any place, gives the record
+-- preparing the text of a record of the crate's reading, at any place, gives the record
 pub step-again : (s : Step) → IsMade s → (place : ℕ) → prepareStep place (writing s) ≡ answers s
 unfolding writing stepWords operatorWords
 step-again s m place =
@@ -40,16 +43,17 @@ Slots s = length (s .args) ≡ 8
 
 -- ---- a whole table
 
--- records that are each made, and have their slots
-pub record AllMade (l : List Step) : Type 0 where
+-- records of one reading that are each made, and have their slots
+pub record AllMade (r : Reading) (l : List Step) : Type 0 where
   pub each : allOf made l ≡ true
   pub slots : Every Slots l
+  pub alike : Every (InIt (readingNumber r)) l
 
-pub made-each : (l : List Step) → AllMade l → Every IsMade l
+made-each : (l : List Step) → AllMade Crate l → Every IsMade l
 unfolding Every allOf
 made-each [] h = tt
 made-each (s ∷ l) h =
-    (made-is s (h .slots .0) (and-left (made s) _ (h .each)), made-each l (record { each = and-right (made s) _ (h .each); slots = h .slots .1 }))
+    (made-is s (h .slots .0) (and-left (made s) _ (h .each)) (h .alike .0), made-each l (record { each = and-right (made s) _ (h .each); slots = h .slots .1; alike = h .alike .1 }))
 
 all-speak : (l : List Step) → Every IsMade l → Every Speaks (map stepWords l)
 unfolding Every stepWords operatorWords Speaks
@@ -71,8 +75,8 @@ table-spaced : (l : List Step) → tableWriting l ≡ spaced (map stepWords l)
 unfolding tableWriting spaced
 table-spaced l = ap (joinedBy (ascii " | ")) (writings l)
 
-pub prepare-again : (l : List Step) → Every IsMade l → length l ≤ 64 → prepare (tableWriting l) ≡ answers l
-prepare-again l h few =
+prepare-crates : (l : List Step) → Every IsMade l → length l ≤ 64 → prepare (tableWriting l) ≡ answers l
+prepare-crates l h few =
     ap prepare (table-spaced l) ∙ spaced-prepared (map stepWords l) (all-speak l h) (omega (arith, length-map l stepWords)) ∙ all-prepared (all-again l h) 1
 
 -- it is a text that every call takes: short, and in the domain
@@ -102,15 +106,37 @@ table-short l h few =
     let b = apart-length 61 (map writing l) (all-short l h) in
     omega (arith, length-map l writing)
 
-pub table-domain : (l : List Step) → Every IsMade l → inDomain (tableWriting l) ≡ true
-table-domain [] h = unfold tableWriting joinedBy inDomain in refl
-table-domain (s ∷ l) h =
+crates-domain : (l : List Step) → Every IsMade l → inDomain (tableWriting l) ≡ true
+crates-domain [] h = unfold tableWriting joinedBy inDomain in refl
+crates-domain (s ∷ l) h =
     let k = all-speak (s ∷ l) h in
     rw (table-spaced (s ∷ l)) (spaced-domain (stepWords s) (map stepWords l) k)
 
--- A table of at most 64 records that pass `made` has its text, of at most 4,096 bytes: preparing it gives exactly these records.
-pub table-again : (l : List Step) → AllMade l → length l ≤ 64 → tested prepare (tableWriting l) ≡ answers l
+-- ---- in either reading: the text is that of the same records in the crate's
+
+pub slots-named : (r : Reading) (l : List Step) → Every Slots l → Every Slots (map (inReading r) l)
+unfolding Every inReading
+slots-named r [] h = tt
+slots-named r (s ∷ l) h = (h .0, slots-named r l (h .1))
+
+in-crates : (r : Reading) (l : List Step) → AllMade r l → Every IsMade (map (inReading Crate) l)
+in-crates r l h =
+    made-each (map (inReading Crate) l)
+    (record { each = all-made-named Crate l (h .each); slots = slots-named Crate l (h .slots); alike = all-named Crate l })
+
+pub table-domain : (r : Reading) (l : List Step) → AllMade r l → inDomain (tableWriting l) ≡ true
+table-domain r l h = rw (← table-named Crate l) (crates-domain (map (inReading Crate) l) (in-crates r l h))
+
+pub prepare-again : (r : Reading) (l : List Step) → AllMade r l → length l ≤ 64 → prepareAs r (tableWriting l) ≡ answers l
+unfolding prepareAs andThen
+prepare-again r l h few =
+    let m = map (inReading Crate) l in
+    let e : prepare (tableWriting l) ≡ answers m = ap prepare (sym (table-named Crate l)) ∙ prepare-crates m (in-crates r l h) (omega (arith, length-map l (inReading Crate))) in
+    rw (e, back-again r Crate l (h .alike))
+
+-- A table of at most 64 records of one reading that pass `made` has its text, of at most 4,096 bytes: preparing it in that reading gives
+-- exactly these records.
+pub table-again : (r : Reading) (l : List Step) → AllMade r l → length l ≤ 64 → tested (prepareAs r) (tableWriting l) ≡ answers l
 unfolding tested
-table-again l h few =
-    let m = made-each l h in
-    rw (le-ltb 4096 (length (tableWriting l)) (table-short l (h .each) few), table-domain l m) (prepare-again l m few)
+table-again r l h few =
+    rw (le-ltb 4096 (length (tableWriting l)) (table-short l (h .each) few), table-domain r l h) (prepare-again r l h few)

@@ -15,7 +15,7 @@ use Rattle.rules.specs.Text.Parameters.{Parameter}
 use Rattle.rules.specs.Operators.Descriptions.{Operator, Chosen}
 use Rattle.rules.specs.Operators.Table.{numberOf, isArgs, greatest}
 use Rattle.rules.specs.Operators.Arguments.{size, isGiven}
-use Rattle.rules.specs.Pipeline.Record.{stepWith, operator, args, unused, nineDigits, made}
+use Rattle.rules.specs.Pipeline.Record.{readingNumber, stepWith, operator, args, unused, nineDigits, made}
 use Rattle.rules.specs.Pipeline.Prepare.{mark, recordOf, recorded}
 use Rattle.rules.specs.declared.Step.{Step}
 use Rattle.laws_lists.specs.Tests.{never}
@@ -41,7 +41,7 @@ pub record Kept (o : Operator) (l : List ℤ) : Type 0 where
   pub rule : isArgs o l ≡ true
 
 pub record-made : (o : Operator) (ps : List Parameter) (l : List ℤ) → Kept o l → made (recordOf o ps l) ≡ true
-unfolding made operator args unused recordOf stepWith
+unfolding made operator args unused recordOf stepWith readingNumber
 record-made o ps l k =
     rw (le-leb (numberOf o) greatest (number-small o), le-leb (length l) 8 (k .fit), mark-small "inv" ps, mark-small "omit_fwd" ps, mark-small "omit_inv" ps)
     (rw (drop-append-seam l (replicate (8 - length l) (pos 0)), take-append-seam l (replicate (8 - length l) (pos 0)), all-zero (8 - length l), operator-number o, k .nines) (k .rule))

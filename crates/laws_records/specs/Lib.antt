@@ -10,6 +10,8 @@ pub mod Whole
 pub mod Sayings
 pub mod Series
 pub mod Numbering
+pub mod MadeSo
+pub mod Readings
 pub mod Kept
 pub mod Records
 pub mod Owed
@@ -21,4 +23,3 @@ pub mod Faithful
 pub mod Exact
 pub mod ReadBack
 pub mod KeyKinds
-pub mod MadeSo

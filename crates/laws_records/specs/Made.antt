@@ -1,15 +1,16 @@
--- Every record that a preparation makes passes the test of refusal 18, so no check and no run of a prepared table is
--- refused 18.
-use mathlib.Core.Path.{_≡_, refl, ap}
+-- Every record that a preparation makes passes the test of refusal 18, in either reading, so no check and no run of a prepared table
+-- is refused 18.
+use mathlib.Core.Path.{_≡_, refl, ap, sym, _∙_}
 use Prim.Native.Nat.{ℕ, suc, _≤_}
 use mathlib.Core.Bool.{Bool, true, false, cond, not}
 use mathlib.Core.Option.{Option, none, some}
-use mathlib.Core.List.{List, [], _∷_, _++_}
+use mathlib.Core.List.{List, [], _∷_, _++_, map}
 use native.Mathlib.Omega.{arith}
 use borrow.Author.Tests.{le-ltb}
-use lib.ListN.{length, take, drop}
+use lib.ListN.{length, take, drop, length-map}
 use lib.Seq.{take-append-seam}
 use lib.Dec.{ltb}
+use store.Seg.{eqb-same}
 use lib.Ieee.{Float}
 use Rattle.rules.specs.Text.Ascii.{ascii}
 use Rattle.rules.specs.Text.Lists.{anyOf, allOf}
@@ -17,13 +18,14 @@ use Rattle.rules.specs.Text.Bytes.{Bytes, inDomain}
 use Rattle.rules.specs.Text.Refusal.{Reply, answers, refuses, andThen, tested, lent, outcome, prepared}
 use Rattle.rules.specs.Text.Split.{steps, splitSteps}
 use Rattle.rules.specs.Text.Parameters.{Parameter, parametersOf}
-use Rattle.rules.specs.Pipeline.Record.{made, firstBad, refusal18}
+use Rattle.rules.specs.Pipeline.Record.{readingNumber, inReading, made, tableReading, goodIn, firstBad, refusal18}
 use Rattle.rules.specs.Pipeline.Keys.{kindOf, unknown, misspelt, tooLong}
 use Rattle.rules.specs.Operators.Table.{wordingOf}
 use Rattle.rules.specs.Operators.Arguments.{valueOf}
-use Rattle.rules.specs.Pipeline.Prepare.{ownRule, judged14, judged11, named, judged10, judged, atStep, prepareStep, prepareSteps, prepare, Prepares}
+use Rattle.rules.specs.Pipeline.Prepare.{ownRule, judged14, judged11, named, judged10, judged, atStep, prepareStep, prepareSteps, prepare, prepareAs, PreparesAs}
 use Rattle.rules.specs.Pipeline.Run.{runs}
 use Rattle.rules.specs.Pipeline.Check.{check}
+use Rattle.rules.specs.declared.Reading.{Reading}
 use Rattle.rules.specs.declared.Step.{Step}
 use Rattle.rules.specs.declared.Name.{Name}
 use Rattle.rules.specs.declared.Named.{Named}
@@ -33,10 +35,12 @@ use Rattle.rules.specs.declared.Prepared.the-variants as prepared-is
 use Rattle.rules.specs.declared.Direction.{Direction}
 use Rattle.rules.specs.declared.Verdict.the-variants as verdict-is
 use Rattle.rules.specs.declared.Ran.the-variants as ran-is
+use Rattle.laws_lists.specs.Lists.{Every}
 use Rattle.laws_lists.specs.Tests.{and-left, and-right, never}
 use Rattle.laws_text.specs.Refusals.{split-few}
 use Rattle.laws_steps.specs.Foretold.{check-refused}
 use Rattle.laws_steps.specs.Runs.{run-refused}
+use Rattle.laws_records.specs.Readings.{InIt, all-named, all-made-named}
 use Rattle.laws_records.specs.Kept.{recorded-made}
 use Rattle.laws_records.specs.Owed.{Short}
 use Rattle.laws_records.specs.Operators.Table.{keeps-rule}
@@ -102,10 +106,18 @@ steps-made place (t ∷ ts) l h =
     let e : f .0 ∷ g .0 ≡ l = cc (g .2) in
     rw (← e) (record { each = rw (step-made place t (f .0) (f .1)) (k .each); many = ap suc (k .many) })
 
-none-bad : (k : ℕ) (l : List Step) → allOf made l ≡ true → firstBad k l ≡ none
-unfolding firstBad allOf
-none-bad k [] h = refl
-none-bad k (s ∷ l) h = rw (and-left (made s) (allOf made l) h) (none-bad (suc k) l (and-right (made s) (allOf made l) h))
+-- records of one reading that are each `made`: none is bad in a table of that reading,
+none-bad : (reading k : ℕ) (l : List Step) → allOf made l ≡ true → Every (InIt reading) l → firstBad reading k l ≡ none
+unfolding firstBad goodIn allOf Every
+none-bad reading k [] h e = refl
+none-bad reading k (s ∷ l) h e =
+    rw (and-left (made s) (allOf made l) h, ← e .0, eqb-same reading) (none-bad reading (suc k) l (and-right (made s) (allOf made l) h) (e .1))
+
+-- and none in their table
+none-bad-of : (reading : ℕ) (l : List Step) → allOf made l ≡ true → Every (InIt reading) l → firstBad (tableReading l) 1 l ≡ none
+unfolding Every tableReading
+none-bad-of reading [] h e = none-bad 0 1 [] h tt
+none-bad-of reading (s ∷ l) h e = ap (λ (q : ℕ). firstBad q 1 (s ∷ l)) (sym (e .0)) ∙ none-bad reading 1 (s ∷ l) h e
 
 -- Every record of a prepared text is `made`, and they are 64 at most.
 pub prepare-made : (t : Bytes) (l : List Step) → prepare t ≡ answers l → (allOf made l ≡ true) × (length l ≤ 64)
@@ -115,18 +127,30 @@ prepare-made t l h =
     let k = steps-made 1 (f .0) l (f .2) in
     (k .each, omega (arith, k .many, split-few (steps t) (f .0) (f .1) .1))
 
+-- In either reading they are those records, in that reading;
+pub prepared-as : (r : Reading) (t : Bytes) (l : List Step) → prepareAs r t ≡ answers l → (m : List Step) × (prepare t ≡ answers m) × (map (inReading r) m ≡ l)
+unfolding prepareAs
+prepared-as r t l h = let f = then-answers (prepare t) _ l h in (f .0, f .1, cc (f .2))
+
+-- so they are `made` too, and all of that reading.
+pub prepare-as-made : (r : Reading) (t : Bytes) (l : List Step) → prepareAs r t ≡ answers l → (allOf made l ≡ true) × (length l ≤ 64) × Every (InIt (readingNumber r)) l
+prepare-as-made r t l h =
+    let p = prepared-as r t l h in
+    let k = prepare-made t (p .0) (p .1) in
+    rw (← p .2) (all-made-named r (p .0) (k .0), omega (arith, k .1, length-map (p .0) (inReading r)), all-named r (p .0))
+
 -- Refusal 18 does not apply to them,
-pub never-18 : (t : Bytes) (l : List Step) → prepare t ≡ answers l → refusal18 l ≡ none
+pub never-18 : (r : Reading) (t : Bytes) (l : List Step) → prepareAs r t ≡ answers l → refusal18 l ≡ none
 unfolding refusal18
-never-18 t l h = let k = prepare-made t l h in rw (le-ltb 64 (length l) (k .1)) (none-bad 1 l (k .0))
+never-18 r t l h = let k = prepare-as-made r t l h in rw (le-ltb 64 (length l) (k .1)) (none-bad-of (readingNumber r) l (k .0) (k .2))
 
 -- so no check of them is refused
-pub check-never-18 : (t : Bytes) (l : List Step) → prepare t ≡ answers l → (d : Direction) (number place : ℕ) → check d l .verdict ≡ verdict-is.Refused number place → ⊥
-check-never-18 t l h d number place e = never (cc (never-18 t l h, check-refused d l number place e .1))
+pub check-never-18 : (r : Reading) (t : Bytes) (l : List Step) → prepareAs r t ≡ answers l → (d : Direction) (number place : ℕ) → check d l .verdict ≡ verdict-is.Refused number place → ⊥
+check-never-18 r t l h d number place e = never (cc (never-18 r t l h, check-refused d l number place e .1))
 
 -- and no run of them is refused 18.
-pub run-never-18 : (t : Bytes) (l : List Step) → prepare t ≡ answers l → (d : Direction) (xs store : List Float) (place : ℕ) → runs d l xs store .answer ≡ ran-is.Refused 18 place → ⊥
-run-never-18 t l h d xs store place e = never (cc (never-18 t l h, run-refused d l xs store place e))
+pub run-never-18 : (r : Reading) (t : Bytes) (l : List Step) → prepareAs r t ≡ answers l → (d : Direction) (xs store : List Float) (place : ℕ) → runs d l xs store .answer ≡ ran-is.Refused 18 place → ⊥
+run-never-18 r t l h d xs store place e = never (cc (never-18 r t l h, run-refused d l xs store place e))
 
 -- ---- a lent table
 
@@ -145,19 +169,19 @@ lent-answers (answers l) table table′ n h = go (ltb (length table) (length l))
         let f : table′ ≡ l ++ drop (length l) table = ap (λ (x : Prepared × List Step). x .1) h in
         rw (e, f, take-append-seam l (drop (length l) table))
 
-pub tested-answers : (t : Bytes) (l : List Step) → tested prepare t ≡ answers l → prepare t ≡ answers l
+pub tested-answers : (own : Bytes → Reply (List Step)) (t : Bytes) (l : List Step) → tested own t ≡ answers l → own t ≡ answers l
 unfolding tested
-tested-answers t l h = go (ltb 4096 (length t)) (not (inDomain t)) h
+tested-answers own t l h = go (ltb 4096 (length t)) (not (inDomain t)) h
   where
-    go : (a b : Bool) → cond a (refuses 1 0) (cond b (refuses 2 0) (prepare t)) ≡ answers l → prepare t ≡ answers l
+    go : (a b : Bool) → cond a (refuses 1 0) (cond b (refuses 2 0) (own t)) ≡ answers l → own t ≡ answers l
     go true b h = absurd (never (cc h))
     go false true h = absurd (never (cc h))
     go false false h = h
 
 -- Of a table that preparing answered into, the records that it counts are those of the text. So they are not refused 18.
-pub table-prepared : {t : Bytes} {table table′ : List Step} {n : ℕ} → Prepares t table (prepared-is.Steps n) table′ → prepare t ≡ answers (take n table′)
+pub table-prepared : (r : Reading) {t : Bytes} {table table′ : List Step} {n : ℕ} → PreparesAs r t table (prepared-is.Steps n) table′ → prepareAs r t ≡ answers (take n table′)
 unfolding outcome
-table-prepared {t} {table} {table′} {n} p = tested-answers t (take n table′) (lent-answers (tested prepare t) table table′ n (p .exactly))
+table-prepared r {t} {table} {table′} {n} p = tested-answers (prepareAs r) t (take n table′) (lent-answers (tested (prepareAs r) t) table table′ n (p .exactly))
 
-pub table-never-18 : {t : Bytes} {table table′ : List Step} {n : ℕ} → Prepares t table (prepared-is.Steps n) table′ → refusal18 (take n table′) ≡ none
-table-never-18 {t} {table} {table′} {n} p = never-18 t (take n table′) (table-prepared p)
+pub table-never-18 : (r : Reading) {t : Bytes} {table table′ : List Step} {n : ℕ} → PreparesAs r t table (prepared-is.Steps n) table′ → refusal18 (take n table′) ≡ none
+table-never-18 r {t} {table} {table′} {n} p = never-18 r t (take n table′) (table-prepared r p)

@@ -18,6 +18,7 @@ pub record Made (s : Step) : Type 0 where
   pub inv : leb (s .inv) 1 ≡ true
   pub forward : leb (s .«omit_fwd») 1 ≡ true
   pub inverse : leb (s .«omit_inv») 1 ≡ true
+  pub reading : leb (s .reading) 1 ≡ true
   pub zeros : allOf (λ (x : ℤ). eqb (size x) 0) (unused s) ≡ true
   pub digits : allOf nineDigits (args s) ≡ true
   pub rule : isArgs (operator s) (args s) ≡ true
@@ -29,7 +30,8 @@ made-so s h =
     let i = and-right (leb (s .n) 8) _ n in
     let f = and-right (leb (s .inv) 1) _ i in
     let b = and-right (leb (s .«omit_fwd») 1) _ f in
-    let u = and-right (leb (s .«omit_inv») 1) _ b in
+    let r = and-right (leb (s .«omit_inv») 1) _ b in
+    let u = and-right (leb (s .reading) 1) _ r in
     let a = and-right (allOf (λ (x : ℤ). eqb (size x) 0) (unused s)) _ u in
     record {
       number = leb-true (s .operator) greatest (and-left (leb (s .operator) greatest) _ h);
@@ -37,6 +39,7 @@ made-so s h =
       inv = and-left (leb (s .inv) 1) _ i;
       forward = and-left (leb (s .«omit_fwd») 1) _ f;
       inverse = and-left (leb (s .«omit_inv») 1) _ b;
+      reading = and-left (leb (s .reading) 1) _ r;
       zeros = and-left (allOf (λ (x : ℤ). eqb (size x) 0) (unused s)) _ u;
       digits = and-left (allOf nineDigits (args s)) _ a;
       rule = and-right (allOf nineDigits (args s)) _ a;

@@ -1,18 +1,20 @@
--- What was written is read back: whatever the call `prepare` leaves of a text that the call `write` answered, it is the table.
-use mathlib.Core.Path.{_≡_, refl, ap}
+-- What was written is read back: whatever preparing in the table's reading leaves of a text that the call `write` answered, it is the table.
+use mathlib.Core.Path.{_≡_, refl, ap, sym}
+use mathlib.Core.Logic.{_↔_}
 use Prim.Native.Nat.{ℕ, suc, _≤_}
 use mathlib.Core.Bool.{Bool, true, false, cond, _&&_}
 use mathlib.Core.Option.{Option, none, some}
 use mathlib.Core.List.{List, [], _∷_, _++_}
-use borrow.Author.Tests.{ltb-false}
+use borrow.Author.Tests.{ltb-false, eqb-true}
 use lib.ListN.{length, take, drop}
 use lib.Seq.{take-append-seam}
-use lib.Dec.{ltb}
+use lib.Dec.{leb, ltb, eqb}
 use Rattle.rules.specs.Text.Lists.{allOf}
 use Rattle.rules.specs.Text.Bytes.{Bytes}
 use Rattle.rules.specs.Text.Refusal.{Reply, answers, refuses, lent, written, Lends}
-use Rattle.rules.specs.Pipeline.Record.{made, firstBad, refusal18}
-use Rattle.rules.specs.Pipeline.Prepare.{Prepares}
+use Rattle.rules.specs.Pipeline.Record.{readingNumber, readingOf, made, tableReading, goodIn, firstBad, refusal18}
+use Rattle.rules.specs.Pipeline.Prepare.{prepareAs, PreparesAs}
+use Rattle.rules.specs.declared.Reading.{Reading}
 use Rattle.rules.specs.declared.Step.{Step}
 use Rattle.rules.specs.declared.Written.{Written}
 use Rattle.rules.specs.declared.Written.the-variants as written-is
@@ -21,9 +23,12 @@ use Rattle.rules.specs.declared.Prepared.the-variants as prepared-is
 use Rattle.laws_text.specs.Once.{once}
 use Rattle.rules.specs.Pipeline.Write.{tableWriting, writtenUnless18, write}
 use Rattle.laws_lists.specs.Lists.{Every}
-use Rattle.laws_lists.specs.Tests.{never}
+use Rattle.laws_lists.specs.Tests.{and-left, never}
+use Rattle.laws_records.specs.MadeSo.{made-so}
+use Rattle.laws_records.specs.Readings.{InIt, number-again}
 use Rattle.laws_records.specs.Faithful.{Slots}
-use Rattle.laws_records.specs.Exact.{table-prepares}
+use Rattle.laws_records.specs.Made.{never-18, tested-answers}
+use Rattle.laws_records.specs.Exact.{table-prepares, Texted, tables-exactly}
 
 -- ---- an answer of `write`
 
@@ -41,28 +46,39 @@ lent-front (answers t) out r out′ h = go (ltb (length out) (length t)) h
         let f : out′ ≡ t ++ drop (length t) out = ap (λ (x : Written × Bytes). x .1) h in
         rw (e, f, take-append-seam t (drop (length t) out))
 
-none-bad : (k : ℕ) (l : List Step) → firstBad k l ≡ none → allOf made l ≡ true
-unfolding firstBad allOf
-none-bad k [] h = refl
-none-bad k (s ∷ l) h = go (made s) h (none-bad (suc k) l)
+none-bad : (reading k : ℕ) (l : List Step) → firstBad reading k l ≡ none → (allOf made l ≡ true) × Every (InIt reading) l
+unfolding firstBad goodIn allOf Every
+none-bad reading k [] h = (refl, tt)
+none-bad reading k (s ∷ l) h = go (made s) (eqb (s .reading) reading) refl h (none-bad reading (suc k) l)
   where
-    go : (b : Bool) → cond b (firstBad (suc k) l) (some k) ≡ none → (firstBad (suc k) l ≡ none → allOf made l ≡ true) → b && allOf made l ≡ true
-    go true h f = f h
-    go false h f = absurd (never (cc h))
+    go : (a b : Bool) → eqb (s .reading) reading ≡ b → cond (a && b) (firstBad reading (suc k) l) (some k) ≡ none
+        → (firstBad reading (suc k) l ≡ none → (allOf made l ≡ true) × Every (InIt reading) l) → (a && allOf made l ≡ true) × (InIt reading s × Every (InIt reading) l)
+    go true true e h f = (f h .0, (sym (eqb-true (s .reading) reading e), f h .1))
+    go true false e h f = absurd (never (cc h))
+    go false b e h f = absurd (never (cc h))
 
--- a table that is not refused 18
-pub not-18 : (l : List Step) → refusal18 l ≡ none → (allOf made l ≡ true) × (length l ≤ 64)
+-- a table that is not refused 18: its records are `made`, at most 64, and all of its first one's reading
+pub not-18 : (l : List Step) → refusal18 l ≡ none → (allOf made l ≡ true) × (length l ≤ 64) × Every (InIt (tableReading l)) l
 unfolding refusal18
 not-18 l h = go (ltb 64 (length l)) refl h
   where
-    go : (b : Bool) → ltb 64 (length l) ≡ b → cond b (some 0) (firstBad 1 l) ≡ none → (allOf made l ≡ true) × (length l ≤ 64)
+    go : (b : Bool) → ltb 64 (length l) ≡ b → cond b (some 0) (firstBad (tableReading l) 1 l) ≡ none → (allOf made l ≡ true) × (length l ≤ 64) × Every (InIt (tableReading l)) l
     go true e h = absurd (never (cc h))
-    go false e h = (none-bad 1 l h, ltb-false 64 (length l) e)
+    go false e h = let k = none-bad (tableReading l) 1 l h in (k .0, ltb-false 64 (length l) e, k .1)
+
+-- so all are of one of the two readings
+table-alike : (l : List Step) → refusal18 l ≡ none → Every (InIt (readingNumber (readingOf (tableReading l)))) l
+table-alike l h = let k = not-18 l h in rw (number-again (tableReading l) (small l (k .0))) (k .2)
+  where
+    small : (l : List Step) → allOf made l ≡ true → leb (tableReading l) 1 ≡ true
+    small [] h = unfold tableReading in refl
+    small (s ∷ l) h = unfold tableReading allOf in made-so s (and-left (made s) _ h) .reading
 
 -- it is the text of the table, which is not refused 18
 pub record IsText (l : List Step) (text : Bytes) : Type 0 where
   pub all-made : allOf made l ≡ true
   pub few : length l ≤ 64
+  pub alike : Every (InIt (readingNumber (readingOf (tableReading l)))) l
   pub is : text ≡ tableWriting l
 
 write-answers : (l : List Step) (t : Bytes) → write l ≡ answers t → IsText l t
@@ -70,7 +86,9 @@ unfolding write writtenUnless18
 write-answers l t h = go (refusal18 l) refl h
   where
     go : (o : Option ℕ) → refusal18 l ≡ o → writtenUnless18 o (tableWriting l) ≡ answers t → IsText l t
-    go none e h = let k = not-18 l e in record { all-made = k .0; few = k .1; is = cc h }
+    go none e h =
+        let k = not-18 l e in
+        record { all-made = k .0; few = k .1; alike = table-alike l e; is = cc h }
     go (some place) e h = absurd (never (cc h))
 
 pub lends-writes : (l : List Step) {out : Bytes} {r : ℕ} {out′ : Bytes} → Lends (write l) out (written-is.Wrote r) out′ → IsText l (take r out′)
@@ -78,11 +96,23 @@ lends-writes l {out} {r} {out′} p = write-answers l (take r out′) (lent-fron
 
 -- ---- read back
 
--- Where `write` answered r bytes of a table, preparing these bytes into any step table with room for its records can only answer
--- how many they are, with exactly these records at the front and the rest as it was.
+-- Where `write` answered r bytes of a table, preparing these bytes in the table's reading into any step table with room for its records can
+-- only answer how many they are, with exactly these records at the front and the rest as it was.
 pub written-returns : (l : List Step) → Every Slots l → {out : Bytes} {r : ℕ} {out′ : Bytes} → Lends (write l) out (written-is.Wrote r) out′
-    → (table : List Step) → length l ≤ length table → {answer : Prepared} {table′ : List Step} → Prepares (take r out′) table answer table′
+    → (table : List Step) → length l ≤ length table → {answer : Prepared} {table′ : List Step} → PreparesAs (readingOf (tableReading l)) (take r out′) table answer table′
     → (answer ≡ prepared-is.Steps (length l)) × (table′ ≡ l ++ drop (length l) table)
 written-returns l e {out} {r} {out′} w table room {answer} {table′} p =
     let k = lends-writes l w in
-    once p (rw (k .is) (table-prepares l table (record { each = k .all-made; slots = e }) (k .few) room))
+    once p (rw (k .is) (table-prepares (readingOf (tableReading l)) l table (record { each = k .all-made; slots = e; alike = k .alike }) (k .few) room))
+
+-- ---- refusal 18, exactly
+
+-- A table of records with eight slots, as every record of the code has, is not refused 18 exactly when some text prepares to it, in some reading.
+pub not-18-exactly : (l : List Step) → Every Slots l → (refusal18 l ≡ none) ↔ ((r : Reading) × Texted r l)
+not-18-exactly l slots = (
+  λ h.
+      let k = not-18 l h in
+      let r = readingOf (tableReading l) in
+      (r, tables-exactly r l .0 (record { each = k .0; slots = slots; alike = table-alike l h }, k .1)),
+  λ t. never-18 (t .0) (t .1 .text) l (tested-answers (prepareAs (t .0)) (t .1 .text) l (t .1 .prepares)),
+)

@@ -17,8 +17,9 @@ use Rattle.rules.specs.Text.Bytes.{Bytes, Words, same}
 use Rattle.rules.specs.Text.Parameters.{Parameter}
 use Rattle.rules.specs.Operators.Table.{numberOf}
 use Rattle.rules.specs.Operators.Arguments.{size, isGiven}
-use Rattle.rules.specs.Pipeline.Record.{stepWith, operator, args, unused, isSet, made}
+use Rattle.rules.specs.Pipeline.Record.{readingNumber, stepWith, operator, args, unused, isSet, made}
 use Rattle.rules.specs.Pipeline.Prepare.{mark, recordOf}
+use Rattle.rules.specs.declared.Reading.the-variants.{Crate}
 use Rattle.rules.specs.declared.Step.{Step}
 use Rattle.laws_records.specs.MadeSo.{made-so}
 use Rattle.laws_records.specs.Numbering.{number-operator}
@@ -50,7 +51,7 @@ mark-again (suc (suc m)) h = absurd (none m (leb-true (suc (suc m)) 1 h))
     none : (m : ℕ) → suc (suc m) ≤ 1 → ⊥
     none m h = omega arith
 
--- A record with eight slots, as every record of the code has, that passes the test.
+-- A record of the crate's reading with eight slots, as every record of the code has, that passes the test.
 pub record IsMade (s : Step) : Type 0 where
   pub number : numberOf (operator s) ≡ s .operator
   pub slots : args s ++ replicate (8 - length (args s)) (pos 0) ≡ s .args
@@ -58,6 +59,7 @@ pub record IsMade (s : Step) : Type 0 where
   pub inv-again : cond (isSet (s .inv)) 1 0 ≡ s .inv
   pub fwd-again : cond (isSet (s .«omit_fwd»)) 1 0 ≡ s .«omit_fwd»
   pub back-again : cond (isSet (s .«omit_inv»)) 1 0 ≡ s .«omit_inv»
+  pub crates : readingNumber Crate ≡ s .reading
   pub keeps : Kept (operator s) (args s)
 
 slots-again : (l : List ℤ) (n : ℕ) → length l ≡ 8 → n ≤ 8 → allOf (λ (x : ℤ). eqb (size x) 0) (drop n l) ≡ true → take n l ++ replicate (8 - length (take n l)) (pos 0) ≡ l
@@ -73,9 +75,9 @@ made-keeps s h =
     let m = made-so s h in
     record { fit = omega (arith, m .slots, length-take (s .n) (s .args)); nines = m .digits; rule = m .rule }
 
-pub made-is : (s : Step) → length (s .args) ≡ 8 → made s ≡ true → IsMade s
+pub made-is : (s : Step) → length (s .args) ≡ 8 → made s ≡ true → readingNumber Crate ≡ s .reading → IsMade s
 unfolding operator args unused
-made-is s e h =
+made-is s e h c =
     let m = made-so s h in
     record {
       number = number-operator (s .operator) (m .number);
@@ -84,6 +86,7 @@ made-is s e h =
       inv-again = mark-again (s .inv) (m .inv);
       fwd-again = mark-again (s .«omit_fwd») (m .forward);
       back-again = mark-again (s .«omit_inv») (m .inverse);
+      crates = c;
       keeps = made-keeps s h;
     }
 
@@ -152,4 +155,5 @@ module _ (s : Step) (w : Bytes) (own : List Parameter) (u : Unmarked own) where
         m .inv-again,
         m .fwd-again,
         m .back-again,
+        m .crates,
       )

@@ -3,7 +3,7 @@ use mathlib.Core.Path.{_≡_, refl, sym, ap, _∙_}
 use Prim.Native.Nat.{ℕ, _+_, _-_, _≤_, _*_, _/_}
 use mathlib.Core.Bool.{Bool, true, false, cond}
 use mathlib.Core.Option.{Option, none, some}
-use mathlib.Core.List.{List, [], _∷_, _++_, flatMap, reverse, append-assoc}
+use mathlib.Core.List.{List, [], _∷_, _++_, flatMap, reverse, append-assoc, map}
 use native.Mathlib.Omega.{arith}
 use borrow.Author.Tests.{ltb-false}
 use lib.Dec.{ltb}
@@ -19,8 +19,8 @@ use Rattle.rules.specs.Text.Split.{split}
 use Rattle.rules.specs.Text.Parameters.{parameters}
 use Rattle.rules.specs.Proj.Translate.{translate}
 use Rattle.rules.specs.Text.Reader.{next}
-use Rattle.rules.specs.Pipeline.Prepare.{prepare, Prepares}
-use Rattle.rules.specs.Pipeline.Record.{refusal18}
+use Rattle.rules.specs.Pipeline.Prepare.{prepare, prepareAs, Prepares, PreparesAs}
+use Rattle.rules.specs.Pipeline.Record.{inReading, refusal18}
 use Rattle.rules.specs.Pipeline.Running.{Numbered, running}
 use Rattle.rules.specs.Pipeline.Columns.{after, depths, deepest}
 use Rattle.rules.specs.Pipeline.Tuples.{acted}
@@ -28,6 +28,7 @@ use Rattle.rules.specs.Pipeline.Run.{Outcome, start, count, passes64, badList, 
 use Rattle.rules.specs.Pipeline.Check.{Checks}
 use Rattle.rules.specs.Pipeline.Write.{tableWriting, writtenUnless18, write}
 use Rattle.rules.specs.Face.Demands.{OneOf, Ends, RunEnds, CheckEnds, NextEnds}
+use Rattle.rules.specs.declared.Reading.{Reading}
 use Rattle.rules.specs.declared.Step.{Step}
 use Rattle.rules.specs.declared.Direction.{Direction}
 use Rattle.rules.specs.declared.Written.{Written}
@@ -42,7 +43,7 @@ use Rattle.rules.specs.declared.Verdict.{Verdict}
 use Rattle.rules.specs.declared.Verdict.the-variants as verdict-is
 use Rattle.rules.specs.declared.Ran.{Ran}
 use Rattle.rules.specs.declared.Ran.the-variants.{Done, Refused}
-use Rattle.laws_text.specs.Refusals.{Refusing, OfAStep, tested-refuses, normalise-refuses, split-refuses, parameters-refuses, translate-refuses, prepare-refuses}
+use Rattle.laws_text.specs.Refusals.{Refusing, OfAStep, then-refuses, tested-refuses, normalise-refuses, split-refuses, parameters-refuses, translate-refuses, prepare-refuses}
 use Rattle.laws_text.specs.Walk.{walk-ahead}
 use Rattle.laws_steps.specs.Foretold.{check-refused}
 use Rattle.laws_steps.specs.Lengths.{store-length}
@@ -97,14 +98,27 @@ module _ {text out : Bytes} {r : Written} {out′ : Bytes} where
       ends written (1 ∷ 2 ∷ 3 ∷ 4 ∷ 5 ∷ 7 ∷ []) refl translate refl refl
       (translate-refuses (By (1 ∷ 2 ∷ 3 ∷ 4 ∷ 5 ∷ 7 ∷ [])) text (λ k l. (refl, refl, refl)))
 
-pub prepare-ends : {text : Bytes} {table : List Step} {r : Prepared} {table′ : List Step} → Prepares text table r table′
-    → Ends prepared-is.Steps prepared-is.Refused (1 ∷ 2 ∷ 6 ∷ 7 ∷ 8 ∷ 9 ∷ 10 ∷ 11 ∷ 12 ∷ 13 ∷ 14 ∷ []) table r table′
-unfolding prepared anyOf
-prepare-ends {text} =
-    let l : List ℕ = 1 ∷ 2 ∷ 6 ∷ 7 ∷ 8 ∷ 9 ∷ 10 ∷ 11 ∷ 12 ∷ 13 ∷ 14 ∷ [] in
-    let each : (k : ℕ) → OfAStep (By l) k = λ k.
+-- preparing, and in a reading: naming the records refuses nothing
+abbrev preparing : List ℕ
+preparing = 1 ∷ 2 ∷ 6 ∷ 7 ∷ 8 ∷ 9 ∷ 10 ∷ 11 ∷ 12 ∷ 13 ∷ 14 ∷ []
+
+step-refuses : (text : Bytes) → Refusing (By preparing) (prepare text)
+unfolding anyOf
+step-refuses text =
+    let each : (k : ℕ) → OfAStep (By preparing) k = λ k.
     record { long = refl; modifiers = refl; keys = refl; name = refl; unknown-key = refl; no-number = refl; series = refl; own = refl } in
-    ends prepared l refl prepare refl refl (prepare-refuses (By l) text (λ k h. each k) refl)
+    prepare-refuses (By preparing) text (λ k h. each k) refl
+
+pub prepare-ends : {text : Bytes} {table : List Step} {r : Prepared} {table′ : List Step} → Prepares text table r table′
+    → Ends prepared-is.Steps prepared-is.Refused preparing table r table′
+unfolding prepared anyOf
+prepare-ends {text} = ends prepared preparing refl prepare refl refl (step-refuses text)
+
+pub prepare-as-ends : (how : Reading) {text : Bytes} {table : List Step} {r : Prepared} {table′ : List Step} → PreparesAs how text table r table′
+    → Ends prepared-is.Steps prepared-is.Refused preparing table r table′
+unfolding prepared anyOf prepareAs Refusing
+prepare-as-ends how {text} =
+    ends prepared preparing refl (prepareAs how) refl refl (then-refuses (By preparing) (prepare text) (λ l. answers (map (inReading how) l)) (step-refuses text) (λ l e. tt))
 
 pub write-ends : {out : Bytes} {r : Written} {out′ : Bytes} (table : List Step) → Lends (write table) out r out′
     → Ends written-is.Wrote written-is.Refused (7 ∷ 18 ∷ []) out r out′

@@ -15,11 +15,12 @@ use Rattle.rules.specs.Text.Split.{split}
 use Rattle.rules.specs.Text.Parameters.{parameters}
 use Rattle.rules.specs.Proj.Translate.{translate}
 use Rattle.rules.specs.Text.Reader.{next}
-use Rattle.rules.specs.Pipeline.Prepare.{prepare, Prepares}
+use Rattle.rules.specs.Pipeline.Prepare.{prepare, prepareAs, Prepares, PreparesAs}
 use Rattle.rules.specs.Pipeline.Run.{Outcome, runs, Runs}
 use Rattle.rules.specs.Pipeline.Check.{check}
 use Rattle.rules.specs.Face.Plain.{plainWritten, plainFound, plainPrepared, recordCount, directionOf, plainVerdict, plainCheck, PlainChecks, plainRan, PlainOutcome, plainOutcome, PlainRuns}
 use Rattle.rules.specs.Face.Demands.{OneOf, Ends, RunEnds, ExportsText}
+use Rattle.rules.specs.declared.Reading.{Reading}
 use Rattle.rules.specs.declared.Step.{Step}
 use Rattle.rules.specs.declared.Written.{Written}
 use Rattle.rules.specs.declared.Written.the-variants as written-is
@@ -39,7 +40,7 @@ use Rattle.laws_text.specs.Entry.{in-other-words}
 use Rattle.laws_text.specs.Once.{once}
 use Rattle.laws_steps.specs.Foretold.{check-refused}
 use Rattle.laws_steps.specs.Runs.{used}
-use Rattle.laws_steps.specs.Ending.{normalise-ends, split-ends, parameters-ends, translate-ends, prepare-ends, run-ends}
+use Rattle.laws_steps.specs.Ending.{normalise-ends, split-ends, parameters-ends, translate-ends, prepare-ends, prepare-as-ends, run-ends}
 
 behind : {A R S : Type 0} (inWords : Reply ℕ → R) (f : R → S) (own : Bytes → Reply (List A)) (text : Bytes) (storage : List A) {r : S} {storage′ : List A}
     → Promised (λ (x : Reply ℕ). f (inWords x)) own text storage r storage′ → (w : R) × Promised inWords own text storage w storage′ × (r ≡ f w)
@@ -101,6 +102,13 @@ unfolding anyOf plainPrepared
 behind-prepare {text} {table} {r} {table′} p =
     behind-0 prepared plainPrepared (λ n. refl) (λ number place. refl) prepare _ refl
     text table r table′ (λ w h. prepare-ends h) p
+
+pub behind-prepare-as : (how : Reading) {text : Bytes} {table : List Step} {r : Answer} {table′ : List Step} → Promised recordCount (prepareAs how) text table r table′
+    → (w : Prepared) × PreparesAs how text table w table′ × (r ≡ plainPrepared w) × (r .number ≡ 0 → w ≡ prepared-is.Steps (r .length))
+unfolding anyOf plainPrepared
+behind-prepare-as how {text} {table} {r} {table′} p =
+    behind-0 prepared plainPrepared (λ n. refl) (λ number place. refl) (prepareAs how) _ refl
+    text table r table′ (λ w h. prepare-as-ends how h) p
 
 -- ---- the reader
 

@@ -1,6 +1,6 @@
 -- Document 01's examples, input beside outcome: P1 to P13 in one table, the line below them in a second, what the program `steps`
--- prints in a third, what `write` answers in a fourth; and a few of the words in which the demands are said. That every row of them holds is
--- the one statement of specs/ExamplesHold.antt.
+-- prints in a third, what `write` answers in a fourth; document 02's, of the reading named PROJ, in a fifth; and a few of the words in which the
+-- demands are said. That every row of them holds is the one statement of specs/ExamplesHold.antt.
 use mathlib.Core.Path.{_≡_}
 use Prim.Native.Nat.{ℕ}
 use Prim.Native.String.{String}
@@ -17,18 +17,22 @@ use Rattle.rules.specs.Text.Split.{line, split}
 use Rattle.rules.specs.Text.Parameters.{parameters}
 use Rattle.rules.specs.Proj.Translate.{translate}
 use Rattle.rules.specs.Text.Decimal.{signed}
-use Rattle.rules.specs.Pipeline.Prepare.{prepare}
+use Rattle.rules.specs.Pipeline.Prepare.{prepare, prepareAs}
+use Rattle.rules.specs.Operators.Acts.{Act, pushes, popsAll, flips, rolls, swaps, drops, orders}
+use Rattle.rules.specs.Pipeline.Running.{act}
 use Rattle.rules.specs.Pipeline.Run.{Outcome, runs}
-use Rattle.rules.specs.Pipeline.Check.{check}
+use Rattle.rules.specs.Pipeline.Check.{plus, four, check}
 use Rattle.rules.specs.Pipeline.Write.{write}
 use Rattle.rules.specs.Face.Shown.{shown}
 use Rattle.rules.specs.Face.Demands.{numberAt, signTurned}
+use Rattle.rules.specs.declared.Reading.{Reading}
+use Rattle.rules.specs.declared.Reading.the-variants.{Crate, Proj}
 use Rattle.rules.specs.declared.Step.{Step}
 use Rattle.rules.specs.declared.Direction.{Direction}
 use Rattle.rules.specs.declared.Direction.the-variants.{Forward, Inverse}
 use Rattle.rules.specs.declared.Verdict.{Verdict}
 use Rattle.rules.specs.declared.Foretold.{Foretold}
-use Rattle.rules.specs.declared.Verdict.the-variants.{Passes, TooFew, TooMany}
+use Rattle.rules.specs.declared.Verdict.the-variants.{Passes, TooFew, TooMany, Refused}
 
 -- a row: its mark, what is asked, and the outcome
 pub data Example : Type 1 where
@@ -124,8 +128,11 @@ also =
 
 -- ---- the program `steps`: what is read, and the lines that are printed, "each line ended by a newline"
 
+unfoldable pub printsAs : Reading → String → List String → Example
+printsAs r text lines = says text (shown r (ascii text)) (flatMap (λ (l : String). line (ascii l)) lines)
+
 unfoldable pub prints : String → List String → Example
-prints text lines = says text (shown (ascii text)) (flatMap (λ (l : String). line (ascii l)) lines)
+prints text lines = printsAs Crate text lines
 
 unfoldable pub printed : List Example
 printed =
@@ -171,6 +178,14 @@ printed =
     ∷ prints "push v_1 | inv" ("translated: push v_1 | inv" ∷ "refused 6 2" ∷ [])
     ∷ prints "push v_1 | :inv" ("translated: push v_1 | :inv" ∷ "step 1: push v_1" ∷ "step 2: :inv" ∷ "refused 6 2" ∷ [])
     ∷ prints "proj=x step inv" ("refused 5 2" ∷ [])
+    ∷ printsAs Proj "pop inv v_3 | push inv v_3" (
+    "translated: pop inv v_3 | push inv v_3"
+    ∷ "step 1: pop inv v_3"
+    ∷ "step 2: push inv v_3"
+    ∷ "forward: deepest 1 left 0 places 1,2,3,4"
+    ∷ "inverse: deepest 1 left 0 places 1,2,3,4"
+    ∷ []
+    )
     ∷ []
 
 -- ---- the call `write`: a text, and the one that the records it prepares to are written as
@@ -190,6 +205,41 @@ rewritten =
     ∷ rewrites "adapt from=nwuf" "adapt from=enuf to=nwuf"
     ∷ rewrites "adapt from=neuf_deg to=pass" "adapt from=enuf_deg to=neuf"
     ∷ rewrites "adapt from=wsdp_gon to=pden_deg" "adapt from=enuf_gon to=fuws_deg"
+    ∷ []
+
+-- ---- document 02, request 1: the reading named PROJ
+
+-- the check of a definition in a reading, what the first step of one does, and the records of two, one behind the other
+unfoldable pub checkOn : Reading → Direction → String → Foretold
+checkOn r d text = check d (records (on (prepareAs r) text))
+
+unfoldable pub doesOn : Reading → Direction → String → List Act
+doesOn r d text = map (act d) (records (on (prepareAs r) text))
+
+unfoldable pub mixed : Reading → String → Reading → String → List Step
+mixed r text q other = records (on (prepareAs r) text) ++ records (on (prepareAs q) other)
+
+abbrev pub pair : String
+pair = "pop inv v_3 | push inv v_3"
+
+unfoldable pub readings : List Example
+readings =
+    says "that pair passes forward" (checkOn Proj Forward pair .verdict) Passes
+    ∷ says "with deepest 1" (checkOn Proj Forward pair .deepest) 1
+    ∷ says "none left" (checkOn Proj Forward pair .left) 0
+    ∷ says "places 1,2,3,4" (checkOn Proj Forward pair .places) (four (plus 1) (plus 2) (plus 3) (plus 4))
+    ∷ says "in the crate's reading it is turned down" (checkOn Crate Forward pair .verdict) (TooFew 1)
+    ∷ says "and inverse, as an upright pair does" (checkOn Proj Inverse pair .verdict) Passes
+    ∷ says "`stack push=1,2 inv` pops 2, then 1" (doesOn Proj Forward "stack push=1,2 inv") (popsAll (2 ∷ 1 ∷ []) ∷ [])
+    ∷ says "and pushes 1, then 2, in an inverse run" (doesOn Proj Inverse "stack push=1,2 inv") (pushes (1 ∷ 2 ∷ []) ∷ [])
+    ∷ says "in the crate's reading it pushes" (doesOn Crate Forward "stack push=1,2 inv") (pushes (1 ∷ 2 ∷ []) ∷ [])
+    ∷ says "`stack roll=3,1 inv` is unroll" (doesOn Proj Forward "stack roll=3,1 inv | stack unroll=3,1") (rolls 3 2 ∷ rolls 3 2 ∷ [])
+    ∷ says "flip, swap and drop are unchanged by it" (doesOn Proj Forward "stack flip=1,2 inv | stack swap inv | stack drop inv") (flips (1 ∷ 2 ∷ []) ∷ swaps ∷ drops ∷ [])
+    ∷ says "`axisswap` is turned in both" (doesOn Proj Forward "axisswap order=2,-1 inv") (orders true (pos 2 ∷ minus1 ∷ []) ∷ [])
+    ∷ says "as in the crate's" (doesOn Crate Forward "axisswap order=2,-1 inv") (orders true (pos 2 ∷ minus1 ∷ []) ∷ [])
+    ∷ says "18 at a record whose reading is not the first's" (check Forward (mixed Proj "push v_1" Crate "pop v_1") .verdict) (Refused 18 2)
+    ∷ says "whichever is the first's" (check Inverse (mixed Crate "push v_1 | pop v_1" Proj "push v_1") .verdict) (Refused 18 3)
+    ∷ says "a text in either reading" (write (records (on (prepareAs Proj) pair))) (answers (ascii "pop v_3 inv | push v_3 inv"))
     ∷ []
 
 -- ---- the words of the demands

@@ -1,15 +1,16 @@
--- Document 01's examples hold: one statement over the tables of specs/Examples.antt, proved by computation. A line of the proof is a
+-- The documents' examples hold: one statement over the tables of specs/Examples.antt, proved by computation. A line of the proof is a
 -- table's, and its n-th `refl` is that of row n.
 use mathlib.Core.Path.{refl}
 use Rattle.rules.specs.Opened.{opened}
-use Rattle.rules.specs.Examples.{examples, also, printed, rewritten, demanded, AllHold}
+use Rattle.rules.specs.Examples.{examples, also, printed, rewritten, readings, demanded, AllHold}
 
-pub examples-hold : AllHold examples × AllHold also × AllHold printed × AllHold rewritten × AllHold demanded
+pub examples-hold : AllHold examples × AllHold also × AllHold printed × AllHold rewritten × AllHold readings × AllHold demanded
 unfolding opened
 examples-hold = (
   (refl, (refl, (refl, (refl, (refl, (refl, (refl, (refl, (refl, (refl, (refl, (refl, (refl, (refl, (refl, (refl, tt)))))))))))))))),
   (refl, (refl, (refl, (refl, (refl, (refl, (refl, (refl, (refl, (refl, (refl, (refl, (refl, (refl, (refl, (refl, (refl, (refl, (refl, tt))))))))))))))))))),
-  (refl, (refl, (refl, (refl, (refl, (refl, (refl, (refl, tt)))))))),
+  (refl, (refl, (refl, (refl, (refl, (refl, (refl, (refl, (refl, tt))))))))),
   (refl, (refl, (refl, (refl, (refl, (refl, (refl, (refl, (refl, (refl, tt)))))))))),
+  (refl, (refl, (refl, (refl, (refl, (refl, (refl, (refl, (refl, (refl, (refl, (refl, (refl, (refl, (refl, (refl, tt)))))))))))))))),
   (refl, (refl, (refl, tt))),
 )

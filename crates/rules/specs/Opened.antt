@@ -3,7 +3,7 @@
 use mathlib.Core.Bool.{xor}
 use mathlib.Core.List.{flatMap}
 use lib.Ieee.{neg, mul, div, eq, ofInt, ofFields, ofBits, toBits, size}
-use Rattle.rules.specs.Examples.{on, refusal, records, ran, verdictOn, floats, examples, deep, also, prints, printed, rewrites, rewritten, demanded, Holds, AllHold}
+use Rattle.rules.specs.Examples.{on, refusal, records, ran, verdictOn, floats, examples, deep, also, printsAs, prints, printed, rewrites, rewritten, checkOn, doesOn, mixed, readings, demanded, Holds, AllHold}
 use Rattle.rules.specs.Face.Plain.{plainWritten, plainFound, plainPrepared, directionOf, plainVerdict, plainCheck, plainRan, plainOutcome}
 use Rattle.rules.specs.Face.Shown.{counted, refusalText, orRefused, called, signedPlace, twoPlaces, fourPlaces, passText, verdictText, verdictLine, bothChecks, shownChecks, heading, headed, shownSteps, translatedLine, shown}
 use Rattle.rules.specs.Operators.Adapt.{placeIn, axis, ending, wordOf, word, wordGiven, position, outputOf, angles, combined, between, isCode, isAdapt, angle, factor, post, mult, output, sets, stays, noop, adaptedIf, adapted, letter, endingOf, fromWord, toWord}
@@ -18,10 +18,10 @@ use Rattle.rules.specs.Operators.Table.{operators, numberOf, withNumber,
 use Rattle.rules.specs.Pipeline.Check.{place, putPlace, turnPlace, adapting, anyAdapt, verdict, only, foretold, answered, checked, check}
 use Rattle.rules.specs.Pipeline.Columns.{rolledOnce, rolled, swappedTop, pushed, popped, topped, flipped, moved, takes, tooFew, after, depths, deepest}
 use Rattle.rules.specs.Pipeline.Keys.{everyKey, ownKeys, kindOf, isLacking, unknown, misspelt, tooLong}
-use Rattle.rules.specs.Pipeline.Prepare.{mark, recordOf, recorded, ownRule, judged14, judged11, named, judged10, judged, atStep, prepareStep, prepareSteps, prepare}
-use Rattle.rules.specs.Pipeline.Record.{stepWith, operator, args, unused, isSet, nineDigits, made, firstBad, refusal18, blank, listed}
+use Rattle.rules.specs.Pipeline.Prepare.{mark, recordOf, recorded, ownRule, judged14, judged11, named, judged10, judged, atStep, prepareStep, prepareSteps, prepare, prepareAs}
+use Rattle.rules.specs.Pipeline.Record.{readingNumber, readingOf, stepWith, inReading, operator, args, unused, isSet, nineDigits, made, tableReading, goodIn, firstBad, refusal18, blank, listed}
 use Rattle.rules.specs.Pipeline.Run.{countFrom, count, passes64, badList, storeAfter, refused, finished, unless16, unless15, unless18, runs}
-use Rattle.rules.specs.Pipeline.Running.{opposite, directed, actOf, act, omitted, ordered, runningFrom, running}
+use Rattle.rules.specs.Pipeline.Running.{opposite, turns, directed, actOf, act, omitted, ordered, runningFrom, running}
 use Rattle.rules.specs.Pipeline.Tuples.{tuples, numbers, column, stored, drained, stomped, starved, actedIf, acted, countsNone, counts}
 use Rattle.rules.specs.Pipeline.Write.{nameWord, argWords, operatorWords, markWord, markWords, stepWords, writing, tableWriting, writtenUnless18, write}
 use Rattle.rules.specs.Proj.Translate.{isInv, notInv, isPipeline, pipelineWords, pipeline, initFirst, onlyInv, firstFault, atPosition1, withGlobals, exchangedMark, withoutInv, marked, stepOf, isWritten, inOrder, translation, translated, translate}
@@ -40,30 +40,31 @@ use Rattle.rules.specs.Text.Split.{modifier, onlyModifiers, leading, fol
 
 unfoldable pub opened : Unit {0}
 unfolding xor flatMap neg mul div eq ofInt ofFields ofBits toBits size on refusal records ran verdictOn floats
-    examples deep also prints printed rewrites rewritten demanded Holds AllHold plainWritten plainFound
-    plainPrepared directionOf plainVerdict plainCheck plainRan plainOutcome counted refusalText orRefused called
-    signedPlace twoPlaces fourPlaces passText verdictText verdictLine bothChecks shownChecks heading headed
-    shownSteps translatedLine shown placeIn axis ending wordOf word wordGiven position outputOf angles combined
-    between isCode isAdapt angle factor post mult output sets stays noop adaptedIf adapted letter endingOf fromWord
-    toWord valueOf isGiven arg places isPlace isDistinct isOrder wholes spelling listing keyValue order swapFrom
-    unswapFrom reordered swapped choose flag numbered worded kindIn number put turn isRising axisKeys flagged axes
-    flagOf isPlaces isRoll isNothing rolling unrolling actionKeys actions actionThen actionsGiven exactlyOne
-    operators numberOf withNumber operatorOf isArgs forward inverse names nameIn nameOf place putPlace turnPlace
-    adapting anyAdapt verdict only foretold answered checked check rolledOnce rolled swappedTop pushed popped topped
-    flipped moved takes tooFew after depths deepest everyKey ownKeys kindOf isLacking unknown misspelt tooLong mark
-    recordOf recorded ownRule judged14 judged11 named judged10 judged atStep prepareStep prepareSteps prepare
-    stepWith operator args unused isSet nineDigits made firstBad refusal18 blank listed countFrom count passes64
-    badList storeAfter refused finished unless16 unless15 unless18 runs opposite directed actOf act omitted ordered
-    runningFrom running tuples numbers column stored drained stomped starved actedIf acted countsNone counts
-    nameWord argWords operatorWords markWord markWords stepWords writing tableWriting writtenUnless18 write isInv
-    notInv isPipeline pipelineWords pipeline initFirst onlyInv firstFault atPosition1 withGlobals exchangedMark
-    withoutInv marked stepOf isWritten inOrder translation translated translate unplussed isStep cutAtStep
-    withoutNoise projSteps isProj firstProj inItsPlace exchanged hasKey lastOf withoutLast composed ellipsoid scale
-    tidied ascii white subscript inDomain same starts contains replaceFrom replace trimStart trimEnd trimmed before
-    behind onto cut words afterEach joinedBy joined newlines uncommented lined stripped digit digitsTo spelled
-    plainForm plain decimal pieces numberThen allNumbers series isWhole signed minus wholeOf anyOf allOf kept
-    placeOf nonEmpty isNone run becomes subscriptBecomes replacements squeezed continued normal normalise digitAt
-    digitsFrom digits parameter name elements precedes entered enteredAll tableOf stepTable textTable parametersOf
-    parameterLine parameters found next walked andThen tested lent outcome written prepared modifier onlyModifiers
-    leading following turned stepsOf steps stepText splitSteps line split
+    examples deep also printsAs prints printed rewrites rewritten checkOn doesOn mixed readings demanded Holds
+    AllHold plainWritten plainFound plainPrepared directionOf plainVerdict plainCheck plainRan plainOutcome counted
+    refusalText orRefused called signedPlace twoPlaces fourPlaces passText verdictText verdictLine bothChecks
+    shownChecks heading headed shownSteps translatedLine shown placeIn axis ending wordOf word wordGiven position
+    outputOf angles combined between isCode isAdapt angle factor post mult output sets stays noop adaptedIf adapted
+    letter endingOf fromWord toWord valueOf isGiven arg places isPlace isDistinct isOrder wholes spelling listing
+    keyValue order swapFrom unswapFrom reordered swapped choose flag numbered worded kindIn number put turn isRising
+    axisKeys flagged axes flagOf isPlaces isRoll isNothing rolling unrolling actionKeys actions actionThen
+    actionsGiven exactlyOne operators numberOf withNumber operatorOf isArgs forward inverse names nameIn nameOf
+    place putPlace turnPlace adapting anyAdapt verdict only foretold answered checked check rolledOnce rolled
+    swappedTop pushed popped topped flipped moved takes tooFew after depths deepest everyKey ownKeys kindOf
+    isLacking unknown misspelt tooLong mark recordOf recorded ownRule judged14 judged11 named judged10 judged atStep
+    prepareStep prepareSteps prepare prepareAs readingNumber readingOf stepWith inReading operator args unused isSet
+    nineDigits made tableReading goodIn firstBad refusal18 blank listed countFrom count passes64 badList storeAfter
+    refused finished unless16 unless15 unless18 runs opposite turns directed actOf act omitted ordered runningFrom
+    running tuples numbers column stored drained stomped starved actedIf acted countsNone counts nameWord argWords
+    operatorWords markWord markWords stepWords writing tableWriting writtenUnless18 write isInv notInv isPipeline
+    pipelineWords pipeline initFirst onlyInv firstFault atPosition1 withGlobals exchangedMark withoutInv marked
+    stepOf isWritten inOrder translation translated translate unplussed isStep cutAtStep withoutNoise projSteps
+    isProj firstProj inItsPlace exchanged hasKey lastOf withoutLast composed ellipsoid scale tidied ascii white
+    subscript inDomain same starts contains replaceFrom replace trimStart trimEnd trimmed before behind onto cut
+    words afterEach joinedBy joined newlines uncommented lined stripped digit digitsTo spelled plainForm plain
+    decimal pieces numberThen allNumbers series isWhole signed minus wholeOf anyOf allOf kept placeOf nonEmpty
+    isNone run becomes subscriptBecomes replacements squeezed continued normal normalise digitAt digitsFrom digits
+    parameter name elements precedes entered enteredAll tableOf stepTable textTable parametersOf parameterLine
+    parameters found next walked andThen tested lent outcome written prepared modifier onlyModifiers leading
+    following turned stepsOf steps stepText splitSteps line split
 opened = tt

@@ -49,9 +49,20 @@ pub enum Kind {
     Lacking,
 }
 
-// A step record: the operator by its number, how many arguments it has, the marks, each 0 or 1, and up to eight
-// arguments in place. A slot that is not used holds 0. Whatever a C caller lends is some record; one that no preparation
-// makes is refused 18 (specs/Pipeline/Record.antt).
+// The two readings of a definition: the crate's, in which `inv` turns `axisswap` and `adapt` only, and PROJ's, in which it turns
+// every operator. And their numbers in a record.
+pub enum Reading {
+    Crate,
+    Proj,
+}
+
+pub const CRATE: u8 = 0;
+
+pub const PROJ: u8 = 1;
+
+// A step record: the operator by its number, how many arguments it has, the marks, each 0 or 1, the reading by its number, and up
+// to eight arguments in place. A slot that is not used holds 0. Whatever a C caller lends is some record; one that no preparation
+// makes is refused 18, and so is one whose reading is not that of the table's first (specs/Pipeline/Record.antt).
 #[repr(C)]
 pub struct Step {
     pub operator: u8,
@@ -59,6 +70,7 @@ pub struct Step {
     pub inv: u8,
     pub omit_fwd: u8,
     pub omit_inv: u8,
+    pub reading: u8,
     pub args: [i32; 8],
 }
 

@@ -11,8 +11,9 @@ use Rattle.rules.specs.Text.Refusal.{Reply, answers, refuses, andThen, t
 use Rattle.rules.specs.Text.Split.{line, split}
 use Rattle.rules.specs.Proj.Translate.{translate}
 use Rattle.rules.specs.Text.Numerals.{digits}
-use Rattle.rules.specs.Pipeline.Prepare.{prepare}
+use Rattle.rules.specs.Pipeline.Prepare.{prepareAs}
 use Rattle.rules.specs.Pipeline.Check.{nth, check}
+use Rattle.rules.specs.declared.Reading.{Reading}
 use Rattle.rules.specs.declared.Step.{Step}
 use Rattle.rules.specs.declared.Place.{Place}
 use Rattle.rules.specs.declared.Direction.the-variants.{Forward, Inverse}
@@ -72,8 +73,8 @@ unfoldable pub bothChecks : List Step → Bytes
 bothChecks ss = verdictLine (ascii "forward: ") (check Forward ss) ++ verdictLine (ascii "inverse: ") (check Inverse ss)
 
 -- "prepares, then checks": preparing prints nothing where it answers
-unfoldable pub shownChecks : Bytes → Bytes
-shownChecks t = orRefused (tested prepare t) bothChecks
+unfoldable pub shownChecks : Reading → Bytes → Bytes
+shownChecks r t = orRefused (tested (prepareAs r) t) bothChecks
 
 -- ---- the steps
 
@@ -87,8 +88,8 @@ headed k begun [] = []
 headed k begun (x ∷ t) = cond begun [] (heading k) ++ (x ∷ cond (is "\n" x) (headed (suc k) false t) (headed k true t))
 
 -- "splits", and what follows
-unfoldable pub shownSteps : Bytes → Bytes
-shownSteps t = orRefused (called split t) (λ lines. headed 1 false lines ++ shownChecks t)
+unfoldable pub shownSteps : Reading → Bytes → Bytes
+shownSteps r t = orRefused (called split t) (λ lines. headed 1 false lines ++ shownChecks r t)
 
 -- ---- the whole
 
@@ -96,5 +97,6 @@ shownSteps t = orRefused (called split t) (λ lines. headed 1 false lines ++ sho
 unfoldable pub translatedLine : Bytes → Bytes
 translatedLine t = line (ascii "translated: " ++ t)
 
-unfoldable pub shown : Bytes → Bytes
-shown text = orRefused (called translate text) (λ t. translatedLine t ++ shownSteps t)
+-- (`steps` reads a definition as the crate does, `steps --proj` as PROJ does)
+unfoldable pub shown : Reading → Bytes → Bytes
+shown r text = orRefused (called translate text) (λ t. translatedLine t ++ shownSteps r t)

@@ -21,7 +21,7 @@ pub record Description : Type 0 where
   pub name : String
   -- the arguments that a preparation gives it
   pub isArgs : List ℤ → Bool
-  -- does `inv` turn it?
+  -- does `inv` turn it, in the crate's reading?
   pub turned : Bool
   -- what it does with its arguments, forward and inverse
   pub forward : List ℤ → Act

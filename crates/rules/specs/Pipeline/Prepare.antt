@@ -3,7 +3,7 @@ use Prim.Native.Nat.{ℕ, suc}
 use Prim.Native.String.{String}
 use mathlib.Core.Bool.{cond}
 use mathlib.Core.Option.{Option, none, some}
-use mathlib.Core.List.{List, [], _∷_}
+use mathlib.Core.List.{List, [], _∷_, map}
 use lib.ListN.{length}
 use lib.Dec.{ltb}
 use lib.IntN.{ℤ}
@@ -16,8 +16,9 @@ use Rattle.rules.specs.Text.Parameters.{Parameter, parametersOf}
 use Rattle.rules.specs.Operators.Arguments.{valueOf, isGiven}
 use Rattle.rules.specs.Operators.Descriptions.{Operator, Chosen}
 use Rattle.rules.specs.Operators.Table.{numberOf, wordingOf, nameOf}
-use Rattle.rules.specs.Pipeline.Record.{stepWith}
+use Rattle.rules.specs.Pipeline.Record.{stepWith, inReading}
 use Rattle.rules.specs.Pipeline.Keys.{kindOf, unknown, misspelt, tooLong}
+use Rattle.rules.specs.declared.Reading.{Reading}
 use Rattle.rules.specs.declared.Step.{Step}
 use Rattle.rules.specs.declared.Name.{Name}
 use Rattle.rules.specs.declared.Named.{Named}
@@ -91,6 +92,13 @@ prepareSteps place (t ∷ ts) =
 unfoldable pub prepare : Bytes → Reply (List Step)
 prepare t = andThen (splitSteps (steps t)) (prepareSteps 1)
 
+-- the call `prepare_as`: "a second reading, named PROJ, beside the crate's". The records are the same, but that each names the reading.
+unfoldable pub prepareAs : Reading → Bytes → Reply (List Step)
+prepareAs r t = andThen (prepare t) (λ l. answers (map (inReading r) l))
+
 -- what preparing promises: the answer, and the lent step table afterwards
 abbrev pub Prepares : Bytes → List Step → Prepared → List Step → Type 0
 Prepares text table result table′ = Promised prepared prepare text table result table′
+
+abbrev pub PreparesAs : Reading → Bytes → List Step → Prepared → List Step → Type 0
+PreparesAs r text table result table′ = Promised prepared (prepareAs r) text table result table′

@@ -1,4 +1,5 @@
--- Step records: one is made in one place, `stepWith`; the records that a preparation makes, by one test; and a table of them.
+-- Step records: one is made in one place, `stepWith`, and named for its reading; the records that a preparation makes, by one test; and a
+-- table of them.
 use Prim.Native.Nat.{ℕ, suc, _-_}
 use mathlib.Core.Bool.{Bool, cond, _&&_}
 use mathlib.Core.Option.{Option, none, some}
@@ -10,14 +11,27 @@ use Rattle.rules.specs.Text.Lists.{allOf}
 use Rattle.rules.specs.Operators.Arguments.{size}
 use Rattle.rules.specs.Operators.Descriptions.{Operator}
 use Rattle.rules.specs.Operators.Table.{operatorOf, isArgs, greatest}
+use Rattle.rules.specs.declared.Reading.{Reading}
+use Rattle.rules.specs.declared.Reading.the-variants.{Crate, Proj}
 use Rattle.rules.specs.declared.Step.{Step}
 use Rattle.rules.specs.declared.Table.{Table}
+
+-- ---- the two readings
+
+-- by their numbers in a record, and as a number says them: 0 the crate's, any other PROJ's
+unfoldable pub readingNumber : Reading → ℕ
+readingNumber Crate = 0
+readingNumber Proj = 1
+
+unfoldable pub readingOf : ℕ → Reading
+readingOf number = cond (eqb number 0) Crate Proj
 
 -- ---- a record
 
 -- "A step record carries up to eight arguments in place": the operator by its number, the arguments in the first of eight slots, the
--- others zero, and the marks `inv`, `omit_fwd`, `omit_inv`, each 0 or 1
+-- others zero, and the marks `inv`, `omit_fwd`, `omit_inv`, each 0 or 1. Its reading is the crate's.
 unfoldable pub stepWith : ℕ → List ℤ → ℕ → ℕ → ℕ → Step
+unfolding readingNumber
 stepWith number l inv fwd back =
     record {
       operator = number;
@@ -25,7 +39,21 @@ stepWith number l inv fwd back =
       inv = inv;
       «omit_fwd» = fwd;
       «omit_inv» = back;
+      reading = readingNumber Crate;
       args = l ++ replicate (8 - length l) (pos 0);
+    }
+
+-- "Records name their reading.": the same record in a reading
+unfoldable pub inReading : Reading → Step → Step
+inReading r s =
+    record {
+      operator = s .operator;
+      n = s .n;
+      inv = s .inv;
+      «omit_fwd» = s .«omit_fwd»;
+      «omit_inv» = s .«omit_inv»;
+      reading = readingNumber r;
+      args = s .args;
     }
 
 -- the operator, the arguments in use, and the slots that are not
@@ -56,17 +84,26 @@ made s =
     && (leb (s .inv) 1
     && (leb (s .«omit_fwd») 1
     && (leb (s .«omit_inv») 1
+    && (leb (s .reading) 1
     && (allOf (λ (x : ℤ). eqb (size x) 0) (unused s)
-    && (allOf nineDigits (args s) && isArgs (operator s) (args s)))))))
+    && (allOf nineDigits (args s) && isArgs (operator s) (args s))))))))
 
--- the first record, counted from k, that no preparation makes
-unfoldable pub firstBad : ℕ → List Step → Option ℕ
-firstBad k [] = none
-firstBad k (s ∷ l) = cond (made s) (firstBad (suc k) l) (some k)
+-- of a table: "18 at a record whose reading is not the first's", too
+unfoldable pub tableReading : List Step → ℕ
+tableReading [] = 0
+tableReading (s ∷ l) = s .reading
+
+unfoldable pub goodIn : ℕ → Step → Bool
+goodIn reading s = made s && eqb (s .reading) reading
+
+-- the first bad record, counted from k, of a table of that reading
+unfoldable pub firstBad : ℕ → ℕ → List Step → Option ℕ
+firstBad reading k [] = none
+firstBad reading k (s ∷ l) = cond (goodIn reading s) (firstBad reading (suc k) l) (some k)
 
 -- "18 is 0 for over 64 records, else the first bad record": the place of refusal 18, if it is given
 unfoldable pub refusal18 : List Step → Option ℕ
-refusal18 l = cond (ltb 64 (length l)) (some 0) (firstBad 1 l)
+refusal18 l = cond (ltb 64 (length l)) (some 0) (firstBad (tableReading l) 1 l)
 
 -- ---- a table by value
 

@@ -1,12 +1,14 @@
 -- What a step does in a direction, and which steps run, in which order.
 use Prim.Native.Nat.{ℕ, suc}
-use mathlib.Core.Bool.{Bool, cond, _&&_}
+use mathlib.Core.Bool.{Bool, true, cond, _&&_}
 use mathlib.Core.List.{List, [], _∷_, _++_}
 use lib.IntN.{ℤ}
 use Rattle.rules.specs.Operators.Acts.{Act}
 use Rattle.rules.specs.Operators.Descriptions.{Operator}
 use Rattle.rules.specs.Operators.Table.{describe, forward, inverse}
-use Rattle.rules.specs.Pipeline.Record.{operator, args, isSet}
+use Rattle.rules.specs.Pipeline.Record.{readingOf, operator, args, isSet}
+use Rattle.rules.specs.declared.Reading.{Reading}
+use Rattle.rules.specs.declared.Reading.the-variants.{Crate, Proj}
 use Rattle.rules.specs.declared.Step.{Step}
 use Rattle.rules.specs.declared.Direction.{Direction}
 use Rattle.rules.specs.declared.Direction.the-variants.{Forward, Inverse}
@@ -17,9 +19,14 @@ unfoldable pub opposite : Direction → Direction
 opposite Forward = Inverse
 opposite Inverse = Forward
 
--- "`inv` turns `axisswap` and `adapt` only: the pipeline picks the other three by name."
+-- "`inv` turns `axisswap` and `adapt` only: the pipeline picks the other three by name." In the reading named PROJ "`inv` also turns
+-- `push`, `pop` and `stack`."
+unfoldable pub turns : Reading → Operator → Bool
+turns Crate o = describe o .turned
+turns Proj o = true
+
 unfoldable pub directed : Direction → Step → Direction
-directed d s = cond (describe (operator s) .turned && isSet (s .inv)) (opposite d) d
+directed d s = cond (turns (readingOf (s .reading)) (operator s) && isSet (s .inv)) (opposite d) d
 
 unfoldable pub actOf : Direction → Operator → List ℤ → Act
 actOf Forward o l = forward o l
