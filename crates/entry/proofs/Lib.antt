@@ -1,2 +1,3 @@
--- What the walks cite of the type of a direction.
+-- What the walks cite of the types of a direction and of a reading.
 pub mod DirectionType
+pub mod ReadingType

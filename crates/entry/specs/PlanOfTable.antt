@@ -10,18 +10,19 @@ use lib.ListN.{length, take, drop, length-take}
 use lib.Seq.{take-at}
 use Rattle.rules.specs.Text.Bytes.{Bytes}
 use Rattle.rules.specs.Text.Refusal.{Reply, answers, refuses, tested, lent, outcome, prepared}
-use Rattle.rules.specs.Pipeline.Prepare.{prepare}
+use Rattle.rules.specs.Pipeline.Prepare.{prepareAs}
 use Rattle.rules.specs.declared.Prepared.{Prepared}
 use Rattle.rules.specs.declared.Prepared.the-variants as prepared-is
+use Rattle.rules.specs.declared.Reading.{Reading}
 use Rattle.rules.specs.declared.Step.{Step}
 use Rattle.rules.specs.declared.Table.{Table}
 use Rattle.prepare.specs.declared.Preparing.{Preparing}
-use Rattle.prepare.specs.Lent.{withRow, lentTo, preparing}
+use Rattle.prepare.specs.Lent.{withRow, lentTo, preparingAs}
 use Rattle.rows.specs.Row.{blanks, emptied, laid, Fits}
 use Rattle.rows.specs.LaidRow.{length-blanks, laid-none}
 use Rattle.entry.specs.declared.Plan.{Plan}
 use Rattle.entry.specs.Plans.{countOf, Plans}
-use Rattle.laws_records.specs.Made.{prepare-made, tested-answers}
+use Rattle.laws_records.specs.Made.{prepare-as-made, tested-answers}
 
 -- the plan that is made of what the call by value leaves
 unfoldable pub planOf : Preparing → Plan
@@ -77,20 +78,20 @@ brought (answers xs) few row = go (ltb (length front) (length xs)) refl
         (writes row xs (drop (length xs) front ++ drop (length row) blanks) small (omega (arith, size, ltb-false (length front) (length xs) e)))
 
 -- the plan keeps what preparing promises
-pub plans : (text : Bytes) (room : ℕ) {p : Plan} → p ≡ planOf (preparing text (emptied room)) → Plans text room p
-unfolding preparing outcome
-plans text room {p} e =
+pub plans : (r : Reading) (text : Bytes) (room : ℕ) {p : Plan} → p ≡ planOf (preparingAs r text (emptied room)) → Plans r text room p
+unfolding preparingAs outcome
+plans r text room {p} e =
     record { fits = λ row l. brings row l .fits; keeps = λ row l. record { exactly = brings row l .keeps } }
   where
-    brings : (row : List Step) → length row ≡ room → Brings (tested prepare text) row p
+    brings : (row : List Step) → length row ≡ room → Brings (tested (prepareAs r) text) row p
     brings row l =
-        subst (Brings (tested prepare text) row) (ap (λ (n : ℕ). planOf (preparing text (emptied n))) l ∙ sym e)
-        (brought (tested prepare text) (λ xs h. prepare-made text xs (tested-answers text xs h) .1) row)
+        subst (Brings (tested (prepareAs r) text) row) (ap (λ (n : ℕ). planOf (preparingAs r text (emptied n))) l ∙ sym e)
+        (brought (tested (prepareAs r) text) (λ xs h. prepare-as-made r text xs (tested-answers (prepareAs r) text xs h) .1) row)
 
 -- the same, from what the callees promise
-pub planned-by : (text : Bytes) (room : ℕ) {t : Table} {q : Preparing} {n : ℕ} → t ≡ emptied room → q ≡ preparing text t → n ≡ countOf (q .answer)
-    → Plans text room (record { answer = q .answer; steps = q .table .steps; n = n })
+pub planned-by : (r : Reading) (text : Bytes) (room : ℕ) {t : Table} {q : Preparing} {n : ℕ} → t ≡ emptied room → q ≡ preparingAs r text t → n ≡ countOf (q .answer)
+    → Plans r text room (record { answer = q .answer; steps = q .table .steps; n = n })
 unfolding planOf
-planned-by text room {t} {q} e f g =
-    plans text room
-    ((λ i. record { answer = q .answer; steps = q .table .steps; n = g i }) ∙ ap planOf (f ∙ ap (preparing text) e))
+planned-by r text room {t} {q} e f g =
+    plans r text room
+    ((λ i. record { answer = q .answer; steps = q .table .steps; n = g i }) ∙ ap planOf (f ∙ ap (preparingAs r text) e))

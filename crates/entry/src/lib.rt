@@ -4,9 +4,10 @@ use rules::Direction;
 use rules::Foretold;
 use rules::Prepared;
 use rules::Ran;
+use rules::Reading;
 use rules::Step;
 ghost use mathlib.Core.Path.{_≡_};
-ghost use Rattle.rules.specs.Pipeline.Prepare.{Prepares};
+ghost use Rattle.rules.specs.Pipeline.Prepare.{Prepares, PreparesAs};
 ghost use Rattle.rules.specs.Pipeline.Check.{Checks};
 ghost use Rattle.rules.specs.Pipeline.Run.{Runs};
 ghost use Rattle.entry.specs.Plans.{countOf, Plans};
@@ -28,11 +29,11 @@ fn count_of(answer: Prepared) -> usize
     }
 }
 
-// Prepares text for a row of so many records.
-fn planned(text: &[u8], lent: usize) -> Plan
-    ensures { λ r. ⌜ Plans (now (text .entry)) lent r ⌝ }
+// Prepares text in a reading for a row of so many records.
+fn planned(text: &[u8], reading: Reading, lent: usize) -> Plan
+    ensures { λ r. ⌜ Plans reading (now (text .entry)) lent r ⌝ }
 {
-    let p = prepare::prepare(text, rows::empty(lent));
+    let p = prepare::prepare_as(text, reading, rows::empty(lent));
     let answer = p.answer;
     let table = p.table;
     let steps = table.steps;
@@ -43,13 +44,20 @@ fn planned(text: &[u8], lent: usize) -> Plan
     }
 }
 
-// Makes step records of a definition, from the first of the lent row on.
+// Makes step records of a definition in a reading, from the first of the lent row on.
+pub fn prepare_as(text: &[u8], reading: Reading, table: &mut [Step]) -> Prepared
+    ensures { λ r. ⌜ PreparesAs reading (now (text .entry)) (now (table .entry)) r (now (table .exit)) ⌝ }
+{
+    let p = planned(text, reading, table.len());
+    rows::store(table, p.steps, p.n);
+    p.answer
+}
+
+// The same in the crate's reading.
 pub fn prepare(text: &[u8], table: &mut [Step]) -> Prepared
     ensures { λ r. ⌜ Prepares (now (text .entry)) (now (table .entry)) r (now (table .exit)) ⌝ }
 {
-    let p = planned(text, table.len());
-    rows::store(table, p.steps, p.n);
-    p.answer
+    prepare_as(text, Reading::Crate, table)
 }
 
 // Says of a step table and a direction, without any data, what a run will do.

@@ -9,8 +9,8 @@ use columns::zero_rest;
 use pushpop::pop;
 use pushpop::push;
 use record::act_of;
+use record::good_in;
 use record::is_omitted;
-use record::made;
 use record::visited_of;
 use rules::Direction;
 use rules::Ran;
@@ -135,12 +135,14 @@ pub fn run(table: Table, direction: Direction, tuples: &mut [f64], columns: &mut
             place: 0,
         };
     }
-    // 18: the first record that no preparation makes
+    // 18: the first record that no preparation makes, or whose reading is not the first's
+    let first = steps[0];
+    let reading = first.reading;
     let mut i = 0;
     while i < n {
         let s = steps[i];
         i += 1;
-        if !made(s) {
+        if !good_in(s, reading) {
             return Ran::Refused {
                 number: 18,
                 place: i,

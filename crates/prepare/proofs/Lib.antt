@@ -8,6 +8,7 @@ pub mod LowestFault
 pub mod OneAction
 pub mod OwnRules
 pub mod PointDecimal
+pub mod InReading
 pub mod Promise
 pub mod Recorded
 pub mod SeriesPieces

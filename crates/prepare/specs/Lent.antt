@@ -7,9 +7,11 @@ use lib.Dec.{eqb, ltb}
 use Rattle.rules.specs.Text.Bytes.{Bytes}
 use Rattle.rules.specs.Text.Refusal.{Reply, andThen, tested, lent, prepared}
 use Rattle.rules.specs.Text.Split.{stepsOf, splitSteps, stepText}
-use Rattle.rules.specs.Pipeline.Prepare.{prepareSteps, prepare}
+use Rattle.rules.specs.Pipeline.Record.{inReading}
+use Rattle.rules.specs.Pipeline.Prepare.{prepareSteps, prepare, prepareAs}
 use Rattle.rules.specs.declared.Prepared.{Prepared}
 use Rattle.rules.specs.declared.Prepared.the-variants as prepared-is
+use Rattle.rules.specs.declared.Reading.{Reading}
 use Rattle.rules.specs.declared.Step.{Step}
 use Rattle.rules.specs.declared.Table.{Table}
 use Rattle.prepare.specs.declared.Preparing.{Preparing}
@@ -31,6 +33,21 @@ lentTo reply t = withRow t (lent prepared reply (row t))
 -- The call `prepare`, by the promise of `rules` on the records lent.
 unfoldable pub preparing : Bytes → Table → Preparing
 preparing text t = lentTo (tested prepare text) t
+
+-- The call `prepare_as`, alike.
+unfoldable pub preparingAs : Reading → Bytes → Table → Preparing
+preparingAs r text t = lentTo (tested (prepareAs r) text) t
+
+-- ---- in a reading
+
+-- the first n records in it, and the others as they are
+unfoldable pub firstNamed : Reading → ℕ → List Step → List Step
+firstNamed r n steps = map (inReading r) (take n steps) ++ drop n steps
+
+-- those that an answer counts
+unfoldable pub answerNamed : Reading → Prepared → Table → Preparing
+answerNamed r (prepared-is.Steps n) t = record { answer = prepared-is.Steps n; table = record { steps = firstNamed r n (t .steps); n = t .n } }
+answerNamed r (prepared-is.Refused number place) t = record { answer = prepared-is.Refused number place; table = t }
 
 -- ---- a normalised text
 

@@ -10,8 +10,10 @@ mod values;
 use crate::judge::prepare_step;
 use normalise::clean_into;
 use reader::next_from;
+use record::in_reading;
 use rules::Found;
 use rules::Prepared;
+use rules::Reading;
 use rules::Step;
 use rules::Table;
 use split::Line;
@@ -23,7 +25,7 @@ ghost use Prim.Native.Nat.{_+_, _*_, _<_, _≤_, min};
 ghost use lib.ListN.{length};
 ghost use Rattle.rules.specs.Text.Bytes.{inDomain};
 ghost use Rattle.prepare.specs.StepReply.{Bare, Roomy};
-ghost use Rattle.prepare.specs.Lent.{normalReply, lentTo, preparing, refusing, answered};
+ghost use Rattle.prepare.specs.Lent.{normalReply, lentTo, preparing, preparingAs, refusing, answered, firstNamed};
 
 // A text of so few bytes, ten times as long, has room in 1,024, in 4,096, or in 16,384, and one to spare.
 const FEW: usize = 102;
@@ -190,7 +192,7 @@ fn long(text: &[u8], table: Table) -> Preparing
     answer(text, table, &mut a, &mut b, &mut c, &mut d)
 }
 
-// Prepares text into the table's records from the first on. It refuses 1, 2, 6 and 8 as splitting does, then the first faulty
+// Prepares text into the table's records from the first on, in the crate's reading. It refuses 1, 2, 6 and 8 as splitting does, then the first faulty
 // step by its lowest number of 1, 6, 9 to 14, then 7; and then the table is as it was.
 pub fn prepare(text: &[u8], table: Table) -> Preparing
     ensures { λ r. ⌜ r ≡ preparing (now (text .entry)) table ⌝ }
@@ -209,4 +211,41 @@ pub fn prepare(text: &[u8], table: Table) -> Preparing
         return longer(text, table);
     }
     long(text, table)
+}
+
+// The first n of 64 records in a reading, and the others as they are.
+fn named(steps: [Step; 64], n: usize, reading: Reading) -> [Step; 64]
+    requires { ⌜ n ≤ length steps ⌝ }
+    ensures { λ r. ⌜ r ≡ firstNamed reading n steps ⌝ }
+{
+    let mut l = steps;
+    let mut i = 0;
+    while i < n {
+        let s = l[i];
+        l[i] = in_reading(s, reading);
+        i += 1;
+    }
+    l
+}
+
+// The same in a reading: the records of an answer name it.
+pub fn prepare_as(text: &[u8], reading: Reading, table: Table) -> Preparing
+    ensures { λ r. ⌜ r ≡ preparingAs reading (now (text .entry)) table ⌝ }
+{
+    let p = prepare(text, table);
+    let answer = p.answer;
+    let made = p.table;
+    match answer {
+        Prepared::Steps(n) => {
+            let steps = made.steps;
+            Preparing {
+                answer: answer,
+                table: Table {
+                    steps: named(steps, n, reading),
+                    n: made.n,
+                },
+            }
+        }
+        Prepared::Refused { number, place } => refusing(number, place, made),
+    }
 }

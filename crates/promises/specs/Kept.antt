@@ -14,6 +14,7 @@ use Rattle.rules.specs.Pipeline.Run.{Outcome, runs, Runs}
 use Rattle.rules.specs.Pipeline.Running.{running}
 use Rattle.rules.specs.Pipeline.Check.{anyAdapt, check, Checks}
 use Rattle.rules.specs.ExamplesHold.{examples-hold}
+use Rattle.rules.specs.declared.Reading.the-variants.{Crate}
 use Rattle.rules.specs.declared.Step.{Step}
 use Rattle.rules.specs.declared.Direction.{Direction}
 use Rattle.rules.specs.declared.Foretold.{Foretold}
@@ -22,19 +23,22 @@ use Rattle.rules.specs.declared.Ran.the-variants.{Done}
 use Rattle.rules.specs.declared.Verdict.the-variants.{Passes}
 use Rattle.laws_text.specs.Entry.{answers-so}
 use Rattle.laws_text.specs.Once.{once, lends-once, check-once, run-once, plain-check-once, plain-run-once}
-use Rattle.laws_records.specs.Made.{table-prepared, check-never-18, run-never-18}
+use Rattle.laws_records.specs.Readings.{inv-turns}
+use Rattle.laws_records.specs.Made.{prepare-as-made, table-prepared, check-never-18, run-never-18}
+use Rattle.laws_records.specs.Exact.{prepare-is-crates, crates-prepare, made-exactly}
+use Rattle.laws_records.specs.ReadBack.{written-returns, not-18-exactly}
 use Rattle.laws_records.specs.Ieee.{turn-mul}
 use Rattle.laws_steps.specs.Foretold.{told-exactly, foretells}
 use Rattle.laws_steps.specs.Exactly.{passes-exactly, few-exactly, many-exactly, refused-exactly}
 use Rattle.laws_steps.specs.Runs.{answered, accepts, as-foretold, as-many}
 use Rattle.laws_steps.specs.OwnNumbers.{is-named, own-number}
 use Rattle.laws_steps.specs.Bits.{has-bits, alike}
-use Rattle.laws_steps.specs.Ending.{normalise-ends, split-ends, parameters-ends, translate-ends, write-ends, prepare-ends, check-ends, run-ends, next-ends}
-use Rattle.laws_steps.specs.Exported.{behind-normalise, behind-split, behind-parameters, behind-translate, behind-next, behind-prepare, behind-pass, behind-run}
+use Rattle.laws_steps.specs.Ending.{normalise-ends, split-ends, parameters-ends, translate-ends, write-ends, prepare-ends, prepare-as-ends, check-ends, run-ends, next-ends}
+use Rattle.laws_steps.specs.Exported.{behind-normalise, behind-split, behind-parameters, behind-translate, behind-next, behind-prepare, behind-prepare-as, behind-pass, behind-run}
 use Rattle.sakondreno.proofs as code
 use Rattle.reader.proofs as reading
 use Rattle.show.proofs as program
-use Rattle.promises.specs.Promises.{Calls, Demand1, Demand2, AsForetold, FromThePlacesNamed, Demand3, Exports, Promises}
+use Rattle.promises.specs.Promises.{Calls, Demand1, Demand2, AsForetold, FromThePlacesNamed, Demand3, Readings, Exports, Promises}
 
 pub calls : (w : World) → Calls w
 calls w = record {
@@ -43,6 +47,7 @@ calls w = record {
   parameters-keeps = code.parameters.Met.met (w .𝓤) (w .H) (w .𝓜) (w .𝓖) (w .𝓡);
   translate-keeps = code.translate.Met.met (w .𝓤) (w .H) (w .𝓜) (w .𝓖) (w .𝓡);
   prepare-keeps = code.prepare.Met.met (w .𝓤) (w .H) (w .𝓜) (w .𝓖) (w .𝓡);
+  prepare-as-keeps = code.prepare_as.Met.met (w .𝓤) (w .H) (w .𝓜) (w .𝓖) (w .𝓡);
   check-keeps = code.check.Met.met (w .𝓤) (w .H) (w .𝓜) (w .𝓖) (w .𝓡);
   run-keeps = code.run.Met.met (w .𝓤) (w .H) (w .𝓜) (w .𝓖) (w .𝓡);
   next-keeps = reading.Reader.next.Met.met (w .𝓤) (w .H) (w .𝓜) (w .𝓖) (w .𝓡);
@@ -55,6 +60,7 @@ calls w = record {
   sakondreno-translate-keeps = code.sakondreno_translate.Met.met (w .𝓤) (w .H) (w .𝓜) (w .𝓖) (w .𝓡);
   sakondreno-next-keeps = code.sakondreno_next.Met.met (w .𝓤) (w .H) (w .𝓜) (w .𝓖) (w .𝓡);
   sakondreno-prepare-keeps = code.sakondreno_prepare.Met.met (w .𝓤) (w .H) (w .𝓜) (w .𝓖) (w .𝓡);
+  sakondreno-prepare-as-keeps = code.sakondreno_prepare_as.Met.met (w .𝓤) (w .H) (w .𝓜) (w .𝓖) (w .𝓡);
   sakondreno-check-keeps = code.sakondreno_check.Met.met (w .𝓤) (w .H) (w .𝓜) (w .𝓖) (w .𝓡);
   sakondreno-run-keeps = code.sakondreno_run.Met.met (w .𝓤) (w .H) (w .𝓜) (w .𝓖) (w .𝓡);
   steps-prints = program.show.Met.met (w .𝓤) (w .H) (w .𝓜) (w .𝓖) (w .𝓡);
@@ -68,6 +74,7 @@ demand1 = record {
   translate-ends = translate-ends;
   write-ends = write-ends;
   prepare-ends = prepare-ends;
+  prepare-as-ends = prepare-as-ends;
   check-ends = check-ends;
   run-ends = run-ends;
   next-ends = next-ends;
@@ -93,7 +100,7 @@ turned false x h = turn-mul binary64 false x h
 pub demand2 : Demand2
 demand2 = record {
   text-answer = λ p. answers-so p .answer;
-  records-answer = table-prepared;
+  records-answer = λ p. sym (prepare-is-crates _) ∙ table-prepared Crate (crates-prepare .1 p);
   run-answer = λ ran. let a = answered _ _ _ _ _ _ (ran-answer ran) in (ran-list ran ∙ a .list-after, a .counted, a .columns-left);
   sign-is-product = turned;
   examples-hold = examples-hold;
@@ -133,8 +140,8 @@ module _ {d : Direction} {t : List Step} {f : Foretold} (checks : Checks d t f) 
 
 pub demand3 : Demand3
 demand3 = record {
-  check-takes-what-is-prepared = λ k p checks h. check-never-18 _ _ (table-prepared p) _ 18 k (rw (checks .exactly) at h);
-  run-takes-what-is-prepared = λ k p ran. run-never-18 _ _ (table-prepared p) _ _ _ k (ran-answer ran);
+  check-takes-what-is-prepared = λ how k p checks h. check-never-18 how _ _ (table-prepared how p) _ 18 k (rw (checks .exactly) at h);
+  run-takes-what-is-prepared = λ how k p ran. run-never-18 how _ _ (table-prepared how p) _ _ _ k (ran-answer ran);
   passes-exactly-when = λ checks xs. rw (checks .exactly) (passes-exactly _ _ xs);
   too-few-exactly-when = λ checks xs k. rw (checks .exactly) (few-exactly _ _ xs k);
   too-many-exactly-when = λ checks xs k. rw (checks .exactly) (many-exactly _ _ xs k);
@@ -145,6 +152,16 @@ demand3 = record {
   has-bits = has-bits;
 }
 
+pub readings : Readings
+readings = record {
+  prepare-is-the-crates = crates-prepare;
+  records-answer-as = λ how p. let e = table-prepared how p in (e, prepare-as-made how _ _ e .2);
+  inv-turns-every-operator = inv-turns;
+  refused-18-unless-prepared = not-18-exactly;
+  made-exactly = made-exactly;
+  written-returns = written-returns;
+}
+
 pub exports : Exports
 exports = record {
   normalise-export = behind-normalise;
@@ -153,6 +170,7 @@ exports = record {
   translate-export = behind-translate;
   next-export = behind-next;
   prepare-export = behind-prepare;
+  prepare-as-export = behind-prepare-as;
   check-export = λ p. (check _ _, record { exactly = refl }, p .exactly, behind-pass _ _ _ p);
   run-export = behind-run;
   next-export-once = λ text at p q. p ∙ sym q;
@@ -161,4 +179,4 @@ exports = record {
 }
 
 pub kept : (w : World) → Promises w
-kept w = record { calls = calls w; demand1 = demand1; demand2 = demand2; demand3 = demand3; exports = exports }
+kept w = record { calls = calls w; demand1 = demand1; demand2 = demand2; demand3 = demand3; readings = readings; exports = exports }

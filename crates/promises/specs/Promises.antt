@@ -3,11 +3,12 @@
 use mathlib.Core.Path.{_≡_}
 use mathlib.Core.Logic.{_↔_}
 use Prim.Native.Nat.{ℕ, _*_, _/_, _%_, _≤_, _<_}
-use mathlib.Core.Bool.{Bool, false, not}
+use mathlib.Core.Bool.{Bool, true, false, not}
 use mathlib.Core.Option.{none, some}
-use mathlib.Core.List.{List, [], _∷_}
+use mathlib.Core.List.{List, [], _∷_, _++_}
 use lib.Dec.{T}
-use lib.ListN.{length, take}
+use lib.ListN.{length, take, drop}
+use lib.IntN.{ℤ}
 use lib.Ieee.{Float, binary64, mul, fits, toBits}
 use borrow.Fn.World.{World}
 use denote.Ref.{now}
@@ -18,9 +19,9 @@ use Rattle.rules.specs.Text.Split.{split}
 use Rattle.rules.specs.Text.Parameters.{parameters}
 use Rattle.rules.specs.Proj.Translate.{translate}
 use Rattle.rules.specs.Text.Reader.{next}
-use Rattle.rules.specs.Pipeline.Prepare.{prepare, Prepares}
-use Rattle.rules.specs.Pipeline.Record.{refusal18, listed}
-use Rattle.rules.specs.Pipeline.Running.{running}
+use Rattle.rules.specs.Pipeline.Prepare.{prepare, prepareAs, Prepares, PreparesAs}
+use Rattle.rules.specs.Pipeline.Record.{readingNumber, readingOf, stepWith, inReading, made, tableReading, refusal18, listed}
+use Rattle.rules.specs.Pipeline.Running.{opposite, act, running}
 use Rattle.rules.specs.Operators.Numbers.{turn}
 use Rattle.rules.specs.Operators.Adapt.{one}
 use Rattle.rules.specs.Pipeline.Columns.{after, depths, deepest}
@@ -29,7 +30,9 @@ use Rattle.rules.specs.Pipeline.Run.{start, count, Runs}
 use Rattle.rules.specs.Pipeline.Check.{place, anyAdapt, Checks}
 use Rattle.rules.specs.Pipeline.Write.{write}
 use Rattle.rules.specs.Face.Plain.{plainPrepared, replied, recordCount, plainFound, directionOf, plainCheck, PlainChecks, plainRan, PlainRuns}
-use Rattle.rules.specs.Examples.{examples, also, printed, rewritten, demanded, AllHold}
+use Rattle.rules.specs.Examples.{examples, also, printed, rewritten, readings, demanded, AllHold}
+use Rattle.rules.specs.declared.Reading.{Reading}
+use Rattle.rules.specs.declared.Reading.the-variants.{Crate, Proj}
 use Rattle.rules.specs.declared.Step.{Step}
 use Rattle.rules.specs.declared.Direction.{Direction}
 use Rattle.rules.specs.declared.Written.{Written}
@@ -48,6 +51,10 @@ use Rattle.rules.specs.declared.Checked.{Checked}
 use Rattle.rules.specs.declared.Done as plain-run
 use Rattle.rules.specs.Face.Contract.{Keeps, KeepsIf}
 use Rattle.rules.specs.Face.Shown.{shown}
+use Rattle.laws_lists.specs.Lists.{Every}
+use Rattle.laws_records.specs.Readings.{InIt}
+use Rattle.laws_records.specs.Faithful.{Slots}
+use Rattle.laws_records.specs.Exact.{Texted}
 use Rattle.sakondreno.proofs as calls
 use Rattle.reader.proofs as reading
 use Rattle.show.proofs as program
@@ -68,6 +75,8 @@ pub record Calls (w : World) : Type 1 where
       (λ l before r after. Writes translate (now (before .0)) (now (before .1 .0)) r (now (after .1 .0)))
   pub prepare-keeps : Keeps w calls.prepare.ended calls.prepare.Symbol.routine
       (λ l before r after. Prepares (now (before .0)) (now (before .1 .0)) r (now (after .1 .0)))
+  pub prepare-as-keeps : Keeps w calls.prepare_as.ended calls.prepare_as.Symbol.routine
+      (λ l before r after. PreparesAs (before .1 .0) (now (before .0)) (now (before .1 .1 .0)) r (now (after .1 .1 .0)))
   pub check-keeps : Keeps w calls.check.ended calls.check.Symbol.routine
       (λ l before r after. Checks (before .1 .0) (now (before .0)) r)
   pub run-keeps : Keeps w calls.run.ended calls.run.Symbol.routine
@@ -93,14 +102,17 @@ pub record Calls (w : World) : Type 1 where
       (λ l before r after. r ≡ plainFound (next (now (before .0)) (before .1 .0)))
   pub sakondreno-prepare-keeps : Keeps w calls.sakondreno_prepare.ended calls.sakondreno_prepare.Symbol.routine
       (λ l before r after. Promised recordCount prepare (now (before .0)) (now (before .1 .0)) r (now (after .1 .0)))
+  pub sakondreno-prepare-as-keeps : Keeps w calls.sakondreno_prepare_as.ended calls.sakondreno_prepare_as.Symbol.routine
+      (λ l before r after. Promised recordCount (prepareAs (readingOf (before .1 .0))) (now (before .0)) (now (before .1 .1 .0)) r (now (after .1 .1 .0)))
   pub sakondreno-check-keeps : Keeps w calls.sakondreno_check.ended calls.sakondreno_check.Symbol.routine
       (λ l before r after. PlainChecks (before .1 .0) (now (before .0)) r)
   pub sakondreno-run-keeps : Keeps w calls.sakondreno_run.ended calls.sakondreno_run.Symbol.routine
       (λ l before r after. PlainRuns (before .1 .0) (now (before .0)) (now (before .1 .1 .0)) (now (before .1 .1 .1 .0)) r (now (after .1 .1 .0)) (now (after .1 .1 .1 .0)))
-  -- The program `steps` prints `shown text` of what it reads: this is the function that it prints by, lent buffers of these lengths.
+  -- The program `steps` prints `shown reading text` of what it reads, in the reading that it is asked for: this is the function that it prints by, lent
+  -- buffers of these lengths.
   pub steps-prints : KeepsIf w program.show.ended program.show.Symbol.routine
-      (λ l before. (length (now (before .1 .0)) ≡ 65536) ∷ (length (now (before .1 .1 .0)) ≡ 65536) ∷ (139264 ≤ length (now (before .1 .1 .1 .0))) ∷ [])
-      (λ l before r after. Wrote (shown (now (before .0))) (now (before .1 .1 .1 .0)) r (now (after .1 .1 .1 .0)))
+      (λ l before. (length (now (before .1 .1 .0)) ≡ 65536) ∷ (length (now (before .1 .1 .1 .0)) ≡ 65536) ∷ (139264 ≤ length (now (before .1 .1 .1 .1 .0))) ∷ [])
+      (λ l before r after. Wrote (shown (before .1 .0) (now (before .0))) (now (before .1 .1 .1 .1 .0)) r (now (after .1 .1 .1 .1 .0)))
 
 -- ==== Demand 1. "It answers, or refuses with a number from the documents' tables, and a refused call alters nothing it was lent."
 
@@ -119,6 +131,8 @@ pub record Demand1 : Type 1 where
   -- the calls on step tables, and the reader
   pub prepare-ends : {text : Bytes} {table : List Step} {r : Prepared} {table′ : List Step} → Prepares text table r table′
       → Ends prepared-is.Steps prepared-is.Refused (1 ∷ 2 ∷ 6 ∷ 7 ∷ 8 ∷ 9 ∷ 10 ∷ 11 ∷ 12 ∷ 13 ∷ 14 ∷ []) table r table′
+  pub prepare-as-ends : (how : Reading) {text : Bytes} {table : List Step} {r : Prepared} {table′ : List Step} → PreparesAs how text table r table′
+      → Ends prepared-is.Steps prepared-is.Refused (1 ∷ 2 ∷ 6 ∷ 7 ∷ 8 ∷ 9 ∷ 10 ∷ 11 ∷ 12 ∷ 13 ∷ 14 ∷ []) table r table′
   pub check-ends : {d : Direction} {t : List Step} {f : Foretold} → Checks d t f → CheckEnds f
   pub run-ends : {d : Direction} {t : List Step} {xs store : List Float} {r : Ran} {xs′ store′ : List Float} → Runs d t xs store r xs′ store′
       → RunEnds (15 ∷ 16 ∷ 17 ∷ 18 ∷ []) (deepest (depths acted (running d t) (start xs)) * (length xs / 4)) xs store r xs′ store′
@@ -135,7 +149,7 @@ pub record Demand1 : Type 1 where
 
 -- ==== Demand 2. "Within document 01's domain, normalised text, steps, parameters, PROJ translation, transformed tuples and success count equal the
 -- Rust's, bit for bit .. Each is also proved against definitions". What is proved: a call's answer is the written rule's, and by demand 1 no other. That
--- the written rules are the Rust's is tested, on ten million inputs: docs/DIFFERENCES.md.
+-- the written rules are the Rust's is tested, on ten million inputs: docs/DIFFERENCES.md. This is a statement about the crate's reading.
 
 pub record Demand2 : Type 0 where
   -- the bytes that a text call answers, and the records that preparing answers, are those of its rule
@@ -146,8 +160,8 @@ pub record Demand2 : Type 0 where
       → let end = after acted (running d t) (start xs) in (xs′ ≡ numbers (end .tuples)) × (c ≡ count (running d t) (start xs)) × (n ≡ length (end .columns))
   -- a sign that is turned or kept is the Rust's product with -1 or 1, for every f64 (IEEE 754 as the kit defines it)
   pub sign-is-product : (minus : Bool) (x : Float) → T (fits binary64 x) → turn minus x ≡ mul binary64 x (turn minus one)
-  -- and document 01's examples are so
-  pub examples-hold : AllHold examples × AllHold also × AllHold printed × AllHold rewritten × AllHold demanded
+  -- and the documents' examples are so
+  pub examples-hold : AllHold examples × AllHold also × AllHold printed × AllHold rewritten × AllHold readings × AllHold demanded
 
 -- ==== Demand 3. "A check reads a prepared pipeline and a direction, never the data."
 
@@ -166,12 +180,13 @@ pub record FromThePlacesNamed (f : Foretold) (xs xs′ : List Float) : Type 0 wh
   pub bit-for-bit : (j : ℕ) → 1 ≤ j → j ≤ 4 → (i : ℕ) → i < length xs / 4
       → (p q : ℕ) → Bits p (numberAt xs i (place j (f .places) .axis)) → Bits q (numberAt xs′ i j) → Alike (place j (f .places) .minus) p q
 
+-- (A record names its reading, and a step does what it does in that reading: so each of these speaks of tables of either, `running d t` of both.)
 pub record Demand3 : Type 0 where
-  -- Whatever preparing leaves is never refused 18, by a check or by a run.
-  pub check-takes-what-is-prepared : {text : Bytes} {table table′ : List Step} {n : ℕ} {d : Direction} {f : Foretold} (k : ℕ)
-      → Prepares text table (prepared-is.Steps n) table′ → Checks d (take n table′) f → f .verdict ≡ Refused 18 k → ⊥
-  pub run-takes-what-is-prepared : {text : Bytes} {table table′ : List Step} {n : ℕ} {d : Direction} {xs store xs′ store′ : List Float} (k : ℕ)
-      → Prepares text table (prepared-is.Steps n) table′ → Runs d (take n table′) xs store (ran-is.Refused 18 k) xs′ store′ → ⊥
+  -- Whatever preparing leaves, in either reading, is never refused 18, by a check or by a run.
+  pub check-takes-what-is-prepared : (how : Reading) {text : Bytes} {table table′ : List Step} {n : ℕ} {d : Direction} {f : Foretold} (k : ℕ)
+      → PreparesAs how text table (prepared-is.Steps n) table′ → Checks d (take n table′) f → f .verdict ≡ Refused 18 k → ⊥
+  pub run-takes-what-is-prepared : (how : Reading) {text : Bytes} {table table′ : List Step} {n : ℕ} {d : Direction} {xs store xs′ store′ : List Float} (k : ℕ)
+      → PreparesAs how text table (prepared-is.Steps n) table′ → Runs d (take n table′) xs store (ran-is.Refused 18 k) xs′ store′ → ⊥
   -- "It passes exactly when no step finds fewer columns than it takes and the depth never exceeds 64": no record is bad, and so it is of every step that
   -- runs, on any one list or on all;
   pub passes-exactly-when : {d : Direction} {t : List Step} {f : Foretold} → Checks d t f → (xs : List Float)
@@ -181,7 +196,7 @@ pub record Demand3 : Type 0 where
       → (f .verdict ≡ TooFew k) ↔ ((refusal18 t ≡ none) × FirstAtFault (Few xs) k (running d t) xs)
   pub too-many-exactly-when : {d : Direction} {t : List Step} {f : Foretold} → Checks d t f → (xs : List Float) (k : ℕ)
       → (f .verdict ≡ TooMany k) ↔ ((refusal18 t ≡ none) × FirstAtFault (Many xs) k (running d t) xs)
-  -- (or the first record that no preparation makes)
+  -- (or the first record that no preparation in the first's reading makes)
   pub refused-exactly-when : {d : Direction} {t : List Step} {f : Foretold} → Checks d t f → (number k : ℕ)
       → (f .verdict ≡ Refused number k) ↔ ((number ≡ 18) × (refusal18 t ≡ some k))
   -- "on every list the run accepts": after a pass that is every list of whole tuples, 65,536 at most, with a store for the deepest
@@ -196,6 +211,26 @@ pub record Demand3 : Type 0 where
   -- (every f64 has such bits)
   pub has-bits : (x : Float) → T (fits binary64 x) → Bits (toBits binary64 x) x
 
+-- ==== Document 02, request 1. "Give preparation a second reading, named PROJ, beside the crate's: in it `inv` also turns `push`, `pop` and `stack`."
+
+pub record Readings : Type 0 where
+  -- `prepare` is the case of `prepare_as` for the crate's reading
+  pub prepare-is-the-crates : {text : Bytes} {table : List Step} {r : Prepared} {table′ : List Step} → PreparesAs Crate text table r table′ ↔ Prepares text table r table′
+  -- the records that preparing answers are those of its rule, in either reading, and "Records name their reading."
+  pub records-answer-as : (how : Reading) {text : Bytes} {table : List Step} {n : ℕ} {table′ : List Step} → PreparesAs how text table (prepared-is.Steps n) table′
+      → (prepareAs how text ≡ answers (take n table′)) × Every (InIt (readingNumber how)) (take n table′)
+  -- "`inv` also turns `push`, `pop` and `stack`": whatever the operator, a step with `inv` does what the step without it does in the other direction
+  pub inv-turns-every-operator : (d : Direction) (number : ℕ) (l : List ℤ) (fwd back : ℕ)
+      → act d (inReading Proj (stepWith number l 1 fwd back)) ≡ act (opposite d) (inReading Proj (stepWith number l 0 fwd back))
+  -- "18 at a record whose reading is not the first's": a table (of records with eight slots, as all are) is not refused 18 exactly when some text prepares to it
+  pub refused-18-unless-prepared : (t : List Step) → Every Slots t → (refusal18 t ≡ none) ↔ ((how : Reading) × Texted how t)
+  -- a record alone, in its own reading
+  pub made-exactly : (s : Step) → Slots s → (made s ≡ true) ↔ Texted (readingOf (s .reading)) (s ∷ [])
+  -- what `write` answered of a table gives the table back, prepared in its reading
+  pub written-returns : (t : List Step) → Every Slots t → {out : Bytes} {n : ℕ} {out′ : Bytes} → Lends (write t) out (written-is.Wrote n) out′
+      → (table : List Step) → length t ≤ length table → {r : Prepared} {table′ : List Step} → PreparesAs (readingOf (tableReading t)) (take n out′) table r table′
+      → (r ≡ prepared-is.Steps (length t)) × (table′ ≡ t ++ drop (length t) table)
+
 -- ==== From C and from Rust: behind each answer of an export there is one of the call that it exports, with the same storage afterwards, so all of the above
 -- holds there too. Number 0 is an answer, a pass, or a run that is done; and a reader that finds nothing is at the end.
 
@@ -208,6 +243,8 @@ pub record Exports : Type 0 where
       → (f : Found) × (f ≡ next text at) × (r ≡ plainFound f) × (r .found ≡ 0 → f ≡ End)
   pub prepare-export : {text : Bytes} {table : List Step} {r : Answer} {table′ : List Step} → Promised recordCount prepare text table r table′
       → (w : Prepared) × Prepares text table w table′ × (r ≡ plainPrepared w) × (r .number ≡ 0 → w ≡ prepared-is.Steps (r .length))
+  pub prepare-as-export : (how : Reading) {text : Bytes} {table : List Step} {r : Answer} {table′ : List Step} → Promised recordCount (prepareAs how) text table r table′
+      → (w : Prepared) × PreparesAs how text table w table′ × (r ≡ plainPrepared w) × (r .number ≡ 0 → w ≡ prepared-is.Steps (r .length))
   pub check-export : {inverse : ℕ} {t : List Step} {r : Checked} → PlainChecks inverse t r
       → (f : Foretold) × Checks (directionOf inverse) t f × (r ≡ plainCheck f) × (r .said .number ≡ 0 → f .verdict ≡ Passes)
   pub run-export : {inverse : ℕ} {t : List Step} {xs store : List Float} {r : plain-run.Done} {xs′ store′ : List Float} → PlainRuns inverse t xs store r xs′ store′
@@ -225,4 +262,5 @@ pub record Promises (w : World) : Type 1 where
   pub demand1 : Demand1
   pub demand2 : Demand2
   pub demand3 : Demand3
+  pub readings : Readings
   pub exports : Exports

@@ -1,20 +1,28 @@
--- The act of a record in a direction, by its operator's number: `inv` turns two of them.
+-- The act of a record in a direction, by its operator's number: in the crate's reading `inv` turns two of them.
 use mathlib.Core.Path.{_≡_, refl, sym, ap, _∙_}
-use Prim.Native.Nat.{ℕ, zero, suc, _≤_}
+use Prim.Native.Nat.{ℕ, zero, suc, _≤_, _<_}
 use mathlib.Core.Bool.{Bool, true, false, cond, _&&_}
 use native.Mathlib.Omega.{arith}
+use borrow.Author.Tests.{ltb-true, ltb-false, eqb-true, eq-eqb}
+use lib.Dec.{ltb, eqb}
 use Rattle.rules.specs.Operators.Adapt.{isAdapt}
 use Rattle.rules.specs.Operators.Arguments.{isOrder}
 use Rattle.rules.specs.Operators.Descriptions.{Operator, Axisswap, Adapt}
 use Rattle.rules.specs.Operators.PushPop.{isRising}
 use Rattle.rules.specs.Operators.Table.{describe, operatorOf, isArgs}
-use Rattle.rules.specs.Pipeline.Record.{made, operator, args, isSet}
-use Rattle.rules.specs.Pipeline.Running.{opposite, directed, actOf, act}
+use Rattle.rules.specs.Pipeline.Record.{readingOf, made, operator, args, isSet}
+use Rattle.rules.specs.Pipeline.Running.{opposite, turns, directed, actOf, act}
 use Rattle.rules.specs.declared.Direction.{Direction}
 use Rattle.rules.specs.declared.Step.{Step}
+use Rattle.laws_lists.specs.Tests.{never}
 use Rattle.laws_records.specs.MadeSo.{made-so}
 use Rattle.stack.specs.Actions.{Action}
-use Rattle.record.proofs.OperatorRules.{args-flags, args-order}
+use Rattle.record.proofs.OperatorRules.{args-flags, args-order, the-last}
+
+-- the operator whose number is 9
+pub the-order : {k : ℕ} → k ≡ 9 → operatorOf k ≡ Axisswap
+unfolding operatorOf
+the-order e = rw e refl
 
 -- ---- what each operator asks of its arguments
 
@@ -37,29 +45,41 @@ module _ (s : Step) (m : made s ≡ true) where
 
 -- ---- what it does
 
-none-turned : (k : ℕ) → k ≤ 8 → describe (operatorOf k) .turned ≡ false
-unfolding operatorOf
-none-turned zero h = refl
-none-turned (suc zero) h = refl
-none-turned (suc (suc zero)) h = refl
-none-turned (suc (suc (suc zero))) h = refl
-none-turned (suc (suc (suc (suc zero)))) h = refl
-none-turned (suc (suc (suc (suc (suc zero))))) h = refl
-none-turned (suc (suc (suc (suc (suc (suc zero)))))) h = refl
-none-turned (suc (suc (suc (suc (suc (suc (suc zero))))))) h = refl
-none-turned (suc (suc (suc (suc (suc (suc (suc (suc zero)))))))) h = refl
-none-turned (suc (suc (suc (suc (suc (suc (suc (suc (suc k))))))))) h = absurd (omega (arith, h))
+-- the operators whose direction `inv` turns in the crate's reading: those behind the stack's
+pub turned-behind : (k : ℕ) → describe (operatorOf k) .turned ≡ ltb 8 k
+turned-behind k = go (ltb 8 k) refl
+  where
+    upTo : (k : ℕ) → k ≤ 8 → describe (operatorOf k) .turned ≡ false
+    upTo zero h = unfold operatorOf in refl
+    upTo (suc zero) h = unfold operatorOf in refl
+    upTo (suc (suc zero)) h = unfold operatorOf in refl
+    upTo (suc (suc (suc zero))) h = unfold operatorOf in refl
+    upTo (suc (suc (suc (suc zero)))) h = unfold operatorOf in refl
+    upTo (suc (suc (suc (suc (suc zero))))) h = unfold operatorOf in refl
+    upTo (suc (suc (suc (suc (suc (suc zero)))))) h = unfold operatorOf in refl
+    upTo (suc (suc (suc (suc (suc (suc (suc zero))))))) h = unfold operatorOf in refl
+    upTo (suc (suc (suc (suc (suc (suc (suc (suc zero)))))))) h = unfold operatorOf in refl
+    upTo (suc (suc (suc (suc (suc (suc (suc (suc (suc k))))))))) h = absurd (omega (arith, h))
+
+    behind : (k : ℕ) (b : Bool) → eqb k 9 ≡ b → 8 < k → describe (operatorOf k) .turned ≡ true
+    behind k true e h = rw (the-order (eqb-true k 9 e)) refl
+    behind k false e h = rw (the-last k h (λ f. never (cc (e, eq-eqb k 9 f)))) refl
+
+    go : (b : Bool) → ltb 8 k ≡ b → describe (operatorOf k) .turned ≡ b
+    go true e = behind k (eqb k 9) refl (ltb-true 8 k e)
+    go false e = upTo k (ltb-false 8 k e)
 
 module _ (d : Direction) (s : Step) where
-  pub unturned : s .operator ≤ 8 → actOf d (operatorOf (s .operator)) (args s) ≡ act d s
-  unfolding act directed operator
-  unturned h =
-      ap (λ (b : Bool). actOf (cond (b && isSet (s .inv)) (opposite d) d) (operatorOf (s .operator)) (args s)) (sym (none-turned (s .operator) h))
+  -- a step without the mark keeps the direction
+  pub unmarked : isSet (s .inv) ≡ false → d ≡ directed d s
+  unfolding directed
+  unmarked e = go (turns (readingOf (s .reading)) (operator s)) (isSet (s .inv)) e
+    where
+      go : (a b : Bool) → b ≡ false → d ≡ cond (a && b) (opposite d) d
+      go false b e = refl
+      go true b e = rw e refl
 
-  pub turned-order : {t : Direction} → s .operator ≡ 9 → t ≡ cond (isSet (s .inv)) (opposite d) d → actOf t Axisswap (args s) ≡ act d s
-  unfolding act directed operator operatorOf
-  turned-order e f = rw (e, f) refl
-
-  pub turned-adapt : {t : Direction} → operatorOf (s .operator) ≡ Adapt → t ≡ cond (isSet (s .inv)) (opposite d) d → actOf t Adapt (args s) ≡ act d s
-  unfolding act directed operator
-  turned-adapt e f = rw (e, f) refl
+  -- an operator in the direction in which its step runs
+  pub does-so : {o : Operator} {t : Direction} → operatorOf (s .operator) ≡ o → t ≡ directed d s → actOf t o (args s) ≡ act d s
+  unfolding act operator
+  does-so e f = rw (← e, f) refl

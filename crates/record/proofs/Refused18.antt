@@ -1,16 +1,16 @@
 -- Refusal 18 of a record and of a table, by what the code has found out.
 use mathlib.Core.Path.{_≡_, refl, ap, _∙_}
-use Prim.Native.Nat.{ℕ, _+_, _-_, _≤_, _<_}
+use Prim.Native.Nat.{ℕ, zero, suc, _+_, _-_, _≤_, _<_}
 use native.Mathlib.Numerals.{add-one}
 use native.Mathlib.Omega.{arith}
 use mathlib.Core.List.{List, [], _∷_, _++_, append-nil}
 use mathlib.Core.Option.{none, some}
 use mathlib.Core.Bool.{Bool, true, false, _&&_}
 use lib.Dec.{leb}
-use lib.ListN.{length, take, length-append, length-take, length-replicate, replicate}
+use lib.ListN.{length, getD, take, length-append, length-take, length-replicate, replicate}
 use borrow.Author.Tests.{lt-ltb, le-ltb}
 use Rattle.rules.specs.Operators.Table.{greatest}
-use Rattle.rules.specs.Pipeline.Record.{made, firstBad, refusal18, listed, blank, operator, args, unused}
+use Rattle.rules.specs.Pipeline.Record.{made, tableReading, goodIn, firstBad, refusal18, listed, blank, operator, args, unused}
 use Rattle.rules.specs.declared.Step.{Step}
 use Rattle.rules.specs.declared.Table.{Table}
 use Rattle.record.specs.Records.{isMarked, isWritten, badOf}
@@ -26,7 +26,8 @@ pub made-tests : (s : Step) → made s ≡ (leb (s .operator) greatest && (leb (
 unfolding made isMarked isWritten operator
 made-tests s =
     ap (λ (b : Bool). leb (s .operator) greatest && (leb (s .n) 8 && b))
-    (ap (λ (b : Bool). leb (s .inv) 1 && b) (and-both (leb (s .«omit_fwd») 1) (leb (s .«omit_inv») 1) _)
+    (ap (λ (b : Bool). leb (s .inv) 1 && (leb (s .«omit_fwd») 1 && b)) (and-both (leb (s .«omit_inv») 1) (leb (s .reading) 1) _)
+    ∙ ap (λ (b : Bool). leb (s .inv) 1 && b) (and-both (leb (s .«omit_fwd») 1) _ _)
     ∙ and-both (leb (s .inv) 1) _ _)
 
 -- ---- a table
@@ -46,18 +47,28 @@ pub bad-long : (t : Table) → length (t .steps) ≡ 64 → 64 < t .n → At 0 �
 unfolding refusal18 badOf
 bad-long t full h = rw (listed-length t full, lt-ltb _ _ h) refl
 
-pub bad-few : (t : Table) → length (t .steps) ≡ 64 → t .n ≤ 64 → refusal18 (listed t) ≡ firstBad 1 (take (t .n) (t .steps))
+-- the reading of a table is that of its first record, as the code reads it: of no records none is bad in any reading
+reading-first : (steps : List Step) (n : ℕ) (z : Step) → length steps ≡ 64 → firstBad (tableReading (take n steps)) 1 (take n steps) ≡ firstBad (getD steps 0 z .reading) 1 (take n steps)
+unfolding firstBad tableReading
+reading-first [] n z h = absurd (omega (arith, h))
+reading-first (s ∷ l) zero z h = refl
+reading-first (s ∷ l) (suc n) z h = refl
+
+pub bad-few : (t : Table) (z : Step) → length (t .steps) ≡ 64 → t .n ≤ 64
+    → refusal18 (listed t) ≡ firstBad (getD (t .steps) 0 z .reading) 1 (take (t .n) (t .steps))
 unfolding refusal18
-bad-few t full h = rw (listed-length t full, le-ltb _ _ h) (ap (firstBad 1) (listed-few t h))
+bad-few t z full h =
+    rw (listed-length t full, le-ltb _ _ h)
+    (ap (λ (l : List Step). firstBad (tableReading l) 1 l) (listed-few t h) ∙ reading-first (t .steps) (t .n) z full)
 
-pub bad-next : (k : ℕ) (s : Step) (l : List Step) → made s ≡ true → firstBad k (s ∷ l) ≡ firstBad (k + 1) l
+pub bad-next : (reading k : ℕ) (s : Step) (l : List Step) → goodIn reading s ≡ true → firstBad reading k (s ∷ l) ≡ firstBad reading (k + 1) l
 unfolding firstBad
-bad-next k s l e = rw (e, add-one k) refl
+bad-next reading k s l e = rw (e, add-one k) refl
 
-pub bad-here : (k : ℕ) (s : Step) (l : List Step) → made s ≡ false → firstBad k (s ∷ l) ≡ some k
+pub bad-here : (reading k : ℕ) (s : Step) (l : List Step) → goodIn reading s ≡ false → firstBad reading k (s ∷ l) ≡ some k
 unfolding firstBad
-bad-here k s l e = rw e refl
+bad-here reading k s l e = rw e refl
 
-pub bad-none : (k : ℕ) → firstBad k [] ≡ none
+pub bad-none : (reading k : ℕ) → firstBad reading k [] ≡ none
 unfolding firstBad
-bad-none k = refl
+bad-none reading k = refl

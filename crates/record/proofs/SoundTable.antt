@@ -9,24 +9,25 @@ use borrow.Author.Tests.{ltb-false}
 use lib.Dec.{ltb}
 use lib.ListN.{length, getD, take}
 use lib.Seq.{length-take-le, getD-take}
-use Rattle.rules.specs.Pipeline.Record.{made, firstBad, refusal18, listed}
+use Rattle.rules.specs.Pipeline.Record.{made, tableReading, goodIn, firstBad, refusal18, listed}
 use Rattle.rules.specs.declared.Step.{Step}
 use Rattle.rules.specs.declared.Table.{Table}
 use Rattle.rules.specs.declared.Direction.{Direction}
-use Rattle.laws_lists.specs.Tests.{never}
+use Rattle.laws_lists.specs.Tests.{and-left, never}
 use Rattle.record.specs.Visits.{visited}
 use Rattle.record.proofs.Refused18.{listed-few, listed-length, bad-few}
 
-none-bad : (k : ℕ) (l : List Step) (i : ℕ) (z : Step) → firstBad k l ≡ none → i < length l → made (getD l i z) ≡ true
-unfolding firstBad
-none-bad k [] i z e h = absurd (omega (arith, h))
-none-bad k (s ∷ l) i z e h = go (made s) refl i h e (λ j g f. none-bad (suc k) l j z g f)
-  where
-    go : (b : Bool) → made s ≡ b → (i : ℕ) → i < length (s ∷ l) → cond b (firstBad (suc k) l) (some k) ≡ none
-        → ((j : ℕ) → firstBad (suc k) l ≡ none → j < length l → made (getD l j z) ≡ true) → made (getD (s ∷ l) i z) ≡ true
-    go true p zero h e f = p
-    go true p (suc i) h e f = f i e (omega (arith, h))
-    go false p i h e f = absurd (never (cc e))
+module _ (reading : ℕ) where
+  none-bad : (k : ℕ) (l : List Step) (i : ℕ) (z : Step) → firstBad reading k l ≡ none → i < length l → made (getD l i z) ≡ true
+  unfolding firstBad goodIn
+  none-bad k [] i z e h = absurd (omega (arith, h))
+  none-bad k (s ∷ l) i z e h = go (goodIn reading s) refl i h e (λ j g f. none-bad (suc k) l j z g f)
+    where
+      go : (b : Bool) → goodIn reading s ≡ b → (i : ℕ) → i < length (s ∷ l) → cond b (firstBad reading (suc k) l) (some k) ≡ none
+          → ((j : ℕ) → firstBad reading (suc k) l ≡ none → j < length l → made (getD l j z) ≡ true) → made (getD (s ∷ l) i z) ≡ true
+      go true p zero h e f = and-left (made s) _ p
+      go true p (suc i) h e f = f i e (omega (arith, h))
+      go false p i h e f = absurd (never (cc e))
 
 pub record Sound (t : Table) : Type 0 where
   pub few : t .n ≤ 64
@@ -44,10 +45,10 @@ sound-so t full e =
       rows = listed-few t few;
       many = many;
       each = λ i z h.
-          sym (ap made (getD-take (t .n) (t .steps) i z h)) ∙ none-bad 1 (take (t .n) (t .steps)) i z (sym (bad-few t full few) ∙ e) (omega (arith, h, many));
+          sym (ap made (getD-take (t .n) (t .steps) i z h)) ∙ none-bad _ 1 (take (t .n) (t .steps)) i z (sym (bad-few t z full few) ∙ e) (omega (arith, h, many));
     }
   where
-    short : (b : Bool) → ltb 64 (length (listed t)) ≡ b → cond b (some 0) (firstBad 1 (listed t)) ≡ none → ltb 64 (length (listed t)) ≡ false
+    short : (b : Bool) → ltb 64 (length (listed t)) ≡ b → cond b (some 0) (firstBad (tableReading (listed t)) 1 (listed t)) ≡ none → ltb 64 (length (listed t)) ≡ false
     short true p e = absurd (never (cc e))
     short false p e = p
 

@@ -15,7 +15,7 @@ use Rattle.numbers.specs.declared.tests.Kind.the-variants.{Zero}
 use Rattle.numbers.specs.Tests.{isOf}
 
 unfoldable pub isMarked : Step → Bool
-isMarked s = leb (s .inv) 1 && (leb (s .«omit_fwd») 1 && leb (s .«omit_inv») 1)
+isMarked s = leb (s .inv) 1 && (leb (s .«omit_fwd») 1 && (leb (s .«omit_inv») 1 && leb (s .reading) 1))
 
 unfoldable pub isWritten : ℕ → List ℤ → List ℤ → Bool
 isWritten operator l unused = allOf (isOf Zero) unused && (allOf nineDigits l && isArgs (operatorOf operator) l)

@@ -1,6 +1,7 @@
 // What a step record does in a direction. Run and check both go by it.
 use columns::Doing;
 use rules::AXISSWAP;
+use rules::CRATE;
 use rules::Direction;
 use rules::POP;
 use rules::PUSH;
@@ -8,25 +9,45 @@ use rules::STACK_DROP;
 use rules::STACK_PUSH;
 use rules::Step;
 ghost use mathlib.Core.Path.{_≡_};
-ghost use mathlib.Core.Bool.{true, cond};
-ghost use Rattle.rules.specs.Pipeline.Record.{made, isSet};
-ghost use Rattle.rules.specs.Pipeline.Running.{opposite, act, omitted};
+ghost use mathlib.Core.Bool.{true};
+ghost use Rattle.rules.specs.Operators.Table.{operatorOf};
+ghost use Rattle.rules.specs.Pipeline.Record.{readingOf, made};
+ghost use Rattle.rules.specs.Pipeline.Running.{opposite, turns, directed, act, omitted};
 ghost use Rattle.columns.specs.Doings.{Does};
 
-// The direction, turned where the mark is set.
-fn turned(direction: Direction, mark: u8) -> Direction
-    ensures { λ r. ⌜ r ≡ cond (isSet mark) (opposite direction) direction ⌝ }
+fn opposite(direction: Direction) -> Direction
+    ensures { λ r. ⌜ r ≡ opposite direction ⌝ }
 {
-    if mark != 1 {
-        return direction;
-    }
     match direction {
         Direction::Forward => Direction::Inverse,
         Direction::Inverse => Direction::Forward,
     }
 }
 
-// "`inv` turns `axisswap` and `adapt` only"
+// Does `inv` turn the operator? In the crate's reading "`axisswap` and `adapt` only", in PROJ's every one.
+fn turns(reading: u8, operator: u8) -> bool
+    ensures { λ r. ⌜ r ≡ turns (readingOf reading) (operatorOf operator) ⌝ }
+{
+    if reading != CRATE {
+        return true;
+    }
+    STACK_DROP < operator
+}
+
+// The direction in which the step itself runs.
+fn directed(direction: Direction, step: Step) -> Direction
+    ensures { λ r. ⌜ r ≡ directed direction step ⌝ }
+{
+    if step.inv != 1 {
+        return direction;
+    }
+    if !turns(step.reading, step.operator) {
+        return direction;
+    }
+    opposite(direction)
+}
+
+// What the step does in a run of that direction.
 pub fn act_of(step: Step, direction: Direction) -> Doing
     requires { ⌜ made step ≡ true ⌝ }
     ensures { λ r. ⌜ Does (act direction step) r ⌝ }
@@ -34,12 +55,12 @@ pub fn act_of(step: Step, direction: Direction) -> Doing
     let operator = step.operator;
     let args = step.args;
     let n = step.n as usize;
-    let inv = step.inv;
+    let own = directed(direction, step);
     match operator {
-        PUSH | POP => pushpop::act_of(operator, args, n, direction),
-        STACK_PUSH..=STACK_DROP => stack::act_of(operator, args, n, direction),
-        AXISSWAP => axisswap::act_of(args, n, turned(direction, inv)),
-        _ => adapt::act_of(args, n, turned(direction, inv)),
+        PUSH | POP => pushpop::act_of(operator, args, n, own),
+        STACK_PUSH..=STACK_DROP => stack::act_of(operator, args, n, own),
+        AXISSWAP => axisswap::act_of(args, n, own),
+        _ => adapt::act_of(args, n, own),
     }
 }
 

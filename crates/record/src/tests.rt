@@ -8,10 +8,10 @@ use rules::Table;
 ghost use mathlib.Core.Path.{_≡_};
 ghost use Prim.Native.Nat.{_≤_};
 ghost use lib.ListN.{length, take, drop};
-ghost use Rattle.rules.specs.Pipeline.Record.{made, refusal18, listed};
+ghost use Rattle.rules.specs.Pipeline.Record.{made, goodIn, refusal18, listed};
 ghost use Rattle.record.specs.Records.{isMarked, isWritten, badOf};
 
-// Are the marks of a record 0 or 1?
+// Are the marks of a record and the number of its reading 0 or 1?
 fn is_marked(s: Step) -> bool
     ensures { λ r. ⌜ r ≡ isMarked s ⌝ }
 {
@@ -21,7 +21,10 @@ fn is_marked(s: Step) -> bool
     if 1 < s.omit_fwd {
         return false;
     }
-    s.omit_inv <= 1
+    if 1 < s.omit_inv {
+        return false;
+    }
+    s.reading <= 1
 }
 
 // 18: is it a record that a preparation makes?
@@ -57,13 +60,23 @@ fn is_written(operator: u8, l: &[i32], n: usize) -> bool
     is_args(operator, &l[..n])
 }
 
+// 18 of a table of that reading: is it a record that a preparation in that reading makes?
+pub fn good_in(s: Step, reading: u8) -> bool
+    ensures { λ r. ⌜ r ≡ goodIn reading s ⌝ }
+{
+    if !made(s) {
+        return false;
+    }
+    s.reading == reading
+}
+
 // The place of refusal 18.
 pub enum Bad {
     At(usize),
     Nowhere,
 }
 
-// 18: the first record that no preparation makes; 0 for over 64 records.
+// 18: the first record that no preparation makes, or whose reading is not the first's; 0 for over 64 records.
 pub fn refusal18(table: Table) -> Bad
     ensures { λ r. ⌜ r ≡ badOf (refusal18 (listed table)) ⌝ }
 {
@@ -71,11 +84,13 @@ pub fn refusal18(table: Table) -> Bad
     if 64 < n {
         return Bad::At(0);
     }
+    let first = table.steps[0];
+    let reading = first.reading;
     let mut i = 0;
     while i < n {
         let s = table.steps[i];
         i += 1;
-        if !made(s) {
+        if !good_in(s, reading) {
             return Bad::At(i);
         }
     }

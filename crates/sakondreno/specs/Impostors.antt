@@ -16,13 +16,15 @@ use Rattle.rules.specs.Text.Normal.{normalise}
 use Rattle.rules.specs.Text.Split.{split}
 use Rattle.rules.specs.Text.Parameters.{parameters}
 use Rattle.rules.specs.Proj.Translate.{translate}
-use Rattle.rules.specs.Pipeline.Prepare.{prepare}
+use Rattle.rules.specs.Pipeline.Prepare.{prepare, prepareAs}
 use Rattle.rules.specs.Text.Reader.{next}
 use Rattle.rules.specs.Pipeline.Check.{check}
 use Rattle.rules.specs.Pipeline.Run.{runs}
-use Rattle.rules.specs.Pipeline.Record.{blank}
+use Rattle.rules.specs.Pipeline.Record.{readingOf, blank}
 use Rattle.rules.specs.Examples.{on, records, oneToFour}
 use Rattle.rules.specs.Opened.{opened}
+use Rattle.rules.specs.declared.Reading.{Reading}
+use Rattle.rules.specs.declared.Reading.the-variants.{Crate, Proj}
 use Rattle.rules.specs.declared.Step.{Step}
 use Rattle.rules.specs.declared.Answer.{Answer}
 use Rattle.rules.specs.declared.Part.{Part}
@@ -33,7 +35,7 @@ use Rattle.rules.specs.Face.Plain.{plainWritten, replied, plainFound, plainPrep
 no : {k : ℕ} → 0 ≡ suc k → ⊥
 no z = omega arith
 
--- ---- `normalise`, `split`, `parameters`, `translate` and `prepare`
+-- ---- `normalise`, `split`, `parameters`, `translate`, `prepare` and `prepare_as`
 
 module _ {A : Type 0} (inWords : Reply ℕ → Answer) (own : Bytes → Reply (List A)) where
   abbrev pub Meets : (Bytes → List A → Answer × List A) → Type 0
@@ -111,6 +113,25 @@ tells-prepare =
       something = refl;
       altered = λ e. no (ap operatorOfFirst e);
     }
+
+-- of preparing in a reading, likewise
+pub tells-prepare-as : (how : Reading) → Telling recordCount (prepareAs how)
+unfolding opened plainPrepared operatorOfFirst
+tells-prepare-as Crate =
+    record { nothing = refl; text = ascii "pop"; storage = blank ∷ []; more = 0; after = records (on (prepareAs Crate) "pop"); something = refl; altered = λ e. no (ap operatorOfFirst e) }
+tells-prepare-as Proj =
+    record { nothing = refl; text = ascii "pop"; storage = blank ∷ []; more = 0; after = records (on (prepareAs Proj) "pop"); something = refl; altered = λ e. no (ap operatorOfFirst e) }
+
+-- The reading forgotten: the same records whatever is asked
+readingOfFirst : List Step → ℕ
+readingOfFirst [] = 0
+readingOfFirst (s ∷ l) = s .reading
+
+pub reading-forgotten : (program : Bytes → List Step → Answer × List Step) → ((reading : ℕ) → Meets recordCount (prepareAs (readingOf reading)) program) → ⊥
+unfolding opened plainPrepared readingOfFirst
+reading-forgotten program meets =
+    no (sym (ap (λ (x : Answer × List Step). readingOfFirst (x .1)) (meets 0 (ascii "push") (blank ∷ []) .exactly))
+    ∙ ap (λ (x : Answer × List Step). readingOfFirst (x .1)) (meets 1 (ascii "push") (blank ∷ []) .exactly))
 
 -- ---- the walk over the steps
 

@@ -5,6 +5,7 @@ mod plain;
 
 pub use entry::check;
 pub use entry::prepare;
+pub use entry::prepare_as;
 pub use entry::run;
 pub use normalise::normalise;
 pub use parameters::parameters;
@@ -22,6 +23,7 @@ pub use rules::Part;
 pub use rules::Place;
 pub use rules::Prepared;
 pub use rules::Ran;
+pub use rules::Reading;
 pub use rules::Said;
 pub use rules::Step;
 pub use rules::Table;
@@ -36,7 +38,8 @@ ghost use Rattle.rules.specs.Text.Normal.{normalise};
 ghost use Rattle.rules.specs.Text.Split.{split};
 ghost use Rattle.rules.specs.Text.Parameters.{parameters};
 ghost use Rattle.rules.specs.Proj.Translate.{translate};
-ghost use Rattle.rules.specs.Pipeline.Prepare.{prepare};
+ghost use Rattle.rules.specs.Pipeline.Record.{readingOf};
+ghost use Rattle.rules.specs.Pipeline.Prepare.{prepare, prepareAs};
 ghost use Rattle.rules.specs.Text.Reader.{next};
 ghost use Rattle.rules.specs.Face.Plain.{replied, plainFound, recordCount, PlainChecks, PlainRuns};
 
@@ -91,6 +94,16 @@ pub extern "C" fn sakondreno_prepare(text: &[u8], table: &mut [Step]) -> Answer
     ensures { λ r. ⌜ Promised recordCount prepare (now (text .entry)) (now (table .entry)) r (now (table .exit)) ⌝ }
 {
     let p = entry::prepare(text, table);
+    plain::counted(p)
+}
+
+// The same in a reading: 0 is the crate's, any other number PROJ's.
+#[no_mangle]
+pub extern "C" fn sakondreno_prepare_as(text: &[u8], reading: u8, table: &mut [Step]) -> Answer
+    ensures { λ r. ⌜ Promised recordCount (prepareAs (readingOf reading)) (now (text .entry)) (now (table .entry)) r (now (table .exit)) ⌝ }
+{
+    let how = plain::reading_of(reading);
+    let p = entry::prepare_as(text, how, table);
     plain::counted(p)
 }
 

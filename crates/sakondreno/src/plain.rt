@@ -1,6 +1,7 @@
 // The answers of the public calls as plain records, which C and Rust can hold: a function for each kind of answer, which says
 // what its definition says (crates/rules, specs/Face/Plain.antt).
 use rules::Answer;
+use rules::CRATE;
 use rules::Checked;
 use rules::Direction;
 use rules::Done;
@@ -9,10 +10,12 @@ use rules::Found;
 use rules::Part;
 use rules::Prepared;
 use rules::Ran;
+use rules::Reading;
 use rules::Said;
 use rules::Verdict;
 use rules::Written;
 ghost use mathlib.Core.Path.{_≡_};
+ghost use Rattle.rules.specs.Pipeline.Record.{readingOf};
 ghost use Rattle.rules.specs.Face.Plain.{plainWritten, plainFound, plainPrepared, directionOf, plainVerdict, plainCheck, plainRan};
 
 pub fn answered(w: Written) -> Answer
@@ -70,6 +73,16 @@ pub fn counted(p: Prepared) -> Answer
             length: 0,
         },
     }
+}
+
+// 0 is the crate's reading, any other number PROJ's.
+pub fn reading_of(number: u8) -> Reading
+    ensures { λ r. ⌜ r ≡ readingOf number ⌝ }
+{
+    if number == CRATE {
+        return Reading::Crate;
+    }
+    Reading::Proj
 }
 
 // 0 is forward, any other number inverse.

@@ -12,8 +12,9 @@ use Rattle.rules.specs.Text.Bytes.{Bytes}
 use Rattle.rules.specs.Text.Refusal.{Reply, answers, refuses, andThen, tested, lent, outcome, written, Writes}
 use Rattle.rules.specs.Text.Split.{line, split}
 use Rattle.rules.specs.Proj.Translate.{translate}
-use Rattle.rules.specs.Pipeline.Prepare.{prepare}
+use Rattle.rules.specs.Pipeline.Prepare.{prepareAs}
 use Rattle.laws_lists.specs.Tests.{never}
+use Rattle.rules.specs.declared.Reading.{Reading}
 use Rattle.rules.specs.declared.Step.{Step}
 use Rattle.rules.specs.declared.Written.{Written}
 use Rattle.rules.specs.declared.Written.the-variants as variant
@@ -87,27 +88,27 @@ called-refused {own} {t} {buf} {r} {buf′} {n} {place} e w l =
 
 -- ---- what is printed then
 
-module _ (t : Bytes) where
-  pub steps-refused : {n place : ℕ} → called split t ≡ refuses n place → shownSteps t ≡ line (refusalText n place)
+module _ (r : Reading) (t : Bytes) where
+  pub steps-refused : {n place : ℕ} → called split t ≡ refuses n place → shownSteps r t ≡ line (refusalText n place)
   unfolding shownSteps orRefused
   steps-refused e = rw e
 
-  pub steps-wrote : {lines : Bytes} → called split t ≡ answers lines → shownSteps t ≡ headed 1 false lines ++ shownChecks t
+  pub steps-wrote : {lines : Bytes} → called split t ≡ answers lines → shownSteps r t ≡ headed 1 false lines ++ shownChecks r t
   unfolding shownSteps orRefused
   steps-wrote e = rw e
 
-  pub text-refused : {n place : ℕ} → called translate t ≡ refuses n place → shown t ≡ line (refusalText n place)
+  pub text-refused : {n place : ℕ} → called translate t ≡ refuses n place → shown r t ≡ line (refusalText n place)
   unfolding shown orRefused
   text-refused e = rw e
 
-  pub text-wrote : {u : Bytes} → called translate t ≡ answers u → shown t ≡ translatedLine u ++ shownSteps u
+  pub text-wrote : {u : Bytes} → called translate t ≡ answers u → shown r t ≡ translatedLine u ++ shownSteps r u
   unfolding shown orRefused
   text-wrote e = rw e
 
-  pub checks-refused : {n place : ℕ} → tested prepare t ≡ refuses n place → shownChecks t ≡ line (refusalText n place)
+  pub checks-refused : {n place : ℕ} → tested (prepareAs r) t ≡ refuses n place → shownChecks r t ≡ line (refusalText n place)
   unfolding shownChecks orRefused
   checks-refused e = rw e
 
-  pub checks-told : {ss : List Step} → tested prepare t ≡ answers ss → shownChecks t ≡ bothChecks ss
+  pub checks-told : {ss : List Step} → tested (prepareAs r) t ≡ answers ss → shownChecks r t ≡ bothChecks ss
   unfolding shownChecks orRefused
   checks-told e = rw e

@@ -1,4 +1,4 @@
--- What preparing leaves in a table of 64 blank records.
+-- What preparing in a reading leaves in a table of 64 blank records.
 use mathlib.Core.Path.{_≡_, refl, sym, ap, _∙_, subst}
 use Prim.Native.Nat.{ℕ, _-_, _≤_}
 use mathlib.Core.List.{List, _++_, append-assoc, append-nil}
@@ -8,14 +8,15 @@ use lib.ListN.{length, take, drop}
 use lib.Seq.{take-at}
 use Rattle.rules.specs.Text.Bytes.{Bytes}
 use Rattle.rules.specs.Text.Refusal.{Reply, answers, refuses, tested, lent, prepared}
-use Rattle.rules.specs.Pipeline.Prepare.{prepare}
+use Rattle.rules.specs.Pipeline.Prepare.{prepareAs}
 use Rattle.rules.specs.Pipeline.Record.{listed}
 use Rattle.laws_lists.specs.Tests.{never}
+use Rattle.rules.specs.declared.Reading.{Reading}
 use Rattle.rules.specs.declared.Step.{Step}
 use Rattle.rules.specs.declared.Table.{Table}
 use Rattle.rules.specs.declared.Prepared.the-variants as variant
 use Rattle.prepare.specs.declared.Preparing.{Preparing}
-use Rattle.prepare.specs.Lent.{withRow, lentTo, preparing}
+use Rattle.prepare.specs.Lent.{withRow, lentTo, preparingAs}
 use Rattle.rows.specs.Row.{blanks, tabled, emptied}
 use Rattle.show.proofs.Replies.{Of, AtMost, prepared-few}
 
@@ -50,13 +51,13 @@ told (answers xs) few =
     room : length xs ≤ length (take 64 blanks)
     room = unfold blanks in few
 
-module _ (t : Bytes) {e : Table} {q : Preparing} (f : e ≡ emptied 64) (g : q ≡ preparing t e) where
-  all-told : Told (tested prepare t) q
-  unfolding preparing
-  all-told = subst (Told (tested prepare t)) (sym (g ∙ ap (preparing t) f)) (told (tested prepare t) (prepared-few t))
+module _ (r : Reading) (t : Bytes) {e : Table} {q : Preparing} (f : e ≡ emptied 64) (g : q ≡ preparingAs r t e) where
+  all-told : Told (tested (prepareAs r) t) q
+  unfolding preparingAs
+  all-told = subst (Told (tested (prepareAs r) t)) (sym (g ∙ ap (preparingAs r t) f)) (told (tested (prepareAs r) t) (prepared-few r t))
 
-  pub prepare-refused : {n place : ℕ} → q .answer ≡ variant.Refused n place → tested prepare t ≡ refuses n place
+  pub prepare-refused : {n place : ℕ} → q .answer ≡ variant.Refused n place → tested (prepareAs r) t ≡ refuses n place
   prepare-refused {n} {place} h = all-told .refusal n place h
 
-  pub prepare-steps : {n : ℕ} {u : Table} → q .answer ≡ variant.Steps n → u ≡ tabled (q .table .steps) n → tested prepare t ≡ answers (listed u)
+  pub prepare-steps : {n : ℕ} {u : Table} → q .answer ≡ variant.Steps n → u ≡ tabled (q .table .steps) n → tested (prepareAs r) t ≡ answers (listed u)
   prepare-steps {n} {u} h k = all-told .records n h ∙ ap (λ (x : Table). answers (listed x)) (sym k)

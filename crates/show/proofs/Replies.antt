@@ -10,8 +10,9 @@ use Rattle.rules.specs.Text.Lists.{anyOf, placeOf}
 use Rattle.rules.specs.Text.Bytes.{Bytes, Steps, inDomain}
 use Rattle.rules.specs.Text.Refusal.{Reply, answers, refuses, andThen, tested}
 use Rattle.rules.specs.Text.Split.{onlyModifiers, stepText, splitSteps}
-use Rattle.rules.specs.Pipeline.Prepare.{prepare}
-use Rattle.laws_records.specs.Made.{prepare-made}
+use Rattle.rules.specs.Pipeline.Prepare.{prepareAs}
+use Rattle.laws_records.specs.Made.{prepare-as-made}
+use Rattle.rules.specs.declared.Reading.{Reading}
 use Rattle.rules.specs.declared.Step.{Step}
 
 unfoldable pub Of : {A : Type 0} → (A → Type 0) → Reply A → Type 0
@@ -58,9 +59,9 @@ split-made ss = go (anyOf onlyModifiers ss) (ltb 64 (length ss)) refl
     go false true e = zero-le
     go false false e = record { are = refl; few = rw (length-map ss stepText) (ltb-false 64 (length ss) e) }
 
--- and so many records at most
+-- and so many records at most, in either reading
 abbrev pub AtMost : ℕ → List Step → Type 0
 AtMost n l = length l ≤ n
 
-pub prepared-few : (t : Bytes) → Of (AtMost 64) (tested prepare t)
-prepared-few t = of-tested (AtMost 64) prepare t (of-answers (AtMost 64) (prepare t) (λ l e. prepare-made t l e .1))
+pub prepared-few : (r : Reading) (t : Bytes) → Of (AtMost 64) (tested (prepareAs r) t)
+prepared-few r t = of-tested (AtMost 64) (prepareAs r) t (of-answers (AtMost 64) (prepareAs r t) (λ l e. prepare-as-made r t l e .1))

@@ -14,8 +14,9 @@ use Rattle.rules.specs.Text.Normal.{normal}
 use Rattle.rules.specs.Text.Comments.{stripped}
 use Rattle.rules.specs.Text.Split.{line, steps, splitSteps, split}
 use Rattle.rules.specs.Proj.Translate.{translate}
-use Rattle.rules.specs.Pipeline.Prepare.{prepare}
+use Rattle.rules.specs.Pipeline.Prepare.{prepare, prepareAs}
 use Rattle.rules.specs.Pipeline.Check.{nth, check}
+use Rattle.rules.specs.declared.Reading.{Reading}
 use Rattle.rules.specs.declared.Step.{Step}
 use Rattle.rules.specs.declared.Place.{Place}
 use Rattle.rules.specs.declared.Direction.{Direction}
@@ -31,7 +32,7 @@ use Rattle.laws_text.specs.Sizes.{steps-few, proj-few}
 use Rattle.laws_text.specs.Refusals.{Refusing, OfAStep, then-refuses, tested-refuses, split-refuses, translate-refuses, prepare-refuses}
 use Rattle.laws_steps.specs.Named.{Named, FourNamed}
 use Rattle.laws_steps.specs.Foretold.{foretells}
-use Rattle.laws_records.specs.Made.{prepare-made, check-never-18, tested-answers}
+use Rattle.laws_records.specs.Made.{prepare-as-made, check-never-18, tested-answers}
 use Rattle.laws_steps.specs.Limits.{few-within, many-within, pass-within}
 use Rattle.show.proofs.Replies.{Of, of-refusal, of-answers, of-then, of-tested, Made, split-made}
 use Rattle.show.specs.Lines.{numbered, steps-numbered}
@@ -97,10 +98,10 @@ step-length : (k : ℕ) (w : Bytes) → Small k → length (counted (ascii "step
 unfolding ascii
 step-length k w h = omega (arith, length-append (counted (ascii "step ") k) w, counted-length (ascii "step ") k h)
 
--- of a table that was prepared
-module _ (t : Bytes) (ss : List Step) (e : prepare t ≡ answers ss) where
+-- of a table that was prepared in a reading
+module _ (r : Reading) (t : Bytes) (ss : List Step) (e : prepareAs r t ≡ answers ss) where
   step-small : (k : ℕ) → k ≤ length ss → Small k
-  step-small k h = omega (arith, prepare-made t ss e .1)
+  step-small k h = omega (arith, prepare-as-made r t ss e .1)
 
   judged-length : (d : Direction) (v : Verdict) → check d ss .verdict ≡ v → length (verdictText v (check d ss)) ≤ 59
   unfolding verdictText ascii
@@ -109,7 +110,7 @@ module _ (t : Bytes) (ss : List Step) (e : prepare t ≡ answers ss) where
       passed-length (check d ss) (omega arith) (omega arith) (foretells d ss [] h .named)
   judged-length d (TooFew k) h = omega (arith, step-length k (ascii " too few") (step-small k (few-within d ss k h)))
   judged-length d (TooMany k) h = omega (arith, step-length k (ascii " too many") (step-small k (many-within d ss k h)))
-  judged-length d (Refused n k) h = absurd (check-never-18 t ss e d n k h)
+  judged-length d (Refused n k) h = absurd (check-never-18 r t ss e d n k h)
 
   verdict-length : (w : Bytes) (d : Direction) → length (verdictLine w (check d ss)) ≤ length w + 60
   unfolding verdictLine
@@ -209,23 +210,26 @@ of-a-step k s =
       own = (omega arith, s);
     }
 
-prepare-small : (t : Bytes) → length t ≤ 4096 → Refusing BothSmall (prepare t)
-prepare-small t l = prepare-refuses BothSmall t (λ k h. of-a-step k (omega (arith, steps-few t))) (omega arith)
+-- either reading refuses what `prepare` refuses, by the same number at the same place
+prepare-small : (r : Reading) (t : Bytes) → length t ≤ 4096 → Refusing BothSmall (prepareAs r t)
+unfolding prepareAs Refusing
+prepare-small r t l =
+    then-refuses BothSmall (prepare t) _ (prepare-refuses BothSmall t (λ k h. of-a-step k (omega (arith, steps-few t))) (omega arith)) (λ ss e. tt)
 
-shown-checks-length : (t : Bytes) → length (shownChecks t) ≤ 138
+shown-checks-length : (r : Reading) (t : Bytes) → length (shownChecks r t) ≤ 138
 unfolding shownChecks
-shown-checks-length t =
-    let r = tested prepare t in
-    let Is : List Step → Type 0 = λ ss. r ≡ answers ss in
-    printed Is r bothChecks 138 (omega arith) (tested-refuses BothSmall prepare t (omega arith) (omega arith) (prepare-small t)) (of-answers Is r (λ ss e. e))
-    (λ ss e. checks-length t ss (tested-answers t ss e))
+shown-checks-length r t =
+    let reply = tested (prepareAs r) t in
+    let Is : List Step → Type 0 = λ ss. reply ≡ answers ss in
+    printed Is reply bothChecks 138 (omega arith) (tested-refuses BothSmall (prepareAs r) t (omega arith) (omega arith) (prepare-small r t)) (of-answers Is reply (λ ss e. e))
+    (λ ss e. checks-length r t ss (tested-answers (prepareAs r) t ss e))
 
-shown-steps-length : (t : Bytes) → length (shownSteps t) ≤ 66442
+shown-steps-length : (r : Reading) (t : Bytes) → length (shownSteps r t) ≤ 66442
 unfolding shownSteps
-shown-steps-length t =
-    printed (Fits Lines) (called split t) (λ lines. headed 1 false lines ++ shownChecks t) 66442 (omega arith) (called-small split t (split-small t))
+shown-steps-length r t =
+    printed (Fits Lines) (called split t) (λ lines. headed 1 false lines ++ shownChecks r t) 66442 (omega arith) (called-small split t (split-small t))
     (called-fits Lines split t (split-lines t))
-    (λ lines m. omega (arith, length-append (headed 1 false lines) (shownChecks t), m .size, m .holds .fits, shown-checks-length t))
+    (λ lines m. omega (arith, length-append (headed 1 false lines) (shownChecks r t), m .size, m .holds .fits, shown-checks-length r t))
 
 -- any text
 any-text : (r : Reply Bytes) → Of (λ t. 0 ≤ length t) r
@@ -237,13 +241,13 @@ translation-length : (t : Bytes) → length (translatedLine t) ≡ length t + 13
 unfolding translatedLine ascii
 translation-length t = omega (arith, line-length (ascii "translated: " ++ t), length-append (ascii "translated: ") t)
 
-pub shown-length : (text : Bytes) → length (shown text) ≤ 139264
+pub shown-length : (r : Reading) (text : Bytes) → length (shown r text) ≤ 139264
 unfolding shown
-shown-length text =
-    printed (Fits (λ t. 0 ≤ length t)) (called translate text) (λ t. translatedLine t ++ shownSteps t) 139264 (omega arith)
+shown-length r text =
+    printed (Fits (λ t. 0 ≤ length t)) (called translate text) (λ t. translatedLine t ++ shownSteps r t) 139264 (omega arith)
     (called-small translate text (translate-small text))
     (called-fits (λ t. 0 ≤ length t) translate text (any-text (translate text)))
-    (λ t m. omega (arith, length-append (translatedLine t) (shownSteps t), translation-length t, m .size, shown-steps-length t))
+    (λ t m. omega (arith, length-append (translatedLine t) (shownSteps r t), translation-length t, m .size, shown-steps-length r t))
 
-pub shown-room : (text d : Bytes) → 139264 ≤ length d → 0 + length (shown text) ≤ length d
-shown-room text d h = omega (arith, shown-length text)
+pub shown-room : (r : Reading) (text d : Bytes) → 139264 ≤ length d → 0 + length (shown r text) ≤ length d
+shown-room r text d h = omega (arith, shown-length r text)

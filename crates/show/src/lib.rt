@@ -7,9 +7,10 @@ mod places;
 use checks::say_checks;
 use pieces::say_refusal;
 use pieces::say_steps;
-use prepare::prepare;
+use prepare::prepare_as;
 use proj::translate;
 use rules::Prepared;
+use rules::Reading;
 use rules::Table;
 use rules::Written;
 use split::split;
@@ -32,11 +33,11 @@ fn first_of(table: Table, n: usize) -> Table
 }
 
 // "prepares, then checks"
-fn show_checks(text: &[u8], out: &mut [u8], at: usize) -> usize
-    requires { ⌜ at + length (shownChecks (now text)) ≤ length (now out) ⌝ }
-    ensures { λ r. ⌜ WroteAt (shownChecks (now (text .entry))) (now (out .entry)) at r (now (out .exit)) ⌝ }
+fn show_checks(text: &[u8], reading: Reading, out: &mut [u8], at: usize) -> usize
+    requires { ⌜ at + length (shownChecks reading (now text)) ≤ length (now out) ⌝ }
+    ensures { λ r. ⌜ WroteAt (shownChecks reading (now (text .entry))) (now (out .entry)) at r (now (out .exit)) ⌝ }
 {
-    let p = prepare(text, rows::empty(64));
+    let p = prepare_as(text, reading, rows::empty(64));
     let answer = p.answer;
     match answer {
         Prepared::Steps(n) => {
@@ -49,23 +50,23 @@ fn show_checks(text: &[u8], out: &mut [u8], at: usize) -> usize
 }
 
 // What is said of the lines that splitting wrote, and the checks behind it.
-fn show_lines(lines: &[u8], text: &[u8], out: &mut [u8], at: usize) -> usize
-    requires { ⌜ at + length (headed 1 false (now lines) ++ shownChecks (now text)) ≤ length (now out) ⌝ }
-    ensures { λ r. ⌜ WroteAt (headed 1 false (now (lines .entry)) ++ shownChecks (now (text .entry))) (now (out .entry)) at r (now (out .exit)) ⌝ }
+fn show_lines(lines: &[u8], text: &[u8], reading: Reading, out: &mut [u8], at: usize) -> usize
+    requires { ⌜ at + length (headed 1 false (now lines) ++ shownChecks reading (now text)) ≤ length (now out) ⌝ }
+    ensures { λ r. ⌜ WroteAt (headed 1 false (now (lines .entry)) ++ shownChecks reading (now (text .entry))) (now (out .entry)) at r (now (out .exit)) ⌝ }
 {
     let o = say_steps(lines, out, at);
-    show_checks(text, out, o)
+    show_checks(text, reading, out, o)
 }
 
 // "splits", and what follows; b is lent to splitting.
-fn show_steps(text: &[u8], b: &mut [u8], out: &mut [u8], at: usize) -> usize
+fn show_steps(text: &[u8], reading: Reading, b: &mut [u8], out: &mut [u8], at: usize) -> usize
     requires { ⌜ length (now b) ≡ 65536 ⌝ }
-    requires { ⌜ at + length (shownSteps (now text)) ≤ length (now out) ⌝ }
-    ensures { λ r. ⌜ WroteAt (shownSteps (now (text .entry))) (now (out .entry)) at r (now (out .exit)) ⌝ }
+    requires { ⌜ at + length (shownSteps reading (now text)) ≤ length (now out) ⌝ }
+    ensures { λ r. ⌜ WroteAt (shownSteps reading (now (text .entry))) (now (out .entry)) at r (now (out .exit)) ⌝ }
 {
     let written = split(text, b);
     match written {
-        Written::Wrote(n) => show_lines(&b[..n], text, out, at),
+        Written::Wrote(n) => show_lines(&b[..n], text, reading, out, at),
         Written::Refused { number, place } => say_refusal(number, place, out, at),
     }
 }
@@ -90,25 +91,25 @@ fn say_translation(text: &[u8], out: &mut [u8], at: usize) -> usize
 }
 
 // What is said of a translation, and what follows; b is lent to splitting.
-fn show_translation(text: &[u8], b: &mut [u8], out: &mut [u8], at: usize) -> usize
+fn show_translation(text: &[u8], reading: Reading, b: &mut [u8], out: &mut [u8], at: usize) -> usize
     requires { ⌜ length (now b) ≡ 65536 ⌝ }
-    requires { ⌜ at + length (translatedLine (now text) ++ shownSteps (now text)) ≤ length (now out) ⌝ }
-    ensures { λ r. ⌜ WroteAt (translatedLine (now (text .entry)) ++ shownSteps (now (text .entry))) (now (out .entry)) at r (now (out .exit)) ⌝ }
+    requires { ⌜ at + length (translatedLine (now text) ++ shownSteps reading (now text)) ≤ length (now out) ⌝ }
+    ensures { λ r. ⌜ WroteAt (translatedLine (now (text .entry)) ++ shownSteps reading (now (text .entry))) (now (out .entry)) at r (now (out .exit)) ⌝ }
 {
     let o = say_translation(text, out, at);
-    show_steps(text, b, out, o)
+    show_steps(text, reading, b, out, o)
 }
 
-// All that is printed of a definition. a is lent to translating, b to splitting; out has room for the most that can be printed.
-pub fn show(text: &[u8], a: &mut [u8], b: &mut [u8], out: &mut [u8]) -> usize
+// All that is printed of a definition in a reading. a is lent to translating, b to splitting; out has room for the most that can be printed.
+pub fn show(text: &[u8], reading: Reading, a: &mut [u8], b: &mut [u8], out: &mut [u8]) -> usize
     requires { ⌜ length (now a) ≡ 65536 ⌝ }
     requires { ⌜ length (now b) ≡ 65536 ⌝ }
     requires { ⌜ 139264 ≤ length (now out) ⌝ }
-    ensures { λ r. ⌜ Wrote (shown (now (text .entry))) (now (out .entry)) r (now (out .exit)) ⌝ }
+    ensures { λ r. ⌜ Wrote (shown reading (now (text .entry))) (now (out .entry)) r (now (out .exit)) ⌝ }
 {
     let written = translate(text, a);
     match written {
-        Written::Wrote(n) => show_translation(&a[..n], b, out, 0),
+        Written::Wrote(n) => show_translation(&a[..n], reading, b, out, 0),
         Written::Refused { number, place } => say_refusal(number, place, out, 0),
     }
 }

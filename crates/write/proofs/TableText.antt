@@ -12,7 +12,8 @@ use lib.Dec.{ltb}
 use Rattle.rules.specs.Text.Ascii.{ascii}
 use Rattle.rules.specs.Text.Bytes.{Bytes, afterEach, joinedBy, joined}
 use Rattle.rules.specs.Text.Refusal.{Reply, answers, Lends}
-use Rattle.rules.specs.Pipeline.Record.{operator, args, made, firstBad, refusal18, listed}
+use Rattle.rules.specs.Pipeline.Record.{operator, args, made, tableReading, goodIn, firstBad, refusal18, listed}
+use store.Seg.{eqb-same}
 use Rattle.rules.specs.declared.Step.{Step}
 use Rattle.rules.specs.declared.Table.{Table}
 use Rattle.rules.specs.declared.Written.{Written}
@@ -143,9 +144,11 @@ module _ {text own : Bytes} {n : ℕ} {last : Bytes} (w : WroteAt text own 0 n l
 
 -- one record
 module _ (s : Step) where
-  bad-one : (b : Bool) → made s ≡ b → firstBad 1 (s ∷ []) ≡ cond b none (some 1)
-  unfolding firstBad
-  bad-one b e = rw e
+  -- in its own reading
+  bad-one : (b : Bool) → made s ≡ b → firstBad (tableReading (s ∷ [])) 1 (s ∷ []) ≡ cond b none (some 1)
+  unfolding firstBad tableReading goodIn
+  bad-one true e = rw (e, eqb-same (s .reading)) refl
+  bad-one false e = rw e refl
 
   pub one-bad : {out : Bytes} → made s ≡ false → Lends (write (s ∷ [])) out (variant.Refused 18 1) out
   unfolding write writtenUnless18 refusal18

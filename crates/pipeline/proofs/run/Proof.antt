@@ -1,4 +1,4 @@
--- `run`: three passes over the table. The first looks for a record that no preparation makes (`Checked`); the second foretells the depths
+-- `run`: three passes over the table. The first looks for a record that no preparation in the first's reading makes (`Checked`); the second foretells the depths
 -- by a run over no tuples (`Planning`); the third runs every step, and what it has done together with what is left is the written run
 -- (`Running`). Each goes i steps far, so what is left of n is the measure. Before and between them the refusals 18, 15, 16 and 17 are given
 -- in the order of the rules.
@@ -24,28 +24,28 @@ use Rattle.pipeline.proofs.run.Statement.{statement}
 use Rattle.pipeline.proofs.run.Tie as tie
 
 abbrev Inv-loop : tie.InvT-loop
-Inv-loop direction tuples columns n steps i₀ i = Checked (take n steps) i
+Inv-loop direction tuples columns n steps reading i₀ i = Checked reading (take n steps) i
 
 abbrev μ-loop : tie.MeasureT-loop
-μ-loop direction tuples columns n steps i₀ i = n - i
+μ-loop direction tuples columns n steps reading i₀ i = n - i
 
 abbrev Inv-loop2 : tie.InvT-loop2
-Inv-loop2 direction tuples columns n steps i no-tuples₀ no-columns₀ depth₀ deepest₀ i₀ no-tuples no-columns depth deepest i' =
+Inv-loop2 direction tuples columns n steps reading i no-tuples₀ no-columns₀ depth₀ deepest₀ i₀ no-tuples no-columns depth deepest i' =
     (refusal18 (listed (record { steps = steps; n = n })) ≡ none) × (badList tuples ≡ false) × Planning direction (take n steps) depth deepest i'
     × (length no-tuples ≡ 0) × (length no-columns ≡ 0)
 
 abbrev μ-loop2 : tie.MeasureT-loop2
-μ-loop2 direction tuples columns n steps i no-tuples₀ no-columns₀ depth₀ deepest₀ i₀ no-tuples no-columns depth deepest i' = n - i'
+μ-loop2 direction tuples columns n steps reading i no-tuples₀ no-columns₀ depth₀ deepest₀ i₀ no-tuples no-columns depth deepest i' = n - i'
 
 abbrev Inv-loop3 : tie.InvT-loop3
-Inv-loop3 direction tuples₀ columns₀ n steps i depth deepest i' whole used count₀ left₀ i₀ tuples columns count left i'' =
+Inv-loop3 direction tuples₀ columns₀ n steps reading i depth deepest i' whole used count₀ left₀ i₀ tuples columns count left i'' =
     (refusal18 (listed (record { steps = steps; n = n })) ≡ none) × (badList tuples₀ ≡ false)
     × (passesFrom (running direction (listed (record { steps = steps; n = n }))) 0 ≡ none)
     × (deepest ≡ deepestFrom (running direction (listed (record { steps = steps; n = n }))) 0)
     × Running direction (take n steps) deepest tuples₀ columns₀ tuples columns count left i''
 
 abbrev μ-loop3 : tie.MeasureT-loop3
-μ-loop3 direction tuples₀ columns₀ n steps i depth deepest i' whole used count₀ left₀ i₀ tuples columns count left i'' = n - i''
+μ-loop3 direction tuples₀ columns₀ n steps reading i depth deepest i' whole used count₀ left₀ i₀ tuples columns count left i'' = n - i''
 
 -- the table holds 64 records
 full : (s : tie.Start Inv-loop μ-loop Inv-loop2 μ-loop2 Inv-loop3 μ-loop3) → length (s .args .table .steps) ≡ 64
@@ -58,10 +58,13 @@ returns c =
     let t = a .table in
     refuses-18 (a .direction) (listed t) (a .tuples .now) (a .columns .now) 0 (check-long t (full s) (c .if1 .taken))
 
+array-copy-out-first : tie.Need-array-copy-out-first Inv-loop μ-loop Inv-loop2 μ-loop2 Inv-loop3 μ-loop3
+array-copy-out-first c = search needs
+
 loop-holds : tie.Need-loop-holds Inv-loop μ-loop Inv-loop2 μ-loop2 Inv-loop3 μ-loop3
 loop-holds c =
-    let t = c .before .before .before .before .args .table in
-    check-none (take (t .n) (t .steps))
+    let t = c .before .before .before .before .before .args .table in
+    check-none _ (take (t .n) (t .steps))
 
 mul-s : tie.Need-mul-s Inv-loop μ-loop Inv-loop2 μ-loop2 Inv-loop3 μ-loop3
 mul-s c = search needs
@@ -72,31 +75,31 @@ array-copy-out-s c = search needs
 add-i : tie.Need-add-i Inv-loop μ-loop Inv-loop2 μ-loop2 Inv-loop3 μ-loop3
 add-i c = search needs
 
-made-requires : tie.Need-made-requires Inv-loop μ-loop Inv-loop2 μ-loop2 Inv-loop3 μ-loop3
-made-requires c κs = search needs
+good-in-requires : tie.Need-good-in-requires Inv-loop μ-loop Inv-loop2 μ-loop2 Inv-loop3 μ-loop3
+good-in-requires c κs = search needs
 
 returns-2 : tie.Need-returns-2 Inv-loop μ-loop Inv-loop2 μ-loop2 Inv-loop3 μ-loop3
 returns-2 c =
-    let s = c .before .before .before .before .before .before .before .before .before in
-    let left = c .before .before .before .before .before .if1 .left in
+    let s = c .before .before .before .before .before .before .before .before .before .before in
+    let left = c .before .before .before .before .before .before .if1 .left in
     let loop = c .before .before .before .before .loop in
     let more = c .before .before .before .loop-test .taken in
     let a = s .args in
     let t = a .table in
-    refuses-18 (a .direction) (listed t) (a .tuples .now) (a .columns .now) _ (check-bad t (full s) left (loop .i) _ (loop .inv) more (sym (c .before .made .ensures) ∙ not-so (c .if2 .taken)))
+    refuses-18 (a .direction) (listed t) (a .tuples .now) (a .columns .now) _ (check-bad t (full s) left _ (loop .i) _ (loop .inv) more (sym (c .before .good-in .ensures) ∙ not-so (c .if2 .taken)))
 
 loop-less : tie.Need-loop-less Inv-loop μ-loop Inv-loop2 μ-loop2 Inv-loop3 μ-loop3
 loop-less c = search needs
 
 loop-again : tie.Need-loop-again Inv-loop μ-loop Inv-loop2 μ-loop2 Inv-loop3 μ-loop3
 loop-again c =
-    let s = c .before .before .before .before .before .before .before .before .before in
-    let left = c .before .before .before .before .before .if1 .left in
+    let s = c .before .before .before .before .before .before .before .before .before .before in
+    let left = c .before .before .before .before .before .before .if1 .left in
     let loop = c .before .before .before .before .loop in
     let more = c .before .before .before .loop-test .taken in
     let a = s .args in
     let t = a .table in
-    check-turn t (full s) left (loop .i) _ (loop .inv) more (sym (c .before .made .ensures) ∙ not-left (c .if2 .left))
+    check-turn t (full s) left _ (loop .i) _ (loop .inv) more (sym (c .before .good-in .ensures) ∙ not-left (c .if2 .left))
 
 is-bad-list-requires : tie.Need-is-bad-list-requires Inv-loop μ-loop Inv-loop2 μ-loop2 Inv-loop3 μ-loop3
 is-bad-list-requires c κs = search needs
@@ -106,34 +109,34 @@ same-length c = search needs
 
 returns-3 : tie.Need-returns-3 Inv-loop μ-loop Inv-loop2 μ-loop2 Inv-loop3 μ-loop3
 returns-3 c =
-    let s = c .before .before .before .before .before .before .before .before .before in
-    let left = c .before .before .before .before .before .if1 .left in
+    let s = c .before .before .before .before .before .before .before .before .before .before in
+    let left = c .before .before .before .before .before .before .if1 .left in
     let loop = c .before .before .before .before .loop in
     let done = c .before .before .before .loop-test .left in
     let a = s .args in
     let t = a .table in
-    past-18 (a .direction) (listed t) (a .tuples .now) (a .columns .now) _ _ _ (check-end t (full s) left (loop .i) (loop .inv) done)
+    past-18 (a .direction) (listed t) (a .tuples .now) (a .columns .now) _ _ _ (check-end t (full s) left _ (loop .i) (loop .inv) done)
     (refuses-15 (running (a .direction) (listed t)) (a .tuples .now) (a .columns .now) (sym (c .before .is-bad-list .ensures) ∙ c .if3 .taken))
 
 loop2-holds : tie.Need-loop2-holds Inv-loop μ-loop Inv-loop2 μ-loop2 Inv-loop3 μ-loop3
 loop2-holds c =
-    let s = c .before .before .before .before .before .before .before .before .before in
-    let left = c .before .before .before .before .before .if1 .left in
+    let s = c .before .before .before .before .before .before .before .before .before .before in
+    let left = c .before .before .before .before .before .before .if1 .left in
     let loop = c .before .before .before .before .loop in
     let done = c .before .before .before .loop-test .left in
     let a = s .args in
     let t = a .table in
-    (check-end t (full s) left (loop .i) (loop .inv) done, sym (c .before .is-bad-list .ensures) ∙ c .if3 .left, plan-none (a .direction) (take (t .n) (t .steps)), refl, refl)
+    (check-end t (full s) left _ (loop .i) (loop .inv) done, sym (c .before .is-bad-list .ensures) ∙ c .if3 .left, plan-none (a .direction) (take (t .n) (t .steps)), refl, refl)
 
 visited-of-requires : tie.Need-visited-of-requires Inv-loop μ-loop Inv-loop2 μ-loop2 Inv-loop3 μ-loop3
 visited-of-requires c κs = omega arith
 
 mul-s-2 : tie.Need-mul-s-2 Inv-loop μ-loop Inv-loop2 μ-loop2 Inv-loop3 μ-loop3
-mul-s-2 c = omega (arith, c .before .before .before .before .before .before .before .before .if1 .left, c .visited-of .ensures .1)
+mul-s-2 c = omega (arith, c .before .before .before .before .before .before .before .before .before .if1 .left, c .visited-of .ensures .1)
 
 array-copy-out-s-2 : tie.Need-array-copy-out-s-2 Inv-loop μ-loop Inv-loop2 μ-loop2 Inv-loop3 μ-loop3
 array-copy-out-s-2 c =
-    let left = c .before .before .before .before .before .before .before .before .if1 .left in
+    let left = c .before .before .before .before .before .before .before .before .before .if1 .left in
     omega (arith, left, c .visited-of .ensures .1)
 
 slice-aggregate-run-step : tie.Need-slice-aggregate-run-step Inv-loop μ-loop Inv-loop2 μ-loop2 Inv-loop3 μ-loop3
@@ -144,16 +147,16 @@ slice-aggregate-run-step-2 c = search needs
 
 run-step-requires : tie.Need-run-step-requires Inv-loop μ-loop Inv-loop2 μ-loop2 Inv-loop3 μ-loop3
 run-step-requires c κs =
-    let s = c .before .before .before .before .before .before .before .before .before .before .before .before .before .before .before in
+    let s = c .before .before .before .before .before .before .before .before .before .before .before .before .before .before .before .before in
     let l = c .before .before .before .before .before .loop2 in
     let visited-of = c .before .before .before .visited-of .ensures in
     let t = s .args .table in
     let v = l .inv in
     (v .2 .within, (table-made t (full s) (v .0) _ _ (visited-of .1), (no-room _ (l .no-tuples) (l .no-columns) (v .3), no-room _ (l .no-tuples) (l .no-columns) (v .3))))
 
-add-t44 : tie.Need-add-t44 Inv-loop μ-loop Inv-loop2 μ-loop2 Inv-loop3 μ-loop3
-add-t44 c =
-    let left = c .before .before .before .before .before .before .before .before .before .before .before .before .before .before .before .if1 .left in
+add-t49 : tie.Need-add-t49 Inv-loop μ-loop Inv-loop2 μ-loop2 Inv-loop3 μ-loop3
+add-t49 c =
+    let left = c .before .before .before .before .before .before .before .before .before .before .before .before .before .before .before .before .if1 .left in
     let visited-of = c .before .before .before .before .before .before .before .visited-of .ensures in
     omega (arith, left, visited-of .1)
 
@@ -162,7 +165,7 @@ same-length-2 c = search needs
 
 returns-4 : tie.Need-returns-4 Inv-loop μ-loop Inv-loop2 μ-loop2 Inv-loop3 μ-loop3
 returns-4 c =
-    let s = c .before .before .before .before .before .before .before .before .before .before .before .before .before .before .before .before .before .before .before in
+    let s = c .before .before .before .before .before .before .before .before .before .before .before .before .before .before .before .before .before .before .before .before in
     let l = c .before .before .before .before .before .before .before .before .before .loop2 in
     let loop2-test = c .before .before .before .before .before .before .before .before .loop2-test in
     let at = c .before .before .before .before .before .before .before .visited-of .ensures in
@@ -187,7 +190,7 @@ loop2-less c = omega arith
 
 loop2-again : tie.Need-loop2-again Inv-loop μ-loop Inv-loop2 μ-loop2 Inv-loop3 μ-loop3
 loop2-again c =
-    let s = c .before .before .before .before .before .before .before .before .before .before .before .before .before .before .before .before .before .before .before .before in
+    let s = c .before .before .before .before .before .before .before .before .before .before .before .before .before .before .before .before .before .before .before .before .before in
     let l = c .before .before .before .before .before .before .before .before .before .before .loop2 in
     let loop2-test = c .before .before .before .before .before .before .before .before .before .loop2-test in
     let at = c .before .before .before .before .before .before .before .before .visited-of .ensures in
@@ -205,7 +208,7 @@ loop2-again c =
 
 mul-used : tie.Need-mul-used Inv-loop μ-loop Inv-loop2 μ-loop2 Inv-loop3 μ-loop3
 mul-used c =
-    let s = c .before .before .before .before .before .before .before .before .before .before .before in
+    let s = c .before .before .before .before .before .before .before .before .before .before .before .before in
     let a = s .args in
     let t = a .table in
     let l = c .before .loop2 in
@@ -218,7 +221,7 @@ same-length-3 c = search needs
 
 returns-5 : tie.Need-returns-5 Inv-loop μ-loop Inv-loop2 μ-loop2 Inv-loop3 μ-loop3
 returns-5 c =
-    let s = c .before .before .before .before .before .before .before .before .before .before .before .before in
+    let s = c .before .before .before .before .before .before .before .before .before .before .before .before .before in
     let l = c .before .before .loop2 in
     let a = s .args in
     let t = a .table in
@@ -231,7 +234,7 @@ returns-5 c =
 
 loop3-holds : tie.Need-loop3-holds Inv-loop μ-loop Inv-loop2 μ-loop2 Inv-loop3 μ-loop3
 loop3-holds c =
-    let s = c .before .before .before .before .before .before .before .before .before .before .before .before in
+    let s = c .before .before .before .before .before .before .before .before .before .before .before .before .before in
     let a = s .args in
     let t = a .table in
     let l = c .before .before .loop2 in
@@ -244,17 +247,17 @@ visited-of-requires-2 c κs = omega arith
 
 mul-s-3 : tie.Need-mul-s-3 Inv-loop μ-loop Inv-loop2 μ-loop2 Inv-loop3 μ-loop3
 mul-s-3 c =
-    let left = c .before .before .before .before .before .before .before .before .before .before .before .if1 .left in
+    let left = c .before .before .before .before .before .before .before .before .before .before .before .before .if1 .left in
     omega (arith, left, c .visited-of2 .ensures .1)
 
 array-copy-out-s-3 : tie.Need-array-copy-out-s-3 Inv-loop μ-loop Inv-loop2 μ-loop2 Inv-loop3 μ-loop3
 array-copy-out-s-3 c =
-    let left = c .before .before .before .before .before .before .before .before .before .before .before .if1 .left in
+    let left = c .before .before .before .before .before .before .before .before .before .before .before .before .if1 .left in
     omega (arith, left, c .visited-of2 .ensures .1)
 
 run-step-requires-2 : tie.Need-run-step-requires-2 Inv-loop μ-loop Inv-loop2 μ-loop2 Inv-loop3 μ-loop3
 run-step-requires-2 c κs =
-    let s = c .before .before .before .before .before .before .before .before .before .before .before .before .before .before .before .before .before .before in
+    let s = c .before .before .before .before .before .before .before .before .before .before .before .before .before .before .before .before .before .before .before in
     let deep = c .before .before .before .before .before .before .before .before .loop2 .deepest in
     let left = c .before .before .before .before .before .before .if5 .left in
     let l = c .before .before .before .before .before .loop3 in
@@ -286,10 +289,9 @@ loop3-less c = omega arith
 
 loop3-again : tie.Need-loop3-again Inv-loop μ-loop Inv-loop2 μ-loop2 Inv-loop3 μ-loop3
 loop3-again c =
-    let turn = c .before .before .before .before .before .before .before .before .before .before .before in
-    let s = turn .before .before .before .before .before .before .before .before .before .before .before .before .before in
-    let loop = turn .before .before .before .loop2 in
-    let l = turn .loop3 in
+    let s = c .before .before .before .before .before .before .before .before .before .before .before .before .before .before .before .before .before .before .before .before .before .before .before .before .before in
+    let loop = c .before .before .before .before .before .before .before .before .before .before .before .before .before .before .loop2 in
+    let l = c .before .before .before .before .before .before .before .before .before .before .before .loop3 in
     let loop3-test = c .before .before .before .before .before .before .before .before .before .before .loop3-test in
     let at = c .before .before .before .before .before .before .before .before .before .visited-of2 .ensures in
     let did = c .before .before .before .before .before .run-step2 in
@@ -311,7 +313,7 @@ loop3-again c =
 
 mul-zero-rest : tie.Need-mul-zero-rest Inv-loop μ-loop Inv-loop2 μ-loop2 Inv-loop3 μ-loop3
 mul-zero-rest c =
-    let s = c .before .before .before .before .before .before .before .before .before .before .before .before .before .before .before in
+    let s = c .before .before .before .before .before .before .before .before .before .before .before .before .before .before .before .before in
     let deep = c .before .before .before .before .before .loop2 .deepest in
     let l = c .before .before .loop3 in
     let a = s .args in
@@ -327,7 +329,7 @@ mul-zero-rest c =
 
 zero-rest-requires : tie.Need-zero-rest-requires Inv-loop μ-loop Inv-loop2 μ-loop2 Inv-loop3 μ-loop3
 zero-rest-requires c κs =
-    let s = c .before .before .before .before .before .before .before .before .before .before .before .before .before .before .before in
+    let s = c .before .before .before .before .before .before .before .before .before .before .before .before .before .before .before .before in
     let deep = c .before .before .before .before .before .loop2 .deepest in
     let left = c .before .before .before .if5 .left in
     let l = c .before .before .loop3 in
@@ -348,7 +350,7 @@ same-length-5 c = c .before .before .zero-rest .kept .0 ∙ c .before .before .b
 
 returns-6 : tie.Need-returns-6 Inv-loop μ-loop Inv-loop2 μ-loop2 Inv-loop3 μ-loop3
 returns-6 c =
-    let s = c .before .before .before .before .before .before .before .before .before .before .before .before .before .before .before .before .before .before in
+    let s = c .before .before .before .before .before .before .before .before .before .before .before .before .before .before .before .before .before .before .before in
     let deep = c .before .before .before .before .before .before .before .before .loop2 .deepest in
     let left = c .before .before .before .before .before .before .if5 .left in
     let l = c .before .before .before .before .before .loop3 in
@@ -375,11 +377,12 @@ run-spec =
     Inv-loop3
     μ-loop3
     returns
+    array-copy-out-first
     loop-holds
     mul-s
     array-copy-out-s
     add-i
-    made-requires
+    good-in-requires
     returns-2
     loop-less
     loop-again
@@ -393,7 +396,7 @@ run-spec =
     slice-aggregate-run-step
     slice-aggregate-run-step-2
     run-step-requires
-    add-t44
+    add-t49
     same-length-2
     returns-4
     max-of-requires

@@ -27,12 +27,13 @@ show-translation-requires : tie.Need-show-translation-requires
 show-translation-requires c κs =
     let t = c .before .before .before .before .before .before .before .before .before .before .before .before .before .before in (
       t .pre .1 .0,
-      room-so (shown (t .args .text .now))
+      room-so (shown (t .args .reading) (t .args .text .now))
           (translatedLine (take (c .before .before .before .before .written .given .0 .0) (c .before .before .before .before .before .before .before .before .translate .last .1 .0)) ++ shownSteps
+          (t .args .reading)
           (take (c .before .before .before .before .written .given .0 .0) (c .before .before .before .before .before .before .before .before .translate .last .1 .0))) (t .args .out .now) 0
-          (text-wrote (t .args .text .now)
+          (text-wrote (t .args .reading) (t .args .text .now)
           (called-wrote (c .before .before .before .before .written .given .1) (c .before .before .before .before .before .before .before .before .translate .ensures) (t .pre .0)
-          (c .before .before .before .before .before .before .before .before .translate .kept .1 .0))) (shown-room (t .args .text .now) (t .args .out .now) (t .pre .1 .1)),
+          (c .before .before .before .before .before .before .before .before .translate .kept .1 .0))) (shown-room (t .args .reading) (t .args .text .now) (t .args .out .now) (t .pre .1 .1)),
     )
 
 enum-known-written-2 : tie.Need-enum-known-written-2
@@ -41,9 +42,9 @@ enum-known-written-2 c = search needs
 say-refusal-requires : tie.Need-say-refusal-requires
 say-refusal-requires c κs =
     let t = c .before .before .before .before .before .before .before .before .before .before .before .before in
-    room-so (shown (t .args .text .now)) (line (refusalText (c .before .before .written2 .given .0 .0) (c .before .before .written2 .given .0 .1 .0))) (t .args .out .now) 0
-    (text-refused (t .args .text .now) (called-refused (c .before .before .written2 .given .1) (c .before .before .before .before .before .before .translate .ensures) (t .pre .0)))
-    (shown-room (t .args .text .now) (t .args .out .now) (t .pre .1 .1))
+    room-so (shown (t .args .reading) (t .args .text .now)) (line (refusalText (c .before .before .written2 .given .0 .0) (c .before .before .written2 .given .0 .1 .0))) (t .args .out .now) 0
+    (text-refused (t .args .reading) (t .args .text .now) (called-refused (c .before .before .written2 .given .1) (c .before .before .before .before .before .before .translate .ensures) (t .pre .0)))
+    (shown-room (t .args .reading) (t .args .text .now) (t .args .out .now) (t .pre .1 .1))
 
 same-length : tie.Need-same-length
 same-length c = search needs
@@ -57,12 +58,12 @@ same-length-3 c = search needs
 returns : tie.Need-returns
 returns c =
     let t = c .before .before .before .before .before .before .before .before .before .before .before .before .before .before .before .before .before .before .before in
-    front-so (said-so (shown (t .args .text .now))
+    front-so (said-so (shown (t .args .reading) (t .args .text .now))
     (translatedLine (take (c .before .before .before .before .before .before .before .before .before .written .given .0 .0)
-    (c .before .before .before .before .before .before .before .before .before .before .before .before .before .translate .last .1 .0)) ++ shownSteps
+    (c .before .before .before .before .before .before .before .before .before .before .before .before .before .translate .last .1 .0)) ++ shownSteps (t .args .reading)
     (take (c .before .before .before .before .before .before .before .before .before .written .given .0 .0)
     (c .before .before .before .before .before .before .before .before .before .before .before .before .before .translate .last .1 .0))) (t .args .out .now) 0
-    (text-wrote (t .args .text .now)
+    (text-wrote (t .args .reading) (t .args .text .now)
     (called-wrote (c .before .before .before .before .before .before .before .before .before .written .given .1)
     (c .before .before .before .before .before .before .before .before .before .before .before .before .before .translate .ensures) (t .pre .0)
     (c .before .before .before .before .before .before .before .before .before .before .before .before .before .translate .kept .1 .0))) (c .before .before .before .before .show-translation .ensures))
@@ -76,9 +77,9 @@ same-length-5 c = search needs
 returns-2 : tie.Need-returns-2
 returns-2 c =
     let t = c .before .before .before .before .before .before .before .before .before .before .before .before .before .before .before in
-    front-so (said-so (shown (t .args .text .now))
+    front-so (said-so (shown (t .args .reading) (t .args .text .now))
     (line (refusalText (c .before .before .before .before .before .written2 .given .0 .0) (c .before .before .before .before .before .written2 .given .0 .1 .0))) (t .args .out .now) 0
-    (text-refused (t .args .text .now)
+    (text-refused (t .args .reading) (t .args .text .now)
     (called-refused (c .before .before .before .before .before .written2 .given .1) (c .before .before .before .before .before .before .before .before .before .translate .ensures) (t .pre .0)))
     (c .before .before .say-refusal .ensures))
 

@@ -11,8 +11,8 @@ use Rattle.show.proofs.show_checks.Tie as tie
 empty-requires : tie.Need-empty-requires
 empty-requires c κs = search needs
 
-prepare-requires : tie.Need-prepare-requires
-prepare-requires c κs = search needs
+prepare-as-requires : tie.Need-prepare-as-requires
+prepare-as-requires c κs = search needs
 
 enum-known-answer : tie.Need-enum-known-answer
 enum-known-answer c = search needs
@@ -23,9 +23,10 @@ first-of-requires c κs = search needs
 say-checks-requires : tie.Need-say-checks-requires
 say-checks-requires c κs =
     let t = c .before .before .before .before .before .before .before .before .before .before in
-    room-so (shownChecks (t .args .text .now)) (bothChecks (listed (c .before .first-of .result))) (t .args .out .now) (t .args .at)
-    (checks-told (t .args .text .now)
-    (prepare-steps (t .args .text .now) (c .before .before .before .before .before .before .before .empty .ensures) (c .before .before .before .before .before .before .prepare .ensures)
+    room-so (shownChecks (t .args .reading) (t .args .text .now)) (bothChecks (listed (c .before .first-of .result))) (t .args .out .now) (t .args .at)
+    (checks-told (t .args .reading) (t .args .text .now)
+    (prepare-steps (t .args .reading) (t .args .text .now) (c .before .before .before .before .before .before .before .empty .ensures)
+    (c .before .before .before .before .before .before .prepare-as .ensures)
     (c .before .before .before .before .answer .given .1) (c .before .first-of .ensures))) (t .pre)
 
 enum-known-answer-2 : tie.Need-enum-known-answer-2
@@ -34,10 +35,11 @@ enum-known-answer-2 c = search needs
 say-refusal-requires : tie.Need-say-refusal-requires
 say-refusal-requires c κs =
     let t = c .before .before .before .before .before .before .before .before in
-    room-so (shownChecks (t .args .text .now)) (line (refusalText (c .before .before .answer2 .given .0 .0) (c .before .before .answer2 .given .0 .1 .0))) (t .args .out .now) (t .args .at)
-    (checks-refused (t .args .text .now)
-    (prepare-refused (t .args .text .now) (c .before .before .before .before .before .empty .ensures) (c .before .before .before .before .prepare .ensures) (c .before .before .answer2 .given .1)))
-    (t .pre)
+    room-so (shownChecks (t .args .reading) (t .args .text .now)) (line (refusalText (c .before .before .answer2 .given .0 .0) (c .before .before .answer2 .given .0 .1 .0)))
+    (t .args .out .now) (t .args .at)
+    (checks-refused (t .args .reading) (t .args .text .now)
+    (prepare-refused (t .args .reading) (t .args .text .now) (c .before .before .before .before .before .empty .ensures) (c .before .before .before .before .prepare-as .ensures)
+    (c .before .before .answer2 .given .1))) (t .pre)
 
 same-length : tie.Need-same-length
 same-length c = search needs
@@ -45,10 +47,10 @@ same-length c = search needs
 returns : tie.Need-returns
 returns c =
     let t = c .before .before .before .before .before .before .before .before .before .before .before .before .before in
-    said-so (shownChecks (t .args .text .now)) (bothChecks (listed (c .before .before .before .before .first-of .result))) (t .args .out .now) (t .args .at)
-    (checks-told (t .args .text .now)
-    (prepare-steps (t .args .text .now) (c .before .before .before .before .before .before .before .before .before .before .empty .ensures)
-    (c .before .before .before .before .before .before .before .before .before .prepare .ensures) (c .before .before .before .before .before .before .before .answer .given .1)
+    said-so (shownChecks (t .args .reading) (t .args .text .now)) (bothChecks (listed (c .before .before .before .before .first-of .result))) (t .args .out .now) (t .args .at)
+    (checks-told (t .args .reading) (t .args .text .now)
+    (prepare-steps (t .args .reading) (t .args .text .now) (c .before .before .before .before .before .before .before .before .before .before .empty .ensures)
+    (c .before .before .before .before .before .before .before .before .before .prepare-as .ensures) (c .before .before .before .before .before .before .before .answer .given .1)
     (c .before .before .before .before .first-of .ensures))) (c .before .before .say-checks .ensures)
 
 same-length-2 : tie.Need-same-length-2
@@ -57,18 +59,18 @@ same-length-2 c = search needs
 returns-2 : tie.Need-returns-2
 returns-2 c =
     let t = c .before .before .before .before .before .before .before .before .before .before .before in
-    said-so (shownChecks (t .args .text .now))
+    said-so (shownChecks (t .args .reading) (t .args .text .now))
     (line (refusalText (c .before .before .before .before .before .answer2 .given .0 .0) (c .before .before .before .before .before .answer2 .given .0 .1 .0))) (t .args .out .now) (t .args .at)
-    (checks-refused (t .args .text .now)
-    (prepare-refused (t .args .text .now) (c .before .before .before .before .before .before .before .before .empty .ensures)
-    (c .before .before .before .before .before .before .before .prepare .ensures) (c .before .before .before .before .before .answer2 .given .1))) (c .before .before .say-refusal .ensures)
+    (checks-refused (t .args .reading) (t .args .text .now)
+    (prepare-refused (t .args .reading) (t .args .text .now) (c .before .before .before .before .before .before .before .before .empty .ensures)
+    (c .before .before .before .before .before .before .before .prepare-as .ensures) (c .before .before .before .before .before .answer2 .given .1))) (c .before .before .say-refusal .ensures)
 
 pub show-checks-spec : {M : Type 1} → statement M
 show-checks-spec =
     tie.close
     (tie.spec
     empty-requires
-    prepare-requires
+    prepare-as-requires
     enum-known-answer
     first-of-requires
     say-checks-requires

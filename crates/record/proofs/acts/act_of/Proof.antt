@@ -1,11 +1,12 @@
 -- `act_of`: each arm knows which operators it has, and a record that passes `made` keeps their rule on arguments; so what the operator's
--- own call ensures is what the rules say. Only the two whose direction `inv` turns are given it turned.
+-- own call ensures in the step's own direction is what the rules say.
+use mathlib.Core.Path.{refl}
 use native.Mathlib.Omega.{arith}
 use Rattle.rules.specs.Pipeline.Record.{args}
 use Rattle.laws_records.specs.MadeSo.{made-so}
 use Rattle.columns.proofs.DoesSo.{does-as}
 use Rattle.record.proofs.OperatorRules.{the-last}
-use Rattle.record.proofs.Directed.{flags-rule, action-rule, order-rule, adapt-rule, unturned, turned-order, turned-adapt}
+use Rattle.record.proofs.Directed.{flags-rule, action-rule, order-rule, adapt-rule, the-order, does-so}
 use borrow.Author.Needs.{needs}
 use Rattle.record.proofs.acts.act_of.Statement.{statement}
 use Rattle.record.proofs.acts.act_of.Tie as tie
@@ -13,71 +14,67 @@ use Rattle.record.proofs.acts.act_of.Tie as tie
 cast-n : tie.Need-cast-n
 cast-n c = search needs
 
-turned-requires : tie.Need-turned-requires
-turned-requires c κs = search needs
+directed-requires : tie.Need-directed-requires
+directed-requires c κs = search needs
 
 act-of-requires : tie.Need-act-of-requires
 unfolding args
 act-of-requires c κs =
     let s = c .before .before .before .before in
-    (made-so _ (s .pre) .slots, order-rule _ (s .pre) (c .before .match .keys1))
+    (made-so _ (s .pre) .slots, order-rule _ (s .pre) (c .match .keys1))
 
 act-of-requires-2 : tie.Need-act-of-requires-2
 unfolding args
 act-of-requires-2 c κs =
-    let s = c .before .before .before .before in
+    let s = c .before .before .before .before .before in
     (omega (arith, c .if1 .taken), (made-so _ (s .pre) .slots, flags-rule _ (s .pre) (omega (arith, c .if1 .taken))))
 
 act-of-requires-3 : tie.Need-act-of-requires-3
 act-of-requires-3 c κs =
-    let s = c .before .before .before .before .before in
+    let s = c .before .before .before .before .before .before in
     action-rule _ (s .pre) (omega (arith, c .before .if1 .left)) (omega (arith, c .if2 .taken))
-
-turned-requires-2 : tie.Need-turned-requires-2
-turned-requires-2 c κs = search needs
 
 act-of-requires-4 : tie.Need-act-of-requires-4
 unfolding args
 act-of-requires-4 c κs =
     let s = c .before .before .before .before .before .before in
-    let match = c .before .before .before .match in
-    (made-so _ (s .pre) .slots, adapt-rule _ (s .pre) (the-last _ (omega (arith, c .before .if2 .left)) (match .rest .1)))
+    let match = c .before .before .match in
+    (made-so _ (s .pre) .slots, adapt-rule _ (s .pre) (the-last _ (omega (arith, c .if2 .left)) (match .rest .1)))
 
 returns : tie.Need-returns
 unfolding args
 returns c =
     let s = c .before .before .before .before .before in
-    does-as (turned-order (s .args .direction) (s .args .step) (c .before .before .match .keys1) (c .before .turned .ensures)) (c .act-of .ensures)
+    does-as (does-so (s .args .direction) (s .args .step) (the-order (c .before .match .keys1)) (c .before .before .directed .ensures)) (c .act-of .ensures)
 
 returns-2 : tie.Need-returns-2
 unfolding args
 returns-2 c =
-    let s = c .before .before .before .before .before in
-    does-as (unturned (s .args .direction) (s .args .step) (omega (arith, c .before .if1 .taken))) (c .act-of2 .ensures)
+    let s = c .before .before .before .before .before .before in
+    does-as (does-so (s .args .direction) (s .args .step) refl (c .before .before .before .directed .ensures)) (c .act-of2 .ensures)
 
 returns-3 : tie.Need-returns-3
 unfolding args
 returns-3 c =
-    let s = c .before .before .before .before .before .before in
-    does-as (unturned (s .args .direction) (s .args .step) (omega (arith, c .before .if2 .taken))) (c .act-of3 .ensures)
+    let s = c .before .before .before .before .before .before .before in
+    does-as (does-so (s .args .direction) (s .args .step) refl (c .before .before .before .before .directed .ensures)) (c .act-of3 .ensures)
 
 returns-4 : tie.Need-returns-4
 unfolding args
 returns-4 c =
     let s = c .before .before .before .before .before .before .before in
-    let match = c .before .before .before .before .match in
-    does-as (turned-adapt (s .args .direction) (s .args .step) (the-last _ (omega (arith, c .before .before .if2 .left)) (match .rest .1)) (c .before .turned2 .ensures)) (c .act-of4 .ensures)
+    let match = c .before .before .before .match in
+    does-as (does-so (s .args .direction) (s .args .step) (the-last _ (omega (arith, c .before .if2 .left)) (match .rest .1)) (c .before .before .before .before .directed .ensures)) (c .act-of4 .ensures)
 
 pub act-of-spec : {M : Type 1} → statement M
 act-of-spec =
     tie.close
     (tie.spec
     cast-n
-    turned-requires
+    directed-requires
     act-of-requires
     act-of-requires-2
     act-of-requires-3
-    turned-requires-2
     act-of-requires-4
     returns
     returns-2

@@ -1,4 +1,4 @@
--- `is_marked`: the three tests are those of `isMarked`, in its order; the first that fails decides.
+-- `is_marked`: the four tests are those of `isMarked`, in its order; the first that fails decides.
 use mathlib.Core.Path.{refl}
 use borrow.Author.Tests.{le-leb, lt-leb}
 use Rattle.record.specs.Records.{isMarked}
@@ -15,7 +15,11 @@ returns-2 c = rw (le-leb _ _ (c .before .before .if1 .left), lt-leb _ _ (c .if2 
 
 returns-3 : tie.Need-returns-3
 unfolding isMarked
-returns-3 c = rw (le-leb _ _ (c .before .before .before .if1 .left), le-leb _ _ (c .before .if2 .left)) refl
+returns-3 c = rw (le-leb _ _ (c .before .before .before .before .if1 .left), le-leb _ _ (c .before .before .if2 .left), lt-leb _ _ (c .if3 .taken)) refl
+
+returns-4 : tie.Need-returns-4
+unfolding isMarked
+returns-4 c = rw (le-leb _ _ (c .before .before .before .before .before .if1 .left), le-leb _ _ (c .before .before .before .if2 .left), le-leb _ _ (c .before .if3 .left)) refl
 
 pub is-marked-spec : {M : Type 1} → statement M
-is-marked-spec = tie.close (tie.spec returns returns-2 returns-3)
+is-marked-spec = tie.close (tie.spec returns returns-2 returns-3 returns-4)

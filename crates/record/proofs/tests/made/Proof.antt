@@ -34,7 +34,7 @@ is-written-requires : tie.Need-is-written-requires
 is-written-requires c κs =
     let t = c .before .before .before .before .before .before .before .before .before in
     let left = c .before .before .before .before .before .if2 .left in
-    omega (arith, left, sym (length-map (t .args .s .args) _) ∙ t .good .0 .1 .1 .1 .1 .1 .1 .1 .0 .1 .0 .1)
+    omega (arith, left, sym (length-map (t .args .s .args) _) ∙ t .good .0 .1 .1 .1 .1 .1 .1 .1 .1 .0 .1 .0 .1)
 
 returns-4 : tie.Need-returns-4
 unfolding args unused

@@ -14,7 +14,7 @@ use Rattle.write.proofs.words.step.Tie as tie
 
 -- no more arguments than slots
 few : (s : tie.Start) → s .args .s .n ≤ length (s .args .s .args)
-few s = omega (arith, made-so _ (s .pre .0) .slots, sym (length-map (s .args .s .args) _) ∙ s .good .0 .1 .1 .1 .1 .1 .1 .1 .0 .1 .0 .1)
+few s = omega (arith, made-so _ (s .pre .0) .slots, sym (length-map (s .args .s .args) _) ∙ s .good .0 .1 .1 .1 .1 .1 .1 .1 .1 .0 .1 .0 .1)
 
 cast-n : tie.Need-cast-n
 cast-n c = search needs
