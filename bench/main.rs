@@ -37,6 +37,7 @@ struct Step {
     inv: u8,
     omit_fwd: u8,
     omit_inv: u8,
+    reading: u8,
     args: [i32; 8],
 }
 

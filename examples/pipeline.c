@@ -1,7 +1,10 @@
 /* Prepares, checks and runs definitions through the library.
  *
- *     pipeline            reads one definition from standard input and says what becomes of it, and of the tuple 1,2,3,4
- *     pipeline -x         the same for each line of standard input, which holds a definition in hexadecimal digits
+ *     pipeline [-p | -m]      reads one definition from standard input and says what becomes of it, and of the tuple 1,2,3,4
+ *     pipeline [-p | -m] -x   the same for each line of standard input, which holds a definition in hexadecimal digits
+ *
+ * With -p the definition is read in PROJ's reading. With -m the first record is then marked as of the crate's: a mixture, which is
+ * refused.
  *
  * examples/run builds it.
  */
@@ -36,14 +39,20 @@ static void say_run(const char *direction, const sakondreno_step *table, size_t 
         printf("%s: %.17g,%.17g,%.17g,%.17g count %zu left %zu\n", direction, tuple[0], tuple[1], tuple[2], tuple[3], d.count, d.left);
 }
 
-static void say(const uint8_t *text, size_t length)
+/* How a definition is read. */
+typedef enum { AS_CRATE, AS_PROJ, MIXED } way;
+
+static void say(const uint8_t *text, size_t length, way how)
 {
     sakondreno_step table[64];
-    sakondreno_answer p = sakondreno_prepare(text, length, table, 64);
+    sakondreno_answer p = how == AS_CRATE ? sakondreno_prepare(text, length, table, 64)
+                                          : sakondreno_prepare_as(text, length, SAKONDRENO_PROJ, table, 64);
     if (p.number != 0) {
         printf("refused %u %zu\n", p.number, p.place);
         return;
     }
+    if (how == MIXED && p.length > 0)
+        table[0].reading = SAKONDRENO_CRATE;
     printf("steps %zu\n", p.length);
     say_check("check forward", table, p.length, 0);
     say_check("check inverse", table, p.length, 1);
@@ -56,18 +65,27 @@ static int digit(int c)
     return c <= '9' ? c - '0' : (c | 32) - 'a' + 10;
 }
 
+static bool given(int argc, char **argv, const char *option)
+{
+    for (int i = 1; i < argc; i++)
+        if (strcmp(argv[i], option) == 0)
+            return true;
+    return false;
+}
+
 int main(int argc, char **argv)
 {
     static uint8_t text[65536], line[131075];
-    if (argc < 2 || strcmp(argv[1], "-x") != 0) {
-        say(text, fread(text, 1, sizeof text, stdin));
+    way how = given(argc, argv, "-p") ? AS_PROJ : given(argc, argv, "-m") ? MIXED : AS_CRATE;
+    if (!given(argc, argv, "-x")) {
+        say(text, fread(text, 1, sizeof text, stdin), how);
         return 0;
     }
     while (fgets((char *)line, sizeof line, stdin)) {
         size_t n = strcspn((char *)line, "\n") / 2;
         for (size_t i = 0; i < n; i++)
             text[i] = (uint8_t)(digit(line[2 * i]) << 4 | digit(line[2 * i + 1]));
-        say(text, n);
+        say(text, n, how);
     }
     return 0;
 }

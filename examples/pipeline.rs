@@ -1,12 +1,22 @@
 //! Prepares, checks and runs definitions through the library: the same as pipeline.c, from Rust.
 //!
-//!     pipeline            reads one definition from standard input and says what becomes of it, and of the tuple 1,2,3,4
-//!     pipeline -x         the same for each line of standard input, which holds a definition in hexadecimal digits
+//!     pipeline [-p | -m]      reads one definition from standard input and says what becomes of it, and of the tuple 1,2,3,4
+//!     pipeline [-p | -m] -x   the same for each line of standard input, which holds a definition in hexadecimal digits
+//!
+//! With -p the definition is read in PROJ's reading. With -m the first record is then marked as of the crate's: a mixture, which is
+//! refused.
 //!
 //! examples/run builds it. `mod sakondreno` is what a Rust program needs of the library: the records and the calls, each in
 //! a safe wrapper. The calls keep no reference, write only to what they are lent, and end on every input.
 
 mod sakondreno {
+    /// The readings of a definition, by their numbers in a record.
+    #[derive(Clone, Copy)]
+    pub enum Reading {
+        Crate = 0,
+        Proj = 1,
+    }
+
     #[repr(C)]
     #[derive(Clone, Copy, Default)]
     pub struct Step {
@@ -15,6 +25,7 @@ mod sakondreno {
         pub inv: u8,
         pub omit_fwd: u8,
         pub omit_inv: u8,
+        pub reading: u8,
         pub args: [i32; 8],
     }
 
@@ -65,19 +76,32 @@ mod sakondreno {
 
     unsafe extern "C" {
         fn sakondreno_prepare(text: *const u8, length: usize, table: *mut Step, room: usize) -> Answer;
+        fn sakondreno_prepare_as(text: *const u8, length: usize, reading: u8, table: *mut Step, room: usize) -> Answer;
         fn sakondreno_check(table: *const Step, steps: usize, inverse: u8) -> Checked;
         fn sakondreno_run(table: *const Step, steps: usize, inverse: u8, tuples: *mut f64, numbers: usize, store: *mut f64, room: usize) -> Done;
     }
 
-    /// The records of a definition.
-    pub fn prepare(text: &[u8]) -> Result<Vec<Step>, Refused> {
-        let mut table = vec![Step::default(); 64];
-        let a = unsafe { sakondreno_prepare(text.as_ptr(), text.len(), table.as_mut_ptr(), table.len()) };
+    /// The first records of a row, or the refusal, as the answer has it.
+    fn answered(a: Answer, mut table: Vec<Step>) -> Result<Vec<Step>, Refused> {
         if a.number != 0 {
             return Err(Refused { number: a.number, place: a.place });
         }
         table.truncate(a.length);
         Ok(table)
+    }
+
+    /// The records of a definition, in the crate's reading.
+    pub fn prepare(text: &[u8]) -> Result<Vec<Step>, Refused> {
+        let mut table = vec![Step::default(); 64];
+        let a = unsafe { sakondreno_prepare(text.as_ptr(), text.len(), table.as_mut_ptr(), table.len()) };
+        answered(a, table)
+    }
+
+    /// The records of a definition, in a reading.
+    pub fn prepare_as(text: &[u8], reading: Reading) -> Result<Vec<Step>, Refused> {
+        let mut table = vec![Step::default(); 64];
+        let a = unsafe { sakondreno_prepare_as(text.as_ptr(), text.len(), reading as u8, table.as_mut_ptr(), table.len()) };
+        answered(a, table)
     }
 
     /// What a run will do.
@@ -95,7 +119,7 @@ mod sakondreno {
     }
 }
 
-use sakondreno::{Step, check, prepare, run};
+use sakondreno::{Reading, Step, check, prepare, prepare_as, run};
 use std::io::{BufRead, Read, Write};
 
 fn say_check(out: &mut impl Write, direction: &str, table: &[Step], inverse: bool) -> std::io::Result<()> {
@@ -126,11 +150,23 @@ fn say_run(out: &mut impl Write, direction: &str, table: &[Step], inverse: bool)
     }
 }
 
-fn say(out: &mut impl Write, text: &[u8]) -> std::io::Result<()> {
-    let table = match prepare(text) {
+/// How a definition is read.
+#[derive(Clone, Copy, PartialEq)]
+enum Way {
+    AsCrate,
+    AsProj,
+    Mixed,
+}
+
+fn say(out: &mut impl Write, text: &[u8], way: Way) -> std::io::Result<()> {
+    let prepared = if way == Way::AsCrate { prepare(text) } else { prepare_as(text, Reading::Proj) };
+    let mut table = match prepared {
         Err(r) => return writeln!(out, "refused {} {}", r.number, r.place),
         Ok(table) => table,
     };
+    if way == Way::Mixed && !table.is_empty() {
+        table[0].reading = Reading::Crate as u8;
+    }
     writeln!(out, "steps {}", table.len())?;
     say_check(out, "check forward", &table, false)?;
     say_check(out, "check inverse", &table, true)?;
@@ -140,15 +176,17 @@ fn say(out: &mut impl Write, text: &[u8]) -> std::io::Result<()> {
 
 fn main() -> std::io::Result<()> {
     let mut out = std::io::BufWriter::new(std::io::stdout().lock());
-    if std::env::args().nth(1).as_deref() != Some("-x") {
+    let given = |option: &str| std::env::args().skip(1).any(|a| a == option);
+    let way = if given("-p") { Way::AsProj } else if given("-m") { Way::Mixed } else { Way::AsCrate };
+    if !given("-x") {
         let mut text = Vec::new();
         std::io::stdin().read_to_end(&mut text)?;
-        return say(&mut out, &text);
+        return say(&mut out, &text, way);
     }
     for line in std::io::stdin().lock().lines() {
         let line = line?;
         let text: Vec<u8> = line.as_bytes().chunks_exact(2).map(|d| u8::from_str_radix(std::str::from_utf8(d).unwrap(), 16).unwrap()).collect();
-        say(&mut out, &text)?;
+        say(&mut out, &text, way)?;
     }
     Ok(())
 }

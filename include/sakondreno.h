@@ -42,7 +42,8 @@ enum {
     SAKONDRENO_LIST = 15,      /* run: the list's length is no multiple of 4, or it has over 65,536 tuples */
     SAKONDRENO_DEPTH = 16,     /* run: more than 64 columns after the step */
     SAKONDRENO_STORE = 17,     /* run: the store is shorter than the deepest depth times the tuples */
-    SAKONDRENO_RECORD = 18     /* check, run: a record that no preparation makes; at 0: over 64 records */
+    SAKONDRENO_RECORD = 18     /* check, run: a record that no preparation makes, or of another reading than the first;
+                                * at 0: over 64 records */
 };
 
 /* ---- step records */
@@ -62,14 +63,21 @@ enum {
     SAKONDRENO_ADAPT = 10        /* args: four signed places, each once, and the codes of four factors */
 };
 
+/* The readings of a definition by their numbers. */
+enum {
+    SAKONDRENO_CRATE = 0, /* `inv` turns `axisswap` and `adapt` only */
+    SAKONDRENO_PROJ = 1   /* `inv` turns every operator */
+};
+
 /* A step. `sakondreno_prepare` makes it; a record made otherwise is refused 18 unless preparing could have made it: slots of
- * args that are not used hold 0, marks are 0 or 1. 40 bytes. */
+ * args that are not used hold 0, marks are 0 or 1, and all records of a table have one reading. 40 bytes. */
 typedef struct {
     uint8_t operator_; /* by its number */
     uint8_t n;         /* how many of args are used */
     uint8_t inv;       /* marks */
     uint8_t omit_fwd;
     uint8_t omit_inv;
+    uint8_t reading;   /* by its number */
     int32_t args[8];
 } sakondreno_step;
 
@@ -102,8 +110,11 @@ sakondreno_part sakondreno_next(const uint8_t *text, size_t length, size_t at);
 
 /* ---- pipelines. `inverse` is 0 for forward; any other number for inverse. */
 
-/* Makes records of a definition, from the first of the lent row on; `length` of the answer is how many. 64 always do. */
+/* Makes records of a definition, from the first of the lent row on; `length` of the answer is how many. 64 always do. The
+ * definition is read in the crate's reading. */
 sakondreno_answer sakondreno_prepare(const uint8_t *text, size_t length, sakondreno_step *table, size_t room);
+/* The same in a reading: 0 is the crate's; any other number is PROJ's. */
+sakondreno_answer sakondreno_prepare_as(const uint8_t *text, size_t length, uint8_t reading, sakondreno_step *table, size_t room);
 
 /* A place of a tuple, 1 to 4, and whether its sign is turned. */
 typedef struct {

@@ -1,36 +1,58 @@
 // Which request a line is, and its answer. A request on a text that is new is a variant of `TextCall` and its word in
-// `asked_text`, one on a table a variant of `TableCall` and its word in `asked`.
+// `asked_text`; one on a table has its word in tables.rt, and a mark its letters in marks.rt.
 ghost use Prim.Native.Nat.{_≤_};
+use crate::given::Source;
+use crate::marks::Mark;
+use crate::marks::read_mark;
+use crate::prepares::answer_prepare;
+use crate::tables::Called;
 use crate::tables::TableCall;
 use crate::tables::answer_table;
+use crate::tables::table_call;
 use crate::texts::TextCall;
 use crate::texts::answer_steps;
 use crate::texts::answer_text;
 use answers_say::say_what;
+use answers_wire::part;
+use answers_wire::parts;
+use rules::Reading;
 use text::is_same;
 
 enum Request {
     Text(TextCall),
-    Table(TableCall),
+    Table(TableCall, Source),
+    Prepare(Reading),
     Steps,
     Nothing,
 }
 
-// Which request a line's first field names.
+// Which request a line's first field names. One that prepares a text can have a mark; no other can.
 fn asked(word: &[u8]) -> Request {
-    if is_same(word, b"prepare") {
-        return Request::Table(TableCall::Prepare);
+    let Mark::Is(reading) = read_mark(word) else {
+        return Request::Nothing;
+    };
+    let name = part(word, b'/', 0);
+    if is_same(name, b"prepare") {
+        return Request::Prepare(reading);
     }
-    if is_same(word, b"check") {
-        return Request::Table(TableCall::Check);
+    let Called::Is(which) = table_call(name) else {
+        return asked_rows(word);
+    };
+    Request::Table(which, Source::Text(reading))
+}
+
+// Which of those on records: `rows-`, and the word of one on a table.
+fn asked_rows(word: &[u8]) -> Request {
+    if parts(word, b'-') != 2 {
+        return asked_text(word);
     }
-    if is_same(word, b"run") {
-        return Request::Table(TableCall::Run);
+    if !is_same(part(word, b'-', 0), b"rows") {
+        return asked_text(word);
     }
-    if is_same(word, b"write") {
-        return Request::Table(TableCall::Write);
-    }
-    asked_text(word)
+    let Called::Is(which) = table_call(part(word, b'-', 1)) else {
+        return Request::Nothing;
+    };
+    Request::Table(which, Source::Rows)
 }
 
 // Which of those on a text.
@@ -68,7 +90,10 @@ pub fn answer(
 {
     match asked(answers_wire::field(line, 0)) {
         Request::Text(which) => answer_text(which, line, text, lent, out, at),
-        Request::Table(which) => answer_table(which, line, text, lent, list, store, out, at),
+        Request::Table(which, source) => {
+            answer_table(which, source, line, text, lent, list, store, out, at)
+        }
+        Request::Prepare(reading) => answer_prepare(reading, line, text, out, at),
         Request::Steps => answer_steps(line, text, out, at),
         Request::Nothing => say_what(out, at),
     }

@@ -3,6 +3,9 @@
 // 131,072 bytes is answered as no request.
 mod ask;
 mod checks;
+mod given;
+mod marks;
+mod prepares;
 mod runs;
 mod tables;
 mod texts;

@@ -1,21 +1,18 @@
-// `run`: the text is prepared, a list and a store are lent to the run of its table, and both are looked at.
-use crate::tables::prepared;
+// `run`: a list and a store are lent to the run of a table, and both are looked at.
+use crate::given::Given;
+use crate::given::Had;
+use crate::given::Source;
+use crate::given::read_given;
 use answers_say::Heading;
 use answers_say::read_direction;
 use answers_say::say_refusal;
 use answers_say::say_what;
 use answers_steps::GUARD;
-use answers_steps::MOST_STEPS;
 use answers_steps::UNTOUCHED_NUMBER;
-use answers_steps::first;
-use answers_steps::is_untouched;
 use answers_steps::say_ran;
 use answers_wire::Natural;
-use answers_wire::Text;
 use pipeline::run;
-use prepare::Preparing;
 use rules::Direction;
-use rules::Prepared;
 use rules::Ran;
 use rules::Table;
 ghost use Prim.Native.Nat.{_+_, _≤_};
@@ -24,8 +21,9 @@ ghost use lib.ListN.{length};
 // The most numbers of a list, and of a store: 65,537 tuples, one more than a run takes.
 const MOST_NUMBERS: usize = 262148;
 
-// `run DIR STORE TEXT NUMBERS`.
+// `run DIR STORE TEXT NUMBERS`, `rows-run DIR STORE ROWS NUMBERS`.
 pub fn answer_run(
+    source: Source,
     line: &[u8],
     text: &mut [u8; 65536],
     list: &mut [f64; 262164],
@@ -39,25 +37,20 @@ pub fn answer_run(
     let Heading::Is(direction) = read_direction(answers_wire::field(line, 1)) else {
         return say_what(out, at);
     };
-    let Text::Is(n) = answers_wire::read_text_of(line, 5, 3, text) else {
-        return say_what(out, at);
-    };
-    run_text(line, direction, text, n, list, store, out, at)
+    let g = read_given(source, line, 5, 3, text);
+    run_given(g, direction, line, list, store, out, at)
 }
 
-// The same, with the first n bytes of `text` and the direction read.
-fn run_text(
-    line: &[u8],
+fn run_given(
+    g: Given,
     direction: Direction,
-    text: &[u8],
-    n: usize,
+    line: &[u8],
     list: &mut [f64; 262164],
     store: &mut [f64; 262164],
     out: &mut [u8; 65536],
     at: usize,
 ) -> usize
     requires { ⌜ at ≤ 65536 ⌝ }
-    requires { ⌜ n ≤ length (now text) ⌝ }
     ensures { λ r. ⌜ r ≤ 65536 ⌝ }
 {
     let Natural::Is(room) = answers_wire::read_natural(answers_wire::field(line, 2), MOST_NUMBERS)
@@ -67,9 +60,8 @@ fn run_text(
     let Natural::Is(k) = answers_wire::numbers(answers_wire::field(line, 4), MOST_NUMBERS) else {
         return say_what(out, at);
     };
-    let made = prepared(text, n, MOST_STEPS);
-    run_prepared(
-        made,
+    run_sized(
+        g,
         direction,
         answers_wire::field(line, 4),
         k,
@@ -81,8 +73,9 @@ fn run_text(
     )
 }
 
-fn run_prepared(
-    made: Preparing,
+// The same, with the sizes of list and store read.
+fn run_sized(
+    g: Given,
     direction: Direction,
     field: &[u8],
     k: usize,
@@ -96,17 +89,23 @@ fn run_prepared(
     requires { ⌜ (k ≤ 262148) × (room ≤ 262148) ⌝ }
     ensures { λ r. ⌜ r ≤ 65536 ⌝ }
 {
-    let answer = made.answer;
-    let table = made.table;
-    match answer {
-        Prepared::Steps(count) => {
-            let kept = is_untouched(table, count, MOST_STEPS);
-            let steps = first(table, count);
-            run_table(steps, direction, kept, field, k, room, list, store, out, at)
-        }
-        Prepared::Refused { number, place } => {
-            say_refusal(number, place, is_untouched(table, 0, MOST_STEPS), out, at)
-        }
+    let had = g.had;
+    let table = g.table;
+    match had {
+        Had::Steps => run_table(
+            table,
+            direction,
+            g.kept,
+            field,
+            k,
+            room,
+            list,
+            store,
+            out,
+            at,
+        ),
+        Had::Refused { number, place } => say_refusal(number, place, g.kept, out, at),
+        Had::Nothing => say_what(out, at),
     }
 }
 

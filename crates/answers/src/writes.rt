@@ -1,22 +1,20 @@
-// `write`: the text is prepared, and the text of its records is said.
-use crate::tables::prepared;
+// `write`: the text of a table's records is said.
+use crate::given::Given;
+use crate::given::Had;
+use crate::given::Source;
+use crate::given::read_given;
 use answers_say::MOST_ROOM;
 use answers_say::say_lent;
 use answers_say::say_refusal;
 use answers_say::say_what;
-use answers_steps::MOST_STEPS;
-use answers_steps::first;
-use answers_steps::is_untouched;
-use answers_wire::Text;
-use prepare::Preparing;
-use rules::Prepared;
 use rules::Table;
 use rules::Written;
 ghost use Prim.Native.Nat.{_≤_};
 ghost use lib.ListN.{length};
 
-// `write TEXT`.
+// `write TEXT`, `rows-write ROWS`.
 pub fn answer_write(
+    source: Source,
     line: &[u8],
     text: &mut [u8; 65536],
     lent: &mut [u8; 131088],
@@ -26,30 +24,19 @@ pub fn answer_write(
     requires { ⌜ at ≤ 65536 ⌝ }
     ensures { λ r. ⌜ r ≤ 65536 ⌝ }
 {
-    let Text::Is(n) = answers_wire::read_text_of(line, 2, 1, text) else {
-        return say_what(out, at);
-    };
-    write_prepared(prepared(text, n, MOST_STEPS), lent, out, at)
+    write_given(read_given(source, line, 2, 1, text), lent, out, at)
 }
 
-fn write_prepared(
-    made: Preparing,
-    lent: &mut [u8; 131088],
-    out: &mut [u8; 65536],
-    at: usize,
-) -> usize
+fn write_given(g: Given, lent: &mut [u8; 131088], out: &mut [u8; 65536], at: usize) -> usize
     requires { ⌜ at ≤ 65536 ⌝ }
     ensures { λ r. ⌜ r ≤ 65536 ⌝ }
 {
-    let answer = made.answer;
-    let table = made.table;
-    match answer {
-        Prepared::Steps(count) => {
-            say_lent(lend(first(table, count), lent), MOST_ROOM, lent, out, at)
-        }
-        Prepared::Refused { number, place } => {
-            say_refusal(number, place, is_untouched(table, 0, MOST_STEPS), out, at)
-        }
+    let had = g.had;
+    let table = g.table;
+    match had {
+        Had::Steps => say_lent(lend(table, lent), MOST_ROOM, lent, out, at),
+        Had::Refused { number, place } => say_refusal(number, place, g.kept, out, at),
+        Had::Nothing => say_what(out, at),
     }
 }
 

@@ -11,7 +11,9 @@ use numbers::is_minus;
 use numbers::size_of;
 use rules::ADAPT;
 use rules::AXISSWAP;
+use rules::CRATE;
 use rules::POP;
+use rules::PROJ;
 use rules::PUSH;
 use rules::STACK_DROP;
 use rules::STACK_FLIP;
@@ -42,6 +44,7 @@ fn untouched_step() -> Step {
         inv: BYTE,
         omit_fwd: BYTE,
         omit_inv: BYTE,
+        reading: BYTE,
         args: args,
     }
 }
@@ -54,7 +57,7 @@ pub fn untouched(n: usize) -> Table {
 }
 
 fn is_untouched_step(s: Step) -> bool {
-    if (s.operator ^ BYTE) | (s.n ^ BYTE) != 0 {
+    if (s.operator ^ BYTE) | (s.n ^ BYTE) | (s.reading ^ BYTE) != 0 {
         return false;
     }
     if (s.inv ^ BYTE) | (s.omit_fwd ^ BYTE) | (s.omit_inv ^ BYTE) != 0 {
@@ -130,17 +133,37 @@ fn say_mark(mark: u8, letter: u8, out: &mut [u8; 65536], at: usize) -> usize
     say_byte(letter, out, at)
 }
 
-// MARKS: a letter for each that is set, or `-`.
-fn say_marks(inv: u8, omit_fwd: u8, omit_inv: u8, out: &mut [u8; 65536], at: usize) -> usize
+// The letter of PROJ's reading; none of the crate's; `?` where the number is no reading's.
+fn say_reading(reading: u8, out: &mut [u8; 65536], at: usize) -> usize
     requires { ⌜ at ≤ 65536 ⌝ }
     ensures { λ r. ⌜ r ≤ 65536 ⌝ }
 {
-    if inv | omit_fwd | omit_inv == 0 {
+    match reading {
+        CRATE => at,
+        PROJ => say_byte(b'p', out, at),
+        _ => say_byte(b'?', out, at),
+    }
+}
+
+// MARKS: a letter for each that is set, and the reading's; or `-`.
+fn say_marks(
+    inv: u8,
+    omit_fwd: u8,
+    omit_inv: u8,
+    reading: u8,
+    out: &mut [u8; 65536],
+    at: usize,
+) -> usize
+    requires { ⌜ at ≤ 65536 ⌝ }
+    ensures { λ r. ⌜ r ≤ 65536 ⌝ }
+{
+    if inv | omit_fwd | omit_inv | (reading ^ CRATE) == 0 {
         return say_byte(b'-', out, at);
     }
     let first = say_mark(inv, b'i', out, at);
     let second = say_mark(omit_fwd, b'f', out, first);
-    say_mark(omit_inv, b'o', out, second)
+    let third = say_mark(omit_inv, b'o', out, second);
+    say_reading(reading, out, third)
 }
 
 // Whole numbers joined by commas, `-` where there are none.
@@ -209,7 +232,7 @@ fn say_record(s: Step, out: &mut [u8; 65536], at: usize) -> usize
 {
     let named = say_name(s.operator, out, at);
     let parted = say_byte(b':', out, named);
-    let marked = say_marks(s.inv, s.omit_fwd, s.omit_inv, out, parted);
+    let marked = say_marks(s.inv, s.omit_fwd, s.omit_inv, s.reading, out, parted);
     let again = say_byte(b':', out, marked);
     let args = s.args;
     say_args(s.operator, args, s.n as usize, out, again)

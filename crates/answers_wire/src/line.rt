@@ -1,4 +1,4 @@
-// A line and its fields, which stand one space apart.
+// A line and its fields, which stand one space apart; and any text cut at each byte of one kind.
 ghost use Prim.Native.Nat.{_≤_};
 ghost use lib.ListN.{length};
 
@@ -17,12 +17,12 @@ pub fn find(s: &[u8], from: usize, b: u8) -> usize
     i
 }
 
-// How many fields the line has: one, and one more for each space.
-pub fn fields(line: &[u8]) -> usize {
+// How many parts s has, cut at each byte b: one, and one more for each b.
+pub fn parts(s: &[u8], b: u8) -> usize {
     let mut n = 1;
     let mut i = 0;
-    while i < line.len() {
-        if line[i] == b' ' {
+    while i < s.len() {
+        if s[i] == b {
             n += 1;
             i += 1;
         } else {
@@ -32,18 +32,28 @@ pub fn fields(line: &[u8]) -> usize {
     n
 }
 
-// The line's field k, counted from 0; nothing where the line has fewer.
-pub fn field(line: &[u8], k: usize) -> &[u8] {
+// Part k of s, counted from 0; nothing where s has fewer.
+pub fn part(s: &[u8], b: u8, k: usize) -> &[u8] {
     let mut from = 0;
     let mut j = 0;
     while j < k {
-        let space = find(line, from, b' ');
-        if space == line.len() {
-            return &line[space..];
+        let cut = find(s, from, b);
+        if cut == s.len() {
+            return &s[cut..];
         }
-        from = space + 1;
+        from = cut + 1;
         j += 1;
     }
-    let end = find(line, from, b' ');
-    &line[from..end]
+    let end = find(s, from, b);
+    &s[from..end]
+}
+
+// How many fields the line has.
+pub fn fields(line: &[u8]) -> usize {
+    parts(line, b' ')
+}
+
+// The line's field k, counted from 0; nothing where the line has fewer.
+pub fn field(line: &[u8], k: usize) -> &[u8] {
+    part(line, b' ', k)
 }

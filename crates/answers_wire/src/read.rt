@@ -5,7 +5,7 @@ use crate::line::field;
 use crate::line::fields;
 use text::is_same;
 
-// The most digits of a number: any number of so many fits.
+// The most digits of a number.
 const MOST_DIGITS: usize = 9;
 
 pub enum Natural {
@@ -24,16 +24,24 @@ pub fn read_natural(field: &[u8], most: usize) -> Natural
     requires { ⌜ most ≤ 999999999 ⌝ }
     ensures { λ r. ⌜ upTo most r ⌝ }
 {
-    if field.len() == 0 {
+    read_digits(field, MOST_DIGITS, most)
+}
+
+// A number of one to `digits` decimal digits that is at most `most`.
+pub fn read_digits(s: &[u8], digits: usize, most: usize) -> Natural
+    requires { ⌜ most ≤ 9999999999 ⌝ }
+    ensures { λ r. ⌜ upTo most r ⌝ }
+{
+    if s.len() == 0 {
         return Natural::Not;
     }
-    if MOST_DIGITS < field.len() {
+    if digits < s.len() {
         return Natural::Not;
     }
     let mut n: usize = 0;
     let mut i = 0;
-    while i < field.len() {
-        let d = decimal_digit(field[i]);
+    while i < s.len() {
+        let d = decimal_digit(s[i]);
         if 9 < d {
             return Natural::Not;
         }

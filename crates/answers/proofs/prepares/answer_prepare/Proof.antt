@@ -1,7 +1,7 @@
 -- The room and the text are within their bounds, by what their readers say.
 use borrow.Author.Needs.{needs}
-use Rattle.answers.proofs.tables.answer_prepare.Statement.{statement}
-use Rattle.answers.proofs.tables.answer_prepare.Tie as tie
+use Rattle.answers.proofs.prepares.answer_prepare.Statement.{statement}
+use Rattle.answers.proofs.prepares.answer_prepare.Tie as tie
 
 field-requires : tie.Need-field-requires
 field-requires c κs = search needs

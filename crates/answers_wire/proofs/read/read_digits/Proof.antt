@@ -2,14 +2,14 @@
 use Prim.Native.Nat.{_≤_, _-_}
 use lib.ListN.{length}
 use borrow.Author.Needs.{needs}
-use Rattle.answers_wire.proofs.read.read_natural.Statement.{statement}
-use Rattle.answers_wire.proofs.read.read_natural.Tie as tie
+use Rattle.answers_wire.proofs.read.read_digits.Statement.{statement}
+use Rattle.answers_wire.proofs.read.read_digits.Tie as tie
 
 abbrev Inv-loop : tie.InvT-loop
-Inv-loop field most n₀ i₀ n i = (i ≤ length field) × (n ≤ most)
+Inv-loop s digits most n₀ i₀ n i = (i ≤ length s) × (n ≤ most)
 
 abbrev μ-loop : tie.MeasureT-loop
-μ-loop field most n₀ i₀ n i = length field - i
+μ-loop s digits most n₀ i₀ n i = length s - i
 
 returns : tie.Need-returns Inv-loop μ-loop
 returns c = search needs
@@ -50,8 +50,8 @@ loop-again c = search needs
 returns-5 : tie.Need-returns-5 Inv-loop μ-loop
 returns-5 c = search needs
 
-pub read-natural-spec : {M : Type 1} → statement M
-read-natural-spec =
+pub read-digits-spec : {M : Type 1} → statement M
+read-digits-spec =
     tie.close
     (tie.spec
     Inv-loop

@@ -1,7 +1,7 @@
 -- The list and the store are within their bounds, by what their readers say.
 use borrow.Author.Needs.{needs}
-use Rattle.answers.proofs.runs.run_text.Statement.{statement}
-use Rattle.answers.proofs.runs.run_text.Tie as tie
+use Rattle.answers.proofs.runs.run_given.Statement.{statement}
+use Rattle.answers.proofs.runs.run_given.Tie as tie
 
 field-requires : tie.Need-field-requires
 field-requires c κs = search needs
@@ -39,28 +39,25 @@ say-what-requires-2 c κs = search needs
 returns-2 : tie.Need-returns-2
 returns-2 c = search needs
 
-prepared-requires : tie.Need-prepared-requires
-prepared-requires c κs = search needs
-
 field-requires-3 : tie.Need-field-requires-3
 field-requires-3 c κs = search needs
 
-run-prepared-requires : tie.Need-run-prepared-requires
-run-prepared-requires c κs = (
+run-sized-requires : tie.Need-run-sized-requires
+run-sized-requires c κs = (
   search needs,
   (
-    rw (c .before .before .before .before .before .before .k .given .1) at (c .before .before .before .before .before .before .before .before .numbers .ensures),
+    rw (c .before .before .before .before .before .k .given .1) at (c .before .before .before .before .before .before .before .numbers .ensures),
     rw
-        (c .before .before .before .before .before .before .before .before .before .before .before .room .given .1) at
-        (c .before .before .before .before .before .before .before .before .before .before .before .before .before .read-natural .ensures),
+        (c .before .before .before .before .before .before .before .before .before .before .room .given .1) at
+        (c .before .before .before .before .before .before .before .before .before .before .before .before .read-natural .ensures),
   ),
 )
 
 returns-3 : tie.Need-returns-3
 returns-3 c = search needs
 
-pub run-text-spec : {M : Type 1} → statement M
-run-text-spec =
+pub run-given-spec : {M : Type 1} → statement M
+run-given-spec =
     tie.close
     (tie.spec
     field-requires
@@ -75,7 +72,6 @@ run-text-spec =
     enum-told-2
     say-what-requires-2
     returns-2
-    prepared-requires
     field-requires-3
-    run-prepared-requires
+    run-sized-requires
     returns-3)

@@ -1,15 +1,15 @@
--- There are no more fields than bytes passed, and one.
+-- There are no more parts than bytes passed, and one.
 use Prim.Native.Nat.{_≤_, _+_, _-_}
 use lib.ListN.{length}
 use borrow.Author.Needs.{needs}
-use Rattle.answers_wire.proofs.line.fields.Statement.{statement}
-use Rattle.answers_wire.proofs.line.fields.Tie as tie
+use Rattle.answers_wire.proofs.line.parts.Statement.{statement}
+use Rattle.answers_wire.proofs.line.parts.Tie as tie
 
 abbrev Inv-loop : tie.InvT-loop
-Inv-loop line n₀ i₀ n i = (i ≤ length line) × (n ≤ i + 1)
+Inv-loop s b n₀ i₀ n i = (i ≤ length s) × (n ≤ i + 1)
 
 abbrev μ-loop : tie.MeasureT-loop
-μ-loop line n₀ i₀ n i = length line - i
+μ-loop s b n₀ i₀ n i = length s - i
 
 loop-holds : tie.Need-loop-holds Inv-loop μ-loop
 loop-holds c = search needs
@@ -41,8 +41,8 @@ loop-again-2 c = search needs
 returns : tie.Need-returns Inv-loop μ-loop
 returns c = search needs
 
-pub fields-spec : {M : Type 1} → statement M
-fields-spec =
+pub parts-spec : {M : Type 1} → statement M
+parts-spec =
     tie.close
     (tie.spec
     Inv-loop

@@ -1,15 +1,15 @@
--- The next field starts within the line; the measure is how many fields are still to be passed.
+-- The next part starts within the text; the measure is how many parts are still to be passed.
 use Prim.Native.Nat.{_≤_, _-_}
 use lib.ListN.{length}
 use borrow.Author.Needs.{needs}
-use Rattle.answers_wire.proofs.line.field.Statement.{statement}
-use Rattle.answers_wire.proofs.line.field.Tie as tie
+use Rattle.answers_wire.proofs.line.part.Statement.{statement}
+use Rattle.answers_wire.proofs.line.part.Tie as tie
 
 abbrev Inv-loop : tie.InvT-loop
-Inv-loop line k from₀ j₀ from j = from ≤ length line
+Inv-loop s b k from₀ j₀ from j = from ≤ length s
 
 abbrev μ-loop : tie.MeasureT-loop
-μ-loop line k from₀ j₀ from j = k - j
+μ-loop s b k from₀ j₀ from j = k - j
 
 loop-holds : tie.Need-loop-holds Inv-loop μ-loop
 loop-holds c = search needs
@@ -56,8 +56,8 @@ part-result-end-2 c = search needs
 returns-2 : tie.Need-returns-2 Inv-loop μ-loop
 returns-2 c = search needs
 
-pub field-spec : {M : Type 1} → statement M
-field-spec =
+pub part-spec : {M : Type 1} → statement M
+part-spec =
     tie.close
     (tie.spec
     Inv-loop

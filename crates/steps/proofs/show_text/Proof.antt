@@ -1,17 +1,11 @@
 -- What is shown lies within the buffer that `show` is lent.
 use Rattle.text.proofs.Wrote.{wrote-fits, wrote-counts}
 use borrow.Author.Needs.{needs}
-use Rattle.steps.proofs.main.Statement.{statement}
-use Rattle.steps.proofs.main.Tie as tie
+use Rattle.steps.proofs.show_text.Statement.{statement}
+use Rattle.steps.proofs.show_text.Tie as tie
 
-input-room-requires : tie.Need-input-room-requires
-input-room-requires c κs = search needs
-
-slice-aggregate-read-full : tie.Need-slice-aggregate-read-full
-slice-aggregate-read-full c = search needs
-
-read-full-requires : tie.Need-read-full-requires
-read-full-requires c κs = search needs
+reading-requires : tie.Need-reading-requires
+reading-requires c κs = search needs
 
 large-buffer-requires : tie.Need-large-buffer-requires
 large-buffer-requires c κs = search needs
@@ -22,9 +16,6 @@ large-buffer-requires-2 c κs = search needs
 print-room-requires : tie.Need-print-room-requires
 print-room-requires c κs = search needs
 
-array-share-prefix-input : tie.Need-array-share-prefix-input
-array-share-prefix-input c = search needs
-
 slice-aggregate-show : tie.Need-slice-aggregate-show
 slice-aggregate-show c = search needs
 
@@ -33,9 +24,6 @@ slice-aggregate-show-2 c = search needs
 
 slice-aggregate-show-3 : tie.Need-slice-aggregate-show-3
 slice-aggregate-show-3 c = search needs
-
-slice-aggregate-show-4 : tie.Need-slice-aggregate-show-4
-slice-aggregate-show-4 c = search needs
 
 show-requires : tie.Need-show-requires
 show-requires c κs = search needs
@@ -52,21 +40,17 @@ write-all-requires c κs = search needs
 returns : tie.Need-returns
 returns c = search needs
 
-pub main-spec : {M : Type 1} → statement M
-main-spec =
+pub show-text-spec : {M : Type 1} → statement M
+show-text-spec =
     tie.close
     (tie.spec
-    input-room-requires
-    slice-aggregate-read-full
-    read-full-requires
+    reading-requires
     large-buffer-requires
     large-buffer-requires-2
     print-room-requires
-    array-share-prefix-input
     slice-aggregate-show
     slice-aggregate-show-2
     slice-aggregate-show-3
-    slice-aggregate-show-4
     show-requires
     array-share-prefix-out
     slice-aggregate-write-all
