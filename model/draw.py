@@ -1,4 +1,4 @@
-"""Inputs for the calls of document 01, drawn from a seed.
+"""Inputs for the calls of document 01, in both readings, drawn from a seed.
 
 Every function takes rng, a random.Random(seed), and nothing else that changes:
 one seed gives one row of inputs. `python3 draw.py SEED COUNT` writes requests.
@@ -9,10 +9,10 @@ import struct
 import sys
 
 from model import (
-    ADAPT, AXISSWAP, CODES, FWD, INV, MOST_BYTES, MOST_DEPTH, MOST_SIZE, POP, PUSH,
-    STACK_DROP, STACK_FLIP, STACK_POP, STACK_PUSH, STACK_ROLL, STACK_SWAP,
-    STACK_UNROLL, TEXT_CALLS, act, columns_wanted, depth_after, new_step, prepare, refuses,
-    run_depths, running, used)
+    ADAPT, AXISSWAP, CODES, CRATE, FIELDS, FWD, INV, MOST_BYTES, MOST_DEPTH, MOST_SIZE, POP, PROJ,
+    PUSH, STACK_DROP, STACK_FLIP, STACK_POP, STACK_PUSH, STACK_ROLL, STACK_SWAP,
+    STACK_UNROLL, TEXT_CALLS, act, columns_wanted, depth_after, new_step, prepare, records_refusal,
+    refuses, run_depths, running, used)
 
 # ----- Texts of the syntax's own pieces --------------------------------------
 
@@ -205,7 +205,7 @@ HOSTILE_ARGUMENTS = [0, 1, -1, 2, 3, 4, -4, 5, 8, 9, MOST_SIZE, -MOST_SIZE, MOST
 def damaged(rng, step):
     """One field made another, good or not."""
     field = rng.choice(("operator", "args", "args", "args", "n", "n", "inv", "omit_fwd",
-                        "omit_inv"))
+                        "omit_inv", "reading"))
     if field == "args":
         args = list(step.args)
         args[rng.randint(0, 7)] = rng.choice(HOSTILE_ARGUMENTS)
@@ -298,12 +298,62 @@ def good_table(rng, direction):
     return omitted_table(rng) if kind < 0.97 else long_table(rng)[:64]
 
 
+# ----- The two readings ------------------------------------------------------
+
+UNDOING = {PUSH: POP, POP: PUSH, STACK_PUSH: STACK_POP, STACK_POP: STACK_PUSH,
+           STACK_ROLL: STACK_UNROLL, STACK_UNROLL: STACK_ROLL}
+
+
+def twin(step, inv):
+    """The record in PROJ's reading that does what this one does in the crate's, inverted or not;
+    axisswap and adapt stay as they are."""
+    if step.operator in (AXISSWAP, ADAPT):
+        return step._replace(reading=PROJ)
+    if not inv:
+        return step._replace(inv=0, reading=PROJ)
+    args = used(step)[::-1] if step.operator in (STACK_PUSH, STACK_POP) else used(step)
+    operator = UNDOING.get(step.operator, step.operator)
+    return new_step(operator, args, 1, step.omit_fwd, step.omit_inv, PROJ)
+
+
+def in_reading(rng, reading, steps):
+    """A table of the crate's reading in this one. In PROJ's most records do the same, half of the
+    pushes, pops and stack actions by being inverted."""
+    if reading == CRATE:
+        return steps
+    return [twin(step, rng.random() < 0.5) if rng.random() < 0.95 else step._replace(reading=PROJ)
+            for step in steps]
+
+
+def read_table(rng, direction):
+    """A table that some preparation makes, and its reading."""
+    reading = rng.choice((CRATE, PROJ))
+    return reading, in_reading(rng, reading, good_table(rng, direction))
+
+
+def mixed(rng, steps):
+    """Some records named for the other reading."""
+    share = rng.choice((0.1, 0.5))
+    return [step._replace(reading=1 - step.reading) if rng.random() < share else step
+            for step in steps]
+
+
+def lent_table(rng, direction):
+    """No record, or 63 to 71."""
+    if rng.random() < 0.3:
+        return []
+    return [rng.choice(long_table(rng))] * rng.randint(63, 71)
+
+
 def table(rng, direction):
-    """Any table: also over 64 records, also damaged ones."""
+    """Any table of either reading: also over 64 records, also damaged or of mixed readings."""
     steps = long_table(rng) if rng.random() < 0.03 else good_table(rng, direction)
+    steps = in_reading(rng, rng.choice((CRATE, PROJ)), steps)
     if steps and rng.random() < 0.25:
         at = rng.randrange(len(steps))
         steps[at] = damaged(rng, steps[at])
+    elif rng.random() < 0.1:
+        steps = mixed(rng, steps)
     return steps
 
 
@@ -652,25 +702,88 @@ def any_definition(rng):
     return rng.choice([definition, definition, wrong_definition, wrong_definition, text])(rng)
 
 
+def slashed(call, reading):
+    return call + ("/p" if reading == PROJ else "")
+
+
 def prepare_request(rng):
-    drawn = any_definition(rng)
-    return "prepare %d %s" % (room_for(rng, prepare(drawn), 64), hexed(drawn))
+    drawn, call = any_definition(rng), slashed("prepare", rng.choice((CRATE, PROJ)))
+    return "%s %d %s" % (call, room_for(rng, prepare(drawn), 64), hexed(drawn))
 
 
 def check_request(rng):
     direction = rng.choice((FWD, INV))
-    return "check %s %s" % (direction, hexed(table_text(rng, good_table(rng, direction))))
+    reading, steps = read_table(rng, direction)
+    return "%s %s %s" % (slashed("check", reading), direction, hexed(table_text(rng, steps)))
+
+
+def write_request(rng):
+    drawn = any_definition(rng)
+    return "%s %s" % (slashed("write", rng.choice((CRATE, PROJ))), hexed(drawn))
+
+
+def shown_list(rng, bits):
+    if rng.random() < 0.02:
+        return "zeros:%d" % rng.choice((0, 4, 7, 64, 68, 100))
+    return ",".join(bits) or "-"
 
 
 def run_request(rng):
     direction = rng.choice((FWD, INV))
-    steps, bits = good_table(rng, direction), list_bits(rng)
+    (reading, steps), bits = read_table(rng, direction), list_bits(rng)
     store = store_length(rng, direction, steps, len(bits) // 4)
     drawn = table_text(rng, steps) if rng.random() < 0.97 else any_definition(rng)
-    shown = ",".join(bits) or "-"
-    if rng.random() < 0.02:
-        shown = "zeros:%d" % rng.choice((0, 4, 7, 64, 68, 100))
-    return "run %s %d %s %s" % (direction, store, hexed(drawn), shown)
+    call = slashed("run", reading)
+    return "%s %s %d %s %s" % (call, direction, store, hexed(drawn), shown_list(rng, bits))
+
+
+# Numbers at the edge of what a field holds
+EDGES = [-2**31 - 1, -2**31, -1, 255, 256, 2**31 - 1, 2**31]
+
+
+def row_numbers(step):
+    return [*step[:5], *step.args, step.reading]
+
+
+def edged(rng, rows):
+    """One number of one record at an edge of what a field holds. Of n only what is taken."""
+    numbers, place = rng.choice(rows), rng.randrange(len(FIELDS))
+    edge = rng.choice(EDGES[2:6] if place == 1 else EDGES)
+    numbers[place] = edge
+    return rows
+
+
+def misspelt(rng, rows):
+    """ROWS that are none: a number or a record too few or too many, or no number."""
+    line = ";".join(",".join(map(str, row)) for row in rows)
+    at = rng.randint(0, len(line))
+    return rng.choice([line + ";", ";" + line, line + ",0", line.rpartition(",")[0], line + ";-",
+                       line[:at] + rng.choice(["+", "--", ",", ";", "x", "."]) + line[at:]])
+
+
+def rows_field(rng, steps):
+    """ROWS of a table; now and then with a number at an edge, or no ROWS."""
+    rows = [row_numbers(step) for step in steps]
+    if rows and rng.random() < 0.06:
+        rows = edged(rng, rows)
+    if rows and rng.random() < 0.04:
+        return misspelt(rng, rows)
+    zeros = rng.choice(("%d", "%d", "%d", "%03d"))
+    return ";".join(",".join(zeros % number for number in row) for row in rows) or "-"
+
+
+def rows_request(rng):
+    direction = rng.choice((FWD, INV))
+    steps, bits = rng.choice((table, table, table, lent_table))(rng, direction), list_bits(rng)
+    rows, call = rows_field(rng, steps), rng.choice(("check", "run", "run", "write"))
+    if call == "check":
+        return "rows-check %s %s" % (direction, rows)
+    if call == "write":
+        return "rows-write " + rows
+    store = rng.randrange(20)
+    if not records_refusal(steps):
+        store = store_length(rng, direction, steps, len(bits) // 4)
+    return "rows-run %s %d %s %s" % (direction, store, rows, shown_list(rng, bits))
 
 
 def steps_request(rng):
@@ -679,9 +792,12 @@ def steps_request(rng):
 
 def malformed_request(rng):
     """A line that is no request."""
-    line = rng.choice([text_request, prepare_request, check_request, run_request])(rng)
+    line = rng.choice([text_request, prepare_request, check_request, run_request, write_request,
+                       rows_request])(rng)
     return rng.choice([line + " ", " " + line, line + "A", line.replace(" ", "  ", 1), line + " -",
                        line.rpartition(" ")[0], line.replace("e", "E", 1), "", "write",
+                       line.replace(" ", "/ ", 1), line.replace(" ", "/pp ", 1), "split/p 9 -",
+                       "steps/p -",
                        "prepare 65 -",
                        "normalise 131073 -", "split -1 -", "check forward -", "run fwd 0 - nan",
                        "run fwd 0 - 3ff", "run inv 0 - zeros:", "steps", "translate 9 abc"])
@@ -689,8 +805,9 @@ def malformed_request(rng):
 
 def request(rng):
     """One line of the protocol, without its newline."""
-    kind = rng.choices((text_request, prepare_request, check_request, run_request, steps_request,
-                        malformed_request), (38, 16, 14, 22, 8, 2))[0]
+    kind = rng.choices((text_request, prepare_request, check_request, run_request, write_request,
+                        rows_request, steps_request, malformed_request),
+                       (28, 14, 13, 20, 3, 14, 6, 2))[0]
     return kind(rng)
 
 

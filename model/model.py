@@ -1,6 +1,6 @@
-"""A model of the rules of document 01, in plain Python.
+"""A model of the rules of document 01, and of request 1 of document 02, in plain Python.
 
-The words of the paper stand in quotes above the function that carries them.
+The words of the papers stand in quotes above the function that carries them.
 Texts are bytes. A call answers, or returns Refused(number, place). Run as a
 program, it reads requests from standard input and writes one line for each.
 """
@@ -304,19 +304,25 @@ NAMES = ["push", "pop", "stack.push", "stack.pop", "stack.flip", "stack.roll",
          "stack.unroll", "stack.swap", "stack.drop", "axisswap", "adapt"]
 
 
-# "A step record carries up to eight arguments in place"
+# "a second reading, named PROJ, beside the crate's"; "Each record has a field `reading`: 0 the
+# crate's, 1 PROJ's."
+CRATE, PROJ = range(2)
+
+
+# "A step record carries up to eight arguments in place"; "Records name their reading."
 class Step(NamedTuple):
     operator: int
     n: int       # how many arguments are used
     inv: int
     omit_fwd: int
     omit_inv: int
+    reading: int
     args: tuple  # eight whole numbers, unused ones 0
 
 
-def new_step(operator, args, inv=0, omit_fwd=0, omit_inv=0):
+def new_step(operator, args, inv=0, omit_fwd=0, omit_inv=0, reading=CRATE):
     filled = tuple(args) + (0,) * (MOST_ARGUMENTS - len(args))
-    return Step(operator, len(args), inv, omit_fwd, omit_inv, filled)
+    return Step(operator, len(args), inv, omit_fwd, omit_inv, reading, filled)
 
 
 def used(step):
@@ -511,7 +517,8 @@ def prepare_step(text):
 
 
 # "Preparing splits first, then takes the first faulty step"
-def prepare(t):
+# "Give preparation a second reading": the records name it, and are the same otherwise
+def prepare(t, reading=CRATE):
     texts = step_texts(t)
     if refuses(texts):
         return texts
@@ -520,7 +527,7 @@ def prepare(t):
         step = prepare_step(text)
         if isinstance(step, int):
             return Refused(step, place)
-        steps.append(step)
+        steps.append(step._replace(reading=reading))
     return steps
 
 
@@ -558,18 +565,20 @@ def made(step):
     """Whether some preparation makes this record: it has one spelling."""
     return (0 <= step.operator <= ADAPT and 0 <= step.n <= MOST_ARGUMENTS
             and all(mark in (0, 1) for mark in (step.inv, step.omit_fwd, step.omit_inv))
+            and step.reading in (CRATE, PROJ)
             and all(abs(arg) <= MOST_SIZE for arg in step.args)
             and not any(step.args[step.n:])
             and MADE[step.operator](used(step)))
 
 
 # "18 is 0 for over 64 records, else the first bad record."
+# "18 at a record whose reading is not the first's"
 def records_refusal(steps):
     """None for none."""
     if len(steps) > MOST_STEPS:
         return Refused(18, 0)
     for place, step in enumerate(steps, 1):
-        if not made(step):
+        if not made(step) or step.reading != steps[0].reading:
             return Refused(18, place)
     return None
 
@@ -609,10 +618,9 @@ def act_roll(step, forward):
     return "roll", (m, m + n if n < 0 else n)
 
 
-# "`inv` turns `axisswap` and `adapt` only"
 def act_axes(step, forward):
     name = "axisswap" if step.operator == AXISSWAP else "adapt"
-    return name + (" fwd" if forward != bool(step.inv) else " inv"), used(step)
+    return name + (" fwd" if forward else " inv"), used(step)
 
 
 # "flip is not reversed."
@@ -624,9 +632,15 @@ ACTS = [act_flags, act_flags, act_stack, act_stack, act_alike, act_roll, act_rol
         act_alike, act_alike, act_axes, act_axes]
 
 
+# "`inv` turns `axisswap` and `adapt` only"; in the PROJ reading it "also turns `push`, `pop` and
+# `stack`"
+def turned_by_inv(step):
+    return bool(step.inv) and (step.reading == PROJ or step.operator in (AXISSWAP, ADAPT))
+
+
 def act(direction, step):
     """What a step does in a direction: a word and its arguments."""
-    return ACTS[step.operator](step, direction == FWD)
+    return ACTS[step.operator](step, (direction == FWD) != turned_by_inv(step))
 
 
 # "too few columns, or fewer than m for a roll"; of swap and drop: "Neither takes columns."
@@ -886,8 +900,8 @@ def refused_line(refusal):
 
 
 # "translates, splits, prepares, then checks forward and inverse, printing as each answers.
-# A refusal ends its output"
-def steps_output(t):
+# A refusal ends its output"; the option `--proj` prepares in PROJ's reading
+def steps_output(t, reading=CRATE):
     text = within(translate(t), STEPS_ROOM)
     if refuses(text):
         return refused_line(text)
@@ -896,7 +910,7 @@ def steps_output(t):
     if refuses(texts):
         return out + refused_line(texts)
     out += b"".join(b"step %d: %s\n" % numbered for numbered in enumerate(texts, 1))
-    steps = prepare(text)
+    steps = prepare(text, reading)
     if refuses(steps):
         return out + refused_line(steps)
     for name, direction in (("forward", FWD), ("inverse", INV)):
@@ -953,6 +967,38 @@ def read_numbers(field):
     return list(struct.unpack(">%dd" % (len(bits) // 8), bits))
 
 
+# ROWS: "joined by `;`, `-` for none, up to 70"; "numbers joined by commas: operator, n, inv,
+# omit_fwd, omit_inv, the eight arguments, the reading"; "A number that its field cannot hold is
+# `what`."
+MOST_ROWS = 70
+# What a field holds: a byte, an i32. Of n any number up to the greatest i32 is taken: the request's
+# vectors have 999,999,999 there, and want 18.
+BYTE, COUNT, WHOLE = (0, 255), (0, 2**31 - 1), (-2**31, 2**31 - 1)
+FIELDS = [BYTE, COUNT, BYTE, BYTE, BYTE] + [WHOLE] * MOST_ARGUMENTS + [BYTE]
+ROW_NUMBER = re.compile(r"-?[0-9]{1,10}")
+
+
+def read_row_number(field, least, most):
+    if not ROW_NUMBER.fullmatch(field) or not least <= int(field) <= most:
+        raise What
+    return int(field)
+
+
+def read_row(field):
+    pieces = field.split(",")
+    if len(pieces) != len(FIELDS):
+        raise What
+    numbers = [read_row_number(piece, *bounds) for piece, bounds in zip(pieces, FIELDS)]
+    return Step(*numbers[:5], reading=numbers[-1], args=tuple(numbers[5:-1]))
+
+
+def read_rows(field):
+    rows = [] if field == "-" else field.split(";")
+    if len(rows) > MOST_ROWS:
+        raise What
+    return list(map(read_row, rows))
+
+
 def show_text(t):
     return t.hex() or "-"
 
@@ -976,8 +1022,9 @@ def show_args(step):
 
 
 # RECORD: "`NAME:MARKS:ARGS`, no spaces"
+# "MARKS has a `p` behind `i`, `f`, `o` where the record's reading is PROJ's"
 def show_record(step):
-    marks = "i" * step.inv + "f" * step.omit_fwd + "o" * step.omit_inv
+    marks = "i" * step.inv + "f" * step.omit_fwd + "o" * step.omit_inv + "p" * step.reading
     return "%s:%s:%s" % (NAMES[step.operator], marks or "-", show_args(step))
 
 
@@ -991,19 +1038,15 @@ def answer_text(call, room, text):
     return show_refusal(answer) if refuses(answer) else "ok " + show_text(answer)
 
 
-def answer_prepare(room, text):
+def answer_prepare(reading, room, text):
     room = read_natural(room, MOST_STEPS)
-    steps = within(prepare(read_text(text)), room)
+    steps = within(prepare(read_text(text), reading), room)
     if refuses(steps):
         return show_refusal(steps)
     return " ".join(["ok", str(len(steps))] + list(map(show_record, steps)))
 
 
-def answer_check(direction, text):
-    direction, steps = read_direction(direction), prepare(read_text(text))
-    answer = steps if refuses(steps) else check(direction, steps)
-    if refuses(answer):
-        return show_refusal(answer)
+def show_check(answer):
     if isinstance(answer, Fails):
         return "fails %d %s" % (answer.step, "few" if answer.few else "many")
     places = "-" if answer.places is None else joined(answer.places)
@@ -1011,18 +1054,31 @@ def answer_check(direction, text):
     return "passes %d %d %s %s" % (answer.deepest, answer.left, places, depths)
 
 
+# "`check` and `run` prepare TEXT into 64 records first. Any call that refuses is answered
+# `refused N PLACE`, and nothing after it is called."
+def said_of(steps, call, show):
+    answer = steps if refuses(steps) else call(steps)
+    return show_refusal(answer) if refuses(answer) else show(answer)
+
+
+def answer_check(read_steps, direction, steps):
+    direction, steps = read_direction(direction), read_steps(steps)
+    return said_of(steps, lambda steps: check(direction, steps), show_check)
+
+
 # "A `run` whose list is over 64 numbers long is answered without NUMBERS and COLUMNS"
-def answer_run(direction, store, text, numbers):
-    direction, store = read_direction(direction), read_natural(store, MOST_NUMBERS)
-    text, numbers = read_text(text), read_numbers(numbers)
-    steps = prepare(text)
-    answer = steps if refuses(steps) else run(direction, steps, numbers, [STORE_BEFORE] * store)
-    if refuses(answer):
-        return show_refusal(answer)
+def show_run(answer):
     shown = ["-", "-"]
-    if len(numbers) <= MOST_SHOWN:
+    if len(answer.numbers) <= MOST_SHOWN:
         shown = [show_numbers(answer.numbers), show_numbers(answer.store)]
     return "ok %d %d %s %s" % (answer.count, answer.left, *shown)
+
+
+def answer_run(read_steps, direction, store, steps, numbers):
+    direction, store = read_direction(direction), read_natural(store, MOST_NUMBERS)
+    steps, numbers = read_steps(steps), read_numbers(numbers)
+    lent = [STORE_BEFORE] * store
+    return said_of(steps, lambda steps: run(direction, steps, numbers, lent), show_run)
 
 
 # ----- The text of a record (docs/DECISIONS.md, 42) ---------------------------
@@ -1050,9 +1106,13 @@ def written_step(step):
     return " ".join(words)
 
 
-def answer_write(text):
-    steps = prepare(read_text(text))
-    return show_refusal(steps) if refuses(steps) else "ok " + show_text(" | ".join(map(written_step, steps)).encode())
+# docs/DECISIONS.md, 43: "`write` refuses 18 as the check does"
+def write(steps):
+    return records_refusal(steps) or " | ".join(map(written_step, steps)).encode()
+
+
+def answer_write(read_steps, steps):
+    return said_of(read_steps(steps), write, lambda text: "ok " + show_text(text))
 
 
 def answer_steps(text):
@@ -1061,21 +1121,37 @@ def answer_steps(text):
 
 TEXT_CALLS = {"normalise": normalise, "split": split, "parameters": parameters,
               "translate": translate}
+# The requests on a step table: of a TEXT that is prepared, or of ROWS
+TABLE_CALLS = {"check": (answer_check, 2), "run": (answer_run, 4), "write": (answer_write, 1)}
+
+
+# "`prepare`, `check`, `run`, `write` .. may be followed by `/p` (the PROJ reading, R1)"
+def read_reading(mark):
+    if mark not in ("", "/p"):
+        raise What
+    return PROJ if mark else CRATE
+
+
+def asked_of_table(name, read_steps, fields):
+    call, count = TABLE_CALLS[name]
+    if len(fields) != count:
+        raise What
+    return call(read_steps, *fields)
 
 
 def asked(request, fields):
     if request in TEXT_CALLS and len(fields) == 2:
         return answer_text(TEXT_CALLS[request], *fields)
-    if request == "prepare" and len(fields) == 2:
-        return answer_prepare(*fields)
-    if request == "check" and len(fields) == 2:
-        return answer_check(*fields)
-    if request == "run" and len(fields) == 4:
-        return answer_run(*fields)
     if request == "steps" and len(fields) == 1:
         return answer_steps(*fields)
-    if request == "write" and len(fields) == 1:
-        return answer_write(*fields)
+    if request.startswith("rows-") and request[len("rows-"):] in TABLE_CALLS:
+        return asked_of_table(request[len("rows-"):], read_rows, fields)
+    name, slash, mark = request.partition("/")
+    if name == "prepare" and len(fields) == 2:
+        return answer_prepare(read_reading(slash + mark), *fields)
+    if name in TABLE_CALLS:
+        reading = read_reading(slash + mark)
+        return asked_of_table(name, lambda text: prepare(read_text(text), reading), fields)
     raise What
 
 

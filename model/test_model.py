@@ -1,5 +1,6 @@
-"""The examples of document 01 (P1 to P13, "Also", `steps`) and those of its open points,
-under their numbers, held against the model; then laws that drawn inputs must keep."""
+"""The examples of document 01 (P1 to P13, "Also", `steps`), of request 1 of document 02, and of
+their open points, under their numbers, held against the model; then laws that drawn inputs must
+keep."""
 
 import itertools
 import math
@@ -8,10 +9,11 @@ import sys
 
 import draw
 from model import (
-    ADAPT, CODES, AXISSWAP, FWD, INV, POP, PUSH, STACK_POP, STACK_PUSH, STACK_ROLL, STACK_SWAP,
-    STACK_UNROLL, Fails, Passes, Ran, Refused, act, answer, check, columns_wanted, made,
-    multipliers, new_step, normal, normalise, parameters, prepare, prepare_step, refuses,
-    run, run_depths, show_number, split, steps_output, translate, used, within)
+    ADAPT, CODES, AXISSWAP, CRATE, FWD, INV, POP, PROJ, PUSH, STACK_DROP, STACK_FLIP, STACK_POP,
+    STACK_PUSH, STACK_ROLL, STACK_SWAP, STACK_UNROLL, Fails, Passes, Ran, Refused, act, answer,
+    check, columns_wanted, made, multipliers, new_step, normal, normalise, parameters, prepare,
+    prepare_step, read_rows, refuses, run, run_depths, running, show_number, split, steps_output,
+    translate, used, within, write)
 
 COUNTS = {"passed": 0, "failed": 0}
 
@@ -234,6 +236,84 @@ def record_tests():
     same("64 records", check(FWD, [new_step(PUSH, [])] * 64).depths, [0] * 64)
 
 
+# ----- Request 1 of document 02 ----------------------------------------------
+
+PAIR = b"pop inv v_3 | push inv v_3"
+
+
+def proj(operator, args, inv=0):
+    return new_step(operator, args, inv, reading=PROJ)
+
+
+# "That pair then passes forward with deepest 1, none left, places 1,2,3,4."
+def the_pair():
+    steps = prepare(PAIR, PROJ)
+    same("R1 records", steps, [proj(POP, [3], 1), proj(PUSH, [3], 1)])
+    same("R1 pair", check(FWD, steps), Passes([1, 0], 1, 0, ONE))
+    same("R1 pair inverse", check(INV, steps), Passes([1, 0], 1, 0, ONE))
+    same("R1 pair runs", run(FWD, steps, [1.0, 2.0, 3.0, 4.0], [-7.0] * 2),
+         Ran(1, 0, ONE, [0.0, -7.0]))
+    same("R1 crate", check(FWD, prepare(PAIR)), Fails(1, True))
+    same("R1 crate inverse", check(INV, prepare(PAIR)), Fails(2, True))
+    same("R1 steps", steps_output(PAIR, PROJ).splitlines()[-2:],
+         [b"forward: deepest 1 left 0 places 1,2,3,4", b"inverse: deepest 1 left 0 places 1,2,3,4"])
+    same("R1 steps, crate", steps_output(PAIR).splitlines()[-2:],
+         [b"forward: step 1 too few", b"inverse: step 2 too few"])
+
+
+def point_1():
+    for label, step, want in (
+            ("push", proj(PUSH, [1, 3], 1), ("take", (3, 1))),
+            ("pop", proj(POP, [1, 3], 1), ("push", (1, 3))),
+            ("stack push", proj(STACK_PUSH, [1, 2], 1), ("pop", (2, 1))),
+            ("stack pop", proj(STACK_POP, [1, 2], 1), ("push", (2, 1))),
+            ("roll", proj(STACK_ROLL, [3, 1], 1), ("roll", (3, 2))),
+            ("roll back", proj(STACK_ROLL, [3, -1], 1), ("roll", (3, 4))),
+            ("unroll", proj(STACK_UNROLL, [3, 1], 1), ("roll", (3, 1))),
+            ("axisswap", proj(AXISSWAP, [2, -1], 1), ("axisswap inv", (2, -1))),
+            ("adapt", proj(ADAPT, [1, 2, 3, 4, 0, 0, 0, 0], 1),
+             ("adapt inv", (1, 2, 3, 4, 0, 0, 0, 0)))):
+        same("R1 1 " + label, act(FWD, step), want)
+    same("R1 1 unroll", act(FWD, proj(STACK_ROLL, [3, 1], 1)), act(FWD, proj(STACK_UNROLL, [3, 1])))
+    for step in (proj(STACK_FLIP, [1, 2, 1]), proj(STACK_SWAP, []), proj(STACK_DROP, [])):
+        inverted = step._replace(inv=1)
+        same("R1 1 alike", [act(FWD, inverted), act(INV, inverted), act(INV, step)],
+             [act(FWD, step)] * 3)
+    store = run(FWD, prepare(b"stack push=1,2,3 | stack push=1,2 inv", PROJ), [5.0, 6.0, 7.0, 8.0],
+                [-7.0] * 3)
+    same("R1 1 pops 2, then 1", store[1:], (1, [6, 7, 7, 8], [5, 0, 0]))
+
+
+def point_2():
+    crate, other = new_step(PUSH, [1]), proj(PUSH, [1])
+    bad, worse = proj(PUSH, [2, 1]), other._replace(reading=2)
+    for label, steps, want in (
+            ("none", [], None), ("crate's", [crate, crate], None), ("PROJ's", [other, other], None),
+            ("second", [crate, other], 2), ("second back", [other, crate], 2),
+            ("third", [other, other, crate, other], 3),
+            ("own fields first", [other, bad, crate], 2),
+            ("the first's first", [other, crate, bad], 2), ("bad first", [bad, crate], 1),
+            ("reading 2", [worse], 1), ("reading 2 throughout", [worse, worse], 1),
+            ("reading 255", [other._replace(reading=255), other], 1),
+            ("reading -1", [other._replace(reading=-1)], 1), ("over 64", [crate, other] * 33, 0),
+            ("the 64th", [other] * 63 + [crate], 64)):
+        refusals = [check(FWD, steps), run(INV, steps, [], [0.0] * 64), write(steps)]
+        good = [want is None or answer == Refused(18, want) for answer in refusals]
+        same("R1 2 " + label, good + [want is not None or not any(map(refuses, refusals[::2]))],
+             [True] * 4)
+    same("R1 2 before 15", run(FWD, [crate, other], [1.0], []), Refused(18, 2))
+
+
+def rows_tests():
+    row = "1,1,1,0,0,3,0,0,0,0,0,0,0,1"
+    same("rows", read_rows(row + ";" + row), [proj(POP, [3], 1)] * 2)
+    same("rows none", read_rows("-"), [])
+    places = [",".join("12" if i == at else "0" for i in range(14)) for at in range(14)]
+    fields = [[*read_rows(line)[0][:5], *read_rows(line)[0].args, read_rows(line)[0].reading]
+              for line in places]
+    same("rows in order", fields, [[12 * (i == at) for i in range(14)] for at in range(14)])
+
+
 # ----- Adapt, the requests ---------------------------------------------------
 
 def adapt_tests():
@@ -247,6 +327,9 @@ def adapt_tests():
          bits([-0.0] * 4))
     same("zeros", bits(ran(FWD, b"axisswap order=-1,2,-3", [0.0, -0.0, -0.0, 1.0]).numbers),
          bits([-0.0, -0.0, 0.0, 1.0]))
+
+
+ROW = "1,1,1,0,0,3,0,0,0,0,0,0,0,1"
 
 
 def requests():
@@ -276,6 +359,40 @@ def requests():
             ("run fwd 0 - zeros:68", "ok 17 0 - -"), ("run fwd 0 - zeros:262144", "ok 65536 0 - -"),
             ("run fwd 0 - zeros:262148", "refused 15 0"), ("run fwd 0 - zeros:3", "refused 15 0"),
             ("run fwd 0 - nan", "what"), ("run fwd 0 - 3ff0", "what"),
+            ("check/p fwd " + PAIR.hex(), "passes 1 0 1,2,3,4 1,0"),
+            ("check fwd " + PAIR.hex(), "fails 1 few"),
+            ("prepare/p 2 " + PAIR.hex(), "ok 2 pop:ip:3 push:ip:3"),
+            ("prepare/p 1 " + b"omit_fwd omit_inv stack swap".hex(), "ok 1 stack.swap:fop:-"),
+            ("prepare/p 1 " + b"push".hex(), "ok 1 push:p:-"),
+            ("prepare/p 1 " + PAIR.hex(), "refused 7 0"),
+            ("write/p " + PAIR.hex(), "ok " + b"pop v_3 inv | push v_3 inv".hex()),
+            ("run/p fwd 1 " + PAIR.hex() + " zeros:4",
+             "ok 1 0 %s %s" % (",".join(["0" * 16] * 4), "0" * 16)),
+            ("run/p fwd 0 " + PAIR.hex() + " zeros:4", "refused 17 0"),
+            ("prepare/d 1 -", "what"), ("prepare/pd 1 -", "what"), ("prepare/ 1 -", "what"),
+            ("split/p 9 -", "what"), ("steps/p -", "what"), ("rows-check/p fwd -", "what"),
+            ("rows-check fwd " + ROW, "passes 1 1 1,2,3,4 1"),
+            ("rows-check inv " + ROW, "fails 1 few"),
+            ("rows-write " + ROW, "ok " + b"pop v_3 inv".hex()), ("rows-write -", "ok -"),
+            ("rows-run fwd 1 %s zeros:4" % ROW,
+             "ok 1 1 %s %s" % (",".join(["0" * 16] * 4), "0" * 16)),
+            ("rows-check fwd %s;%s" % (ROW, ROW[:-1] + "0"), "refused 18 2"),
+            ("rows-write %s;%s" % (ROW[:-1] + "0", ROW), "refused 18 2"),
+            ("rows-check fwd " + ROW[:-1] + "255", "refused 18 1"),
+            ("rows-check fwd " + ROW[:-1] + "256", "what"),
+            ("rows-check fwd 256" + ROW[1:], "what"),
+            ("rows-check fwd 255" + ROW[1:], "refused 18 1"),
+            ("rows-check fwd " + ROW.replace("3", "2147483647"), "refused 18 1"),
+            ("rows-check fwd " + ROW.replace("3", "2147483648"), "what"),
+            ("rows-check fwd " + ROW.replace("3", "-2147483648"), "refused 18 1"),
+            ("rows-check fwd " + ROW.replace("3", "-2147483649"), "what"),
+            ("rows-check fwd " + ROW[:-2], "what"), ("rows-check fwd " + ROW + ",0", "what"),
+            ("rows-check fwd " + ROW + ";", "what"), ("rows-check fwd ", "what"),
+            ("rows-check fwd " + ";".join([ROW] * 64),
+             "passes 64 64 1,2,3,4 " + ",".join(map(str, range(1, 65)))),
+            ("rows-check fwd " + ";".join([ROW] * 65), "refused 18 0"),
+            ("rows-check fwd " + ";".join([ROW] * 70), "refused 18 0"),
+            ("rows-check fwd " + ";".join([ROW] * 71), "what"),
             ("steps " + STEPS_INPUT.hex(), "ok " + STEPS_OUTPUT.hex())):
         same(line[:40], answer(line), want)
 
@@ -296,9 +413,9 @@ def every_adapt_is_made():
 
 def drawn_tables(rng):
     direction = rng.choice((FWD, INV))
-    steps = draw.good_table(rng, direction)
+    reading, steps = draw.read_table(rng, direction)
     text = draw.table_text(rng, steps)
-    prepared, verdict = prepare(text), check(direction, steps)
+    prepared, verdict = prepare(text, reading), check(direction, steps)
     result = run(direction, steps, [1.0, 2.0, 3.0, 4.0], [-7.0] * 64)
     foretold = not isinstance(verdict, Passes) or (
         verdict.depths == run_depths(direction, steps) and verdict.left == result.left
@@ -342,16 +459,76 @@ def drawn_starvation(rng):
     return wanted == 0 or (result.count == 0 and any(number != number for number in result.numbers))
 
 
+def turned(step):
+    return step._replace(inv=1 - step.inv)
+
+
+def drawn_turns(rng):
+    """In PROJ's reading a step inverse is the step with its `inv` turned; and each step of the
+    crate's has a twin there, inverted or not, that does the same."""
+    step, way, other = draw.record(rng), *rng.choice(((FWD, INV), (INV, FWD)))
+    named = step._replace(reading=PROJ)
+    twins = [draw.twin(step, inv) for inv in (0, 1)]
+    return (act(way, named) == act(other, turned(named))
+            and all(made(one) and act(way, one) == act(way, step) for one in twins))
+
+
+def drawn_readings(rng):
+    """Both readings refuse alike; where no push, pop or stack action has `inv` they do the same."""
+    direction, text = rng.choice((FWD, INV)), draw.any_definition(rng)
+    steps, others = prepare(text), prepare(text, PROJ)
+    if refuses(steps):
+        return others == steps
+    named = [step._replace(reading=PROJ) for step in steps]
+    plain = not any(step.inv and step.operator not in (AXISSWAP, ADAPT) for step in steps)
+    return others == named and (not plain or check(direction, steps) == check(direction, named))
+
+
+def drawn_pipelines_turned(rng):
+    """A pipeline inverse is, in PROJ's reading, its steps from the last to the first, each turned
+    and with its omit marks exchanged, forward."""
+    steps = draw.in_reading(rng, PROJ, draw.good_table(rng, INV))
+    other = [turned(step)._replace(omit_fwd=step.omit_inv, omit_inv=step.omit_fwd)
+             for step in steps[::-1]]
+    acts = [[act(way, step) for _, step in running(way, table)]
+            for way, table in ((INV, steps), (FWD, other))]
+    answers = [run(way, table, [1.0, 2.0, 3.0, 4.0], [-7.0] * 64)
+               for way, table in ((INV, steps), (FWD, other))]
+    if any(map(refuses, answers)):
+        return acts[0] == acts[1] and [one.number for one in answers] == [16, 16]
+    return acts[0] == acts[1] and ([bits(one.numbers + one.store) for one in answers][0]
+                                   == [bits(one.numbers + one.store) for one in answers][1])
+
+
+def drawn_undone(rng):
+    """Pushes, rolls and orders that pass forward are undone by themselves with `inv` turned."""
+    steps = [draw.twin(step._replace(omit_fwd=0), rng.random() < 0.5)
+             for step in draw.fed_table(rng, FWD) if step.operator in UNDOING]
+    if not isinstance(check(FWD, steps), Passes):
+        return True
+    answer = check(FWD, steps + [turned(step) for step in steps[::-1]])
+    return isinstance(answer, Passes) and (answer.left, answer.places) == (0, ONE)
+
+
+def drawn_written(rng):
+    """The text of a table, prepared in its reading, gives the table; and so do its ROWS."""
+    reading, steps = draw.read_table(rng, FWD)
+    line = ";".join(",".join(map(str, draw.row_numbers(step))) for step in steps) or "-"
+    return prepare(write(steps), reading) == steps and read_rows(line) == steps
+
+
 def drawn():
     every_adapt_is_made()
-    for law in (drawn_tables, drawn_wrongs, drawn_round_trips, drawn_starvation):
+    for law in (drawn_tables, drawn_wrongs, drawn_round_trips, drawn_starvation, drawn_turns,
+                drawn_readings, drawn_pipelines_turned, drawn_undone, drawn_written):
         rng = random.Random(7)
         same(law.__name__, [i for i in range(1500) if not law(rng)], [])
 
 
 def main():
     for part in (examples, also, program, slips, points_of_text, points_of_values, points_of_steps,
-                 record_tests, adapt_tests, requests, drawn):
+                 record_tests, the_pair, point_1, point_2, rows_tests, adapt_tests, requests,
+                 drawn):
         part()
     print("%(passed)d passed, %(failed)d failed" % COUNTS)
     return 1 if COUNTS["failed"] else 0
