@@ -13,9 +13,10 @@ use Rattle.rules.specs.Text.Ascii.{ascii}
 use Rattle.rules.specs.Text.Lists.{allOf}
 use Rattle.rules.specs.Text.Bytes.{Bytes, inDomain, afterEach, joinedBy, joined}
 use Rattle.rules.specs.Text.Refusal.{answers, andThen, tested}
-use Rattle.rules.specs.Pipeline.Record.{readingNumber, inReading, operator, made}
-use Rattle.rules.specs.Pipeline.Prepare.{prepareStep, prepare, prepareAs}
+use Rattle.rules.specs.Pipeline.Record.{readingNumber, inReading, operator, ofMode, made}
+use Rattle.rules.specs.Pipeline.Prepare.{prepareStep, prepareIn, prepareAs}
 use Rattle.rules.specs.Pipeline.Write.{operatorWords, stepWords, writing, tableWriting}
+use Rattle.rules.specs.declared.Mode.{Mode}
 use Rattle.rules.specs.declared.Reading.{Reading}
 use Rattle.rules.specs.declared.Reading.the-variants.{Crate}
 use Rattle.rules.specs.declared.Step.{Step}
@@ -23,19 +24,19 @@ use Rattle.laws_lists.specs.Lists.{Every}
 use Rattle.laws_lists.specs.Tests.{and-left, and-right}
 use Rattle.laws_records.specs.Worded.{step-prepared}
 use Rattle.laws_records.specs.Whole.{Speaks, spaced, spaced-prepared, spaced-domain, Prepared, Each, end, also, all-prepared}
-use Rattle.laws_records.specs.Readings.{InIt, all-named, back-again, all-made-named, table-named}
+use Rattle.laws_records.specs.Readings.{InIt, all-named, back-again, all-made-named, all-mode-named, table-named}
 use Rattle.laws_records.specs.Records.{IsMade, made-keeps, made-is}
 use Rattle.laws_records.specs.Operators.Table.{has-text}
 use Rattle.laws_records.specs.Written.{step-spoken, writing-short}
 
 -- ---- one step
 
--- preparing the text of a record of the crate's reading, at any place, gives the record
-pub step-again : (s : Step) → IsMade s → (place : ℕ) → prepareStep place (writing s) ≡ answers s
-unfolding writing stepWords operatorWords
-step-again s m place =
-    step-prepared (step-spoken s (m .keeps)) place s (omega (arith, writing-short s (m .keeps)))
-    (has-text (operator s) .again s m refl)
+-- preparing the text of a record of the crate's reading, at any place, in a mode that makes it, gives the record
+pub step-again : (mode : Mode) (s : Step) → IsMade s → ofMode mode s ≡ true → (place : ℕ) → prepareStep mode place (writing s) ≡ answers s
+unfolding writing stepWords operatorWords ofMode
+step-again mode s m of place =
+    step-prepared (step-spoken s (m .keeps)) mode place s (omega (arith, writing-short s (m .keeps)))
+    (has-text (operator s) .again mode of s m refl)
 
 -- a record of the code has eight slots
 abbrev pub Slots : Step → Type 0
@@ -43,27 +44,30 @@ Slots s = length (s .args) ≡ 8
 
 -- ---- a whole table
 
--- records of one reading that are each made, and have their slots
-pub record AllMade (r : Reading) (l : List Step) : Type 0 where
+-- records of one reading and of one mode that are each made, and have their slots
+pub record AllMade (r : Reading) (mode : Mode) (l : List Step) : Type 0 where
   pub each : allOf made l ≡ true
   pub slots : Every Slots l
   pub alike : Every (InIt (readingNumber r)) l
+  pub of-mode : allOf (ofMode mode) l ≡ true
 
-made-each : (l : List Step) → AllMade Crate l → Every IsMade l
+made-each : (mode : Mode) (l : List Step) → AllMade Crate mode l → Every IsMade l
 unfolding Every allOf
-made-each [] h = tt
-made-each (s ∷ l) h =
-    (made-is s (h .slots .0) (and-left (made s) _ (h .each)) (h .alike .0), made-each l (record { each = and-right (made s) _ (h .each); slots = h .slots .1; alike = h .alike .1 }))
+made-each mode [] h = tt
+made-each mode (s ∷ l) h =
+    let rest : AllMade Crate mode l = record { each = and-right (made s) _ (h .each); slots = h .slots .1; alike = h .alike .1; of-mode = and-right (ofMode mode s) _ (h .of-mode) } in
+    (made-is s (h .slots .0) (and-left (made s) _ (h .each)) (h .alike .0), made-each mode l rest)
 
 all-speak : (l : List Step) → Every IsMade l → Every Speaks (map stepWords l)
 unfolding Every stepWords operatorWords Speaks
 all-speak [] h = tt
 all-speak (s ∷ l) h = (step-spoken s (h .0 .keeps), all-speak l (h .1))
 
-all-again : (l : List Step) → Every IsMade l → Each (map joined (map stepWords l)) l
-unfolding Every Prepared writing
-all-again [] h = end
-all-again (s ∷ l) h = also (λ place. step-again s (h .0) place) (all-again l (h .1))
+all-again : (mode : Mode) (l : List Step) → Every IsMade l → allOf (ofMode mode) l ≡ true → Each mode (map joined (map stepWords l)) l
+unfolding Every Prepared writing allOf
+all-again mode [] h f = end
+all-again mode (s ∷ l) h f =
+    also (λ place. step-again mode s (h .0) (and-left (ofMode mode s) _ f) place) (all-again mode l (h .1) (and-right (ofMode mode s) _ f))
 
 writings : (l : List Step) → map writing l ≡ map joined (map stepWords l)
 unfolding writing
@@ -75,9 +79,11 @@ table-spaced : (l : List Step) → tableWriting l ≡ spaced (map stepWords l)
 unfolding tableWriting spaced
 table-spaced l = ap (joinedBy (ascii " | ")) (writings l)
 
-prepare-crates : (l : List Step) → Every IsMade l → length l ≤ 64 → prepare (tableWriting l) ≡ answers l
-prepare-crates l h few =
-    ap prepare (table-spaced l) ∙ spaced-prepared (map stepWords l) (all-speak l h) (omega (arith, length-map l stepWords)) ∙ all-prepared (all-again l h) 1
+prepare-crates : (mode : Mode) (l : List Step) → Every IsMade l → allOf (ofMode mode) l ≡ true → length l ≤ 64 → prepareIn mode (tableWriting l) ≡ answers l
+prepare-crates mode l h f few =
+    ap (prepareIn mode) (table-spaced l)
+    ∙ spaced-prepared mode (map stepWords l) (all-speak l h) (omega (arith, length-map l stepWords))
+    ∙ all-prepared (all-again mode l h f) 1
 
 -- it is a text that every call takes: short, and in the domain
 apart-length : (n : ℕ) (ts : List Bytes) → allOf (λ (t : Bytes). leb (length t) n) ts ≡ true → length (afterEach (ascii " | ") ts) ≤ (3 + n) * length ts
@@ -119,24 +125,26 @@ unfolding Every inReading
 slots-named r [] h = tt
 slots-named r (s ∷ l) h = (h .0, slots-named r l (h .1))
 
-in-crates : (r : Reading) (l : List Step) → AllMade r l → Every IsMade (map (inReading Crate) l)
-in-crates r l h =
-    made-each (map (inReading Crate) l)
-    (record { each = all-made-named Crate l (h .each); slots = slots-named Crate l (h .slots); alike = all-named Crate l })
+in-crates : (r : Reading) (mode : Mode) (l : List Step) → AllMade r mode l → Every IsMade (map (inReading Crate) l)
+in-crates r mode l h =
+    made-each mode (map (inReading Crate) l)
+    (record { each = all-made-named Crate l (h .each); slots = slots-named Crate l (h .slots); alike = all-named Crate l; of-mode = all-mode-named Crate mode l (h .of-mode) })
 
-pub table-domain : (r : Reading) (l : List Step) → AllMade r l → inDomain (tableWriting l) ≡ true
-table-domain r l h = rw (← table-named Crate l) (crates-domain (map (inReading Crate) l) (in-crates r l h))
+pub table-domain : (r : Reading) (mode : Mode) (l : List Step) → AllMade r mode l → inDomain (tableWriting l) ≡ true
+table-domain r mode l h = rw (← table-named Crate l) (crates-domain (map (inReading Crate) l) (in-crates r mode l h))
 
-pub prepare-again : (r : Reading) (l : List Step) → AllMade r l → length l ≤ 64 → prepareAs r (tableWriting l) ≡ answers l
+pub prepare-again : (r : Reading) (mode : Mode) (l : List Step) → AllMade r mode l → length l ≤ 64 → prepareAs r mode (tableWriting l) ≡ answers l
 unfolding prepareAs andThen
-prepare-again r l h few =
+prepare-again r mode l h few =
     let m = map (inReading Crate) l in
-    let e : prepare (tableWriting l) ≡ answers m = ap prepare (sym (table-named Crate l)) ∙ prepare-crates m (in-crates r l h) (omega (arith, length-map l (inReading Crate))) in
+    let e : prepareIn mode (tableWriting l) ≡ answers m =
+    ap (prepareIn mode) (sym (table-named Crate l))
+    ∙ prepare-crates mode m (in-crates r mode l h) (all-mode-named Crate mode l (h .of-mode)) (omega (arith, length-map l (inReading Crate))) in
     rw (e, back-again r Crate l (h .alike))
 
--- A table of at most 64 records of one reading that pass `made` has its text, of at most 4,096 bytes: preparing it in that reading gives
--- exactly these records.
-pub table-again : (r : Reading) (l : List Step) → AllMade r l → length l ≤ 64 → tested (prepareAs r) (tableWriting l) ≡ answers l
+-- A table of at most 64 records of one reading and of one mode that pass `made` has its text, of at most 4,096 bytes: preparing it in that
+-- reading and mode gives exactly these records.
+pub table-again : (r : Reading) (mode : Mode) (l : List Step) → AllMade r mode l → length l ≤ 64 → tested (prepareAs r mode) (tableWriting l) ≡ answers l
 unfolding tested
-table-again r l h few =
-    rw (le-ltb 4096 (length (tableWriting l)) (table-short l (h .each) few), table-domain r l h) (prepare-again r l h few)
+table-again r mode l h few =
+    rw (le-ltb 4096 (length (tableWriting l)) (table-short l (h .each) few), table-domain r mode l h) (prepare-again r mode l h few)

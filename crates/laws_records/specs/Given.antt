@@ -16,6 +16,7 @@ use Rattle.rules.specs.Text.Parameters.{Parameter, parameter, name, precedes, e
 use Rattle.rules.specs.Pipeline.Keys.{kindOf, unknown, misspelt, tooLong}
 use Rattle.rules.specs.Operators.Arguments.{valueOf}
 use Rattle.rules.specs.Pipeline.Prepare.{ownRule, judged14, judged11, named, judged10, judged}
+use Rattle.rules.specs.declared.Mode.{Mode}
 use Rattle.rules.specs.declared.Step.{Step}
 use Rattle.rules.specs.declared.Name.{Name}
 use Rattle.rules.specs.declared.Named.the-variants.{Is}
@@ -209,15 +210,15 @@ astray n p = misspelt (kindOf n p) (p .value)
 abbrev over : Name → Parameter → Bool
 over n p = tooLong (kindOf n p) (p .value)
 
-faultless-judged : (n : Name) (ps : List Parameter) → anyOf (faulty n) ps ≡ false → judged11 n ps ≡ judged14 (ownRule n ps)
+faultless-judged : (mode : Mode) (n : Name) (ps : List Parameter) → anyOf (faulty n) ps ≡ false → judged11 mode n ps ≡ judged14 (ownRule mode n ps)
 unfolding judged11 faulty
-faultless-judged n ps h =
+faultless-judged mode n ps h =
     let r = any-or-right (unknown n) (λ p. astray n p || over n p) ps h in
     rw (any-or-left (unknown n) (λ p. astray n p || over n p) ps h, any-or-left (astray n) (over n) ps r, any-or-right (astray n) (over n) ps r)
 
-module _ (w : Bytes) (own : List Parameter) (fs : List Flag) (b : bareFlags fs ≡ true) where
+module _ (mode : Mode) (w : Bytes) (own : List Parameter) (fs : List Flag) (b : bareFlags fs ≡ true) where
   pub table-judged : (n : Name) (s : Step) → named (look w own fs (ascii "_name")) ≡ Is n → anyOf (faulty n) (name w ∷ own) ≡ false
-      → anyOf (λ (f : Flag). faulty n (bare (f .word))) fs ≡ false → ownRule n (tableFrom w own fs) ≡ some s → judged (tableFrom w own fs) ≡ answers s
+      → anyOf (λ (f : Flag). faulty n (bare (f .word))) fs ≡ false → ownRule mode n (tableFrom w own fs) ≡ some s → judged mode (tableFrom w own fs) ≡ answers s
   unfolding judged judged10 judged14
   table-judged n s e o f r =
-      rw (looked w own fs b (ascii "_name"), e) (faultless-judged n (tableFrom w own fs) (table-faultless w own fs b n o f) ∙ ap judged14 r)
+      rw (looked w own fs b (ascii "_name"), e) (faultless-judged mode n (tableFrom w own fs) (table-faultless w own fs b n o f) ∙ ap judged14 r)

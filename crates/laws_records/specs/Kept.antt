@@ -54,3 +54,12 @@ recorded-made ps none k s h = absurd (never (cc h))
 recorded-made ps (some c) k s h =
     let e : recordOf (c .operator) ps (c .arguments) ≡ s = cc h in
     rw (← e) (record-made (c .operator) ps (c .arguments) (k c refl))
+
+-- and its operator is the chosen one
+pub recorded-by : (P : Operator → Type 0) (ps : List Parameter) (r : Option Chosen) → ((c : Chosen) → r ≡ some c → P (c .operator))
+    → (s : Step) → recorded ps r ≡ some s → P (operator s)
+unfolding recorded recordOf stepWith operator
+recorded-by P ps none k s h = absurd (never (cc h))
+recorded-by P ps (some c) k s h =
+    let e : recordOf (c .operator) ps (c .arguments) ≡ s = cc h in
+    rw (← e, operator-number (c .operator)) (k c refl)

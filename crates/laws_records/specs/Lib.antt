@@ -22,4 +22,5 @@ pub mod Written
 pub mod Faithful
 pub mod Exact
 pub mod ReadBack
+pub mod Modes
 pub mod KeyKinds

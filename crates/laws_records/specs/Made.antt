@@ -1,4 +1,4 @@
--- Every record that a preparation makes passes the test of refusal 18, in either reading, so no check and no run of a prepared table
+-- Every record that a preparation makes passes the test of refusal 18, in either reading and mode, so no check and no run of a prepared table
 -- is refused 18.
 use mathlib.Core.Path.{_≡_, refl, ap, sym, _∙_}
 use Prim.Native.Nat.{ℕ, suc, _≤_}
@@ -18,13 +18,14 @@ use Rattle.rules.specs.Text.Bytes.{Bytes, inDomain}
 use Rattle.rules.specs.Text.Refusal.{Reply, answers, refuses, andThen, tested, lent, outcome, prepared}
 use Rattle.rules.specs.Text.Split.{steps, splitSteps}
 use Rattle.rules.specs.Text.Parameters.{Parameter, parametersOf}
-use Rattle.rules.specs.Pipeline.Record.{readingNumber, inReading, made, tableReading, goodIn, firstBad, refusal18}
+use Rattle.rules.specs.Pipeline.Record.{readingNumber, inReading, ofMode, made, tableReading, goodIn, firstBad, refusal18}
 use Rattle.rules.specs.Pipeline.Keys.{kindOf, unknown, misspelt, tooLong}
-use Rattle.rules.specs.Operators.Table.{wordingOf}
+use Rattle.rules.specs.Operators.Table.{isOfMode, wordingOf}
 use Rattle.rules.specs.Operators.Arguments.{valueOf}
-use Rattle.rules.specs.Pipeline.Prepare.{ownRule, judged14, judged11, named, judged10, judged, atStep, prepareStep, prepareSteps, prepare, prepareAs, PreparesAs}
+use Rattle.rules.specs.Pipeline.Prepare.{ownRule, judged14, judged11, named, judged10, judged, atStep, prepareStep, prepareSteps, prepareIn, prepareAs, PreparesAs}
 use Rattle.rules.specs.Pipeline.Run.{runs}
 use Rattle.rules.specs.Pipeline.Check.{check}
+use Rattle.rules.specs.declared.Mode.{Mode}
 use Rattle.rules.specs.declared.Reading.{Reading}
 use Rattle.rules.specs.declared.Step.{Step}
 use Rattle.rules.specs.declared.Name.{Name}
@@ -40,32 +41,43 @@ use Rattle.laws_lists.specs.Tests.{and-left, and-right, never}
 use Rattle.laws_text.specs.Refusals.{split-few}
 use Rattle.laws_steps.specs.Foretold.{check-refused}
 use Rattle.laws_steps.specs.Runs.{run-refused}
-use Rattle.laws_records.specs.Readings.{InIt, all-named, all-made-named}
-use Rattle.laws_records.specs.Kept.{recorded-made}
+use Rattle.laws_records.specs.Readings.{InIt, all-named, all-made-named, all-mode-named}
+use Rattle.laws_records.specs.Kept.{recorded-made, recorded-by}
 use Rattle.laws_records.specs.Owed.{Short}
 use Rattle.laws_records.specs.Operators.Table.{keeps-rule}
 
 -- ---- one step
 
--- Every record that judging a step's parameters answers is `made`.
-pub prepared-made : (ps : List Parameter) (s : Step) → judged ps ≡ answers s → made s ≡ true
+-- a record that is `made`, and of a mode
+pub record MadeIn (mode : Mode) (s : Step) : Type 0 where
+  pub is-made : made s ≡ true
+  pub of-mode : ofMode mode s ≡ true
+
+-- Every record that judging a step's parameters answers is `made`, and of its mode.
+pub prepared-made : (mode : Mode) (ps : List Parameter) (s : Step) → judged mode ps ≡ answers s → MadeIn mode s
 unfolding judged judged10 judged11 judged14
-prepared-made ps s h = by10 (named (valueOf (ascii "_name") ps)) h
+prepared-made mode ps s h = by10 (named (valueOf (ascii "_name") ps)) h
   where
-    by14 : (n : Name) (o : Option Step) → Short n ps → ownRule n ps ≡ o → judged14 o ≡ answers s → made s ≡ true
+    by14 : (n : Name) (o : Option Step) → Short n ps → ownRule mode n ps ≡ o → judged14 o ≡ answers s → MadeIn mode s
     by14 n none short e h = absurd (never (cc h))
     by14 n (some r) short e h =
         let z : r ≡ s = cc h in
-        rw (← z) (recorded-made ps (wordingOf n .chosen ps) (keeps-rule n ps short) r (unfold ownRule in e))
+        let chosen = wordingOf n .chosen mode ps in
+        let well = keeps-rule n mode ps short in
+        rw (← z)
+        (record {
+          is-made = recorded-made ps chosen (λ c k. well c k .kept) r (unfold ownRule in e);
+          of-mode = unfold ofMode in recorded-by (λ o. isOfMode mode o ≡ true) ps chosen (λ c k. well c k .of-mode) r (unfold ownRule in e);
+        })
 
     by13 : (n : Name) (a b c : Bool) → (c ≡ false → Short n ps)
-        → cond a (refuses 11 0) (cond b (refuses 12 0) (cond c (refuses 13 0) (judged14 (ownRule n ps)))) ≡ answers s → made s ≡ true
+        → cond a (refuses 11 0) (cond b (refuses 12 0) (cond c (refuses 13 0) (judged14 (ownRule mode n ps)))) ≡ answers s → MadeIn mode s
     by13 n true b c e h = absurd (never (cc h))
     by13 n false true c e h = absurd (never (cc h))
     by13 n false false true e h = absurd (never (cc h))
-    by13 n false false false e h = by14 n (ownRule n ps) (e refl) refl h
+    by13 n false false false e h = by14 n (ownRule mode n ps) (e refl) refl h
 
-    by10 : (o : Named) → judged10 o ps ≡ answers s → made s ≡ true
+    by10 : (o : Named) → judged10 mode o ps ≡ answers s → MadeIn mode s
     by10 Not h = absurd (never (cc h))
     by10 (Is n) h =
         by13 n (anyOf (unknown n) ps) (anyOf (λ (p : Parameter). misspelt (kindOf n p) (p .value)) ps) (anyOf (λ (p : Parameter). tooLong (kindOf n p) (p .value)) ps) (λ e. e) h
@@ -77,34 +89,36 @@ then-answers (answers x) next y h = (x, refl, h)
 then-answers (refuses n p) next y h = absurd (never (cc h))
 
 -- So is the record that preparing one step's text answers.
-pub step-made : (place : ℕ) (t : Bytes) (s : Step) → prepareStep place t ≡ answers s → made s ≡ true
+pub step-made : (mode : Mode) (place : ℕ) (t : Bytes) (s : Step) → prepareStep mode place t ≡ answers s → MadeIn mode s
 unfolding prepareStep atStep
-step-made place t s h = go (ltb 4096 (length t)) h
+step-made mode place t s h = go (ltb 4096 (length t)) h
   where
     at : (r : Reply Step) → atStep place r ≡ answers s → r ≡ answers s
     at (answers x) h = h
     at (refuses n p) h = absurd (never (cc h))
 
-    go : (b : Bool) → atStep place (cond b (refuses 1 0) (andThen (parametersOf t) judged)) ≡ answers s → made s ≡ true
+    go : (b : Bool) → atStep place (cond b (refuses 1 0) (andThen (parametersOf t) (judged mode))) ≡ answers s → MadeIn mode s
     go true h = absurd (never (cc h))
-    go false h = let f = then-answers (parametersOf t) judged s (at _ h) in prepared-made (f .0) s (f .2)
+    go false h = let f = then-answers (parametersOf t) (judged mode) s (at _ h) in prepared-made mode (f .0) s (f .2)
 
 -- ---- a whole preparation
 
--- the records of an answer: one for each step's text, and each is `made`
-pub record AllMade (n : ℕ) (l : List Step) : Type 0 where
+-- the records of an answer: one for each step's text, and each is `made`, and of the mode
+pub record AllMade (mode : Mode) (n : ℕ) (l : List Step) : Type 0 where
   pub each : allOf made l ≡ true
+  pub of-mode : allOf (ofMode mode) l ≡ true
   pub many : length l ≡ n
 
-pub steps-made : (place : ℕ) (ts : List Bytes) (l : List Step) → prepareSteps place ts ≡ answers l → AllMade (length ts) l
+pub steps-made : (mode : Mode) (place : ℕ) (ts : List Bytes) (l : List Step) → prepareSteps mode place ts ≡ answers l → AllMade mode (length ts) l
 unfolding prepareSteps allOf
-steps-made place [] l h = let e : [] ≡ l = cc h in rw (← e) (record { each = refl; many = refl })
-steps-made place (t ∷ ts) l h =
-    let f = then-answers (prepareStep place t) _ l h in
-    let g = then-answers (prepareSteps (suc place) ts) _ l (f .2) in
-    let k = steps-made (suc place) ts (g .0) (g .1) in
+steps-made mode place [] l h = let e : [] ≡ l = cc h in rw (← e) (record { each = refl; of-mode = refl; many = refl })
+steps-made mode place (t ∷ ts) l h =
+    let f = then-answers (prepareStep mode place t) _ l h in
+    let g = then-answers (prepareSteps mode (suc place) ts) _ l (f .2) in
+    let k = steps-made mode (suc place) ts (g .0) (g .1) in
     let e : f .0 ∷ g .0 ≡ l = cc (g .2) in
-    rw (← e) (record { each = rw (step-made place t (f .0) (f .1)) (k .each); many = ap suc (k .many) })
+    let first = step-made mode place t (f .0) (f .1) in
+    rw (← e) (record { each = rw (first .is-made) (k .each); of-mode = rw (first .of-mode) (k .of-mode); many = ap suc (k .many) })
 
 -- records of one reading that are each `made`: none is bad in a table of that reading,
 none-bad : (reading k : ℕ) (l : List Step) → allOf made l ≡ true → Every (InIt reading) l → firstBad reading k l ≡ none
@@ -119,38 +133,46 @@ unfolding Every tableReading
 none-bad-of reading [] h e = none-bad 0 1 [] h tt
 none-bad-of reading (s ∷ l) h e = ap (λ (q : ℕ). firstBad q 1 (s ∷ l)) (sym (e .0)) ∙ none-bad reading 1 (s ∷ l) h e
 
--- Every record of a prepared text is `made`, and they are 64 at most.
-pub prepare-made : (t : Bytes) (l : List Step) → prepare t ≡ answers l → (allOf made l ≡ true) × (length l ≤ 64)
-unfolding prepare
-prepare-made t l h =
-    let f = then-answers (splitSteps (steps t)) (prepareSteps 1) l h in
-    let k = steps-made 1 (f .0) l (f .2) in
-    (k .each, omega (arith, k .many, split-few (steps t) (f .0) (f .1) .1))
+-- so a table of at most 64 of them is not refused 18
+pub all-good : (l : List Step) → allOf made l ≡ true → length l ≤ 64 → Every (InIt (tableReading l)) l → refusal18 l ≡ none
+unfolding refusal18
+all-good l h few e = rw (le-ltb 64 (length l) few) (none-bad-of (tableReading l) l h e)
+
+-- Every record of a text that is prepared in a mode is `made`, and of the mode, and they are 64 at most.
+pub prepare-made : (mode : Mode) (t : Bytes) (l : List Step) → prepareIn mode t ≡ answers l → (allOf made l ≡ true) × (length l ≤ 64) × (allOf (ofMode mode) l ≡ true)
+unfolding prepareIn
+prepare-made mode t l h =
+    let f = then-answers (splitSteps (steps t)) (prepareSteps mode 1) l h in
+    let k = steps-made mode 1 (f .0) l (f .2) in
+    (k .each, omega (arith, k .many, split-few (steps t) (f .0) (f .1) .1), k .of-mode)
 
 -- In either reading they are those records, in that reading;
-pub prepared-as : (r : Reading) (t : Bytes) (l : List Step) → prepareAs r t ≡ answers l → (m : List Step) × (prepare t ≡ answers m) × (map (inReading r) m ≡ l)
+pub prepared-as : (r : Reading) (mode : Mode) (t : Bytes) (l : List Step) → prepareAs r mode t ≡ answers l
+    → (m : List Step) × (prepareIn mode t ≡ answers m) × (map (inReading r) m ≡ l)
 unfolding prepareAs
-prepared-as r t l h = let f = then-answers (prepare t) _ l h in (f .0, f .1, cc (f .2))
+prepared-as r mode t l h = let f = then-answers (prepareIn mode t) _ l h in (f .0, f .1, cc (f .2))
 
--- so they are `made` too, and all of that reading.
-pub prepare-as-made : (r : Reading) (t : Bytes) (l : List Step) → prepareAs r t ≡ answers l → (allOf made l ≡ true) × (length l ≤ 64) × Every (InIt (readingNumber r)) l
-prepare-as-made r t l h =
-    let p = prepared-as r t l h in
-    let k = prepare-made t (p .0) (p .1) in
-    rw (← p .2) (all-made-named r (p .0) (k .0), omega (arith, k .1, length-map (p .0) (inReading r)), all-named r (p .0))
+-- so they are `made` too, all of that reading, and of that mode.
+pub prepare-as-made : (r : Reading) (mode : Mode) (t : Bytes) (l : List Step) → prepareAs r mode t ≡ answers l
+    → (allOf made l ≡ true) × (length l ≤ 64) × Every (InIt (readingNumber r)) l × (allOf (ofMode mode) l ≡ true)
+prepare-as-made r mode t l h =
+    let p = prepared-as r mode t l h in
+    let k = prepare-made mode t (p .0) (p .1) in
+    rw (← p .2) (all-made-named r (p .0) (k .0), omega (arith, k .1, length-map (p .0) (inReading r)), all-named r (p .0), all-mode-named r mode (p .0) (k .2))
 
 -- Refusal 18 does not apply to them,
-pub never-18 : (r : Reading) (t : Bytes) (l : List Step) → prepareAs r t ≡ answers l → refusal18 l ≡ none
+pub never-18 : (r : Reading) (mode : Mode) (t : Bytes) (l : List Step) → prepareAs r mode t ≡ answers l → refusal18 l ≡ none
 unfolding refusal18
-never-18 r t l h = let k = prepare-as-made r t l h in rw (le-ltb 64 (length l) (k .1)) (none-bad-of (readingNumber r) l (k .0) (k .2))
+never-18 r mode t l h = let k = prepare-as-made r mode t l h in rw (le-ltb 64 (length l) (k .1)) (none-bad-of (readingNumber r) l (k .0) (k .2))
 
 -- so no check of them is refused
-pub check-never-18 : (r : Reading) (t : Bytes) (l : List Step) → prepareAs r t ≡ answers l → (d : Direction) (number place : ℕ) → check d l .verdict ≡ verdict-is.Refused number place → ⊥
-check-never-18 r t l h d number place e = never (cc (never-18 r t l h, check-refused d l number place e .1))
+pub check-never-18 : (r : Reading) (mode : Mode) (t : Bytes) (l : List Step) → prepareAs r mode t ≡ answers l → (d : Direction) (number place : ℕ) → check d l .verdict ≡ verdict-is.Refused number place → ⊥
+check-never-18 r mode t l h d number place e = never (cc (never-18 r mode t l h, check-refused d l number place e .1))
 
 -- and no run of them is refused 18.
-pub run-never-18 : (r : Reading) (t : Bytes) (l : List Step) → prepareAs r t ≡ answers l → (d : Direction) (xs store : List Float) (place : ℕ) → runs d l xs store .answer ≡ ran-is.Refused 18 place → ⊥
-run-never-18 r t l h d xs store place e = never (cc (never-18 r t l h, run-refused d l xs store place e))
+pub run-never-18 : (r : Reading) (mode : Mode) (t : Bytes) (l : List Step) → prepareAs r mode t ≡ answers l → (d : Direction) (xs store : List Float) (place : ℕ)
+    → runs d l xs store .answer ≡ ran-is.Refused 18 place → ⊥
+run-never-18 r mode t l h d xs store place e = never (cc (never-18 r mode t l h, run-refused d l xs store place e))
 
 -- ---- a lent table
 
@@ -179,9 +201,12 @@ tested-answers own t l h = go (ltb 4096 (length t)) (not (inDomain t)) h
     go false false h = h
 
 -- Of a table that preparing answered into, the records that it counts are those of the text. So they are not refused 18.
-pub table-prepared : (r : Reading) {t : Bytes} {table table′ : List Step} {n : ℕ} → PreparesAs r t table (prepared-is.Steps n) table′ → prepareAs r t ≡ answers (take n table′)
+pub table-prepared : (r : Reading) (mode : Mode) {t : Bytes} {table table′ : List Step} {n : ℕ} → PreparesAs r mode t table (prepared-is.Steps n) table′
+    → prepareAs r mode t ≡ answers (take n table′)
 unfolding outcome
-table-prepared r {t} {table} {table′} {n} p = tested-answers (prepareAs r) t (take n table′) (lent-answers (tested (prepareAs r) t) table table′ n (p .exactly))
+table-prepared r mode {t} {table} {table′} {n} p =
+    tested-answers (prepareAs r mode) t (take n table′) (lent-answers (tested (prepareAs r mode) t) table table′ n (p .exactly))
 
-pub table-never-18 : (r : Reading) {t : Bytes} {table table′ : List Step} {n : ℕ} → PreparesAs r t table (prepared-is.Steps n) table′ → refusal18 (take n table′) ≡ none
-table-never-18 r {t} {table} {table′} {n} p = never-18 r t (take n table′) (table-prepared r p)
+pub table-never-18 : (r : Reading) (mode : Mode) {t : Bytes} {table table′ : List Step} {n : ℕ} → PreparesAs r mode t table (prepared-is.Steps n) table′
+    → refusal18 (take n table′) ≡ none
+table-never-18 r mode {t} {table} {table′} {n} p = never-18 r mode t (take n table′) (table-prepared r mode p)

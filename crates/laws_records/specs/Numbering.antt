@@ -4,7 +4,7 @@ use Prim.Native.Nat.{ℕ, suc, _≤_}
 use native.Mathlib.Omega.{arith}
 use borrow.Author.Tests.{eqb-true}
 use lib.Dec.{eqb, lit≤}
-use Rattle.rules.specs.Operators.Descriptions.{Operator, Push, Pop, StackPush, StackPop, StackFlip, StackRoll, StackUnroll, StackSwap, StackDrop, Axisswap, Adapt}
+use Rattle.rules.specs.Operators.Descriptions.{Operator, Push, Pop, StackPush, StackPop, StackFlip, StackRoll, StackUnroll, StackSwap, StackDrop, Axisswap, Adapt, Documented}
 use Rattle.rules.specs.Operators.Table.{numberOf, operatorOf, greatest}
 use Rattle.laws_lists.specs.Tests.{below, below-at}
 
@@ -21,6 +21,7 @@ operator-number StackSwap = refl
 operator-number StackDrop = refl
 operator-number Axisswap = refl
 operator-number Adapt = refl
+operator-number Documented = refl
 
 pub number-operator : (k : ℕ) → k ≤ greatest → numberOf (operatorOf k) ≡ k
 unfolding operatorOf numberOf below
@@ -39,3 +40,4 @@ number-small StackSwap = lit≤ tt
 number-small StackDrop = lit≤ tt
 number-small Axisswap = lit≤ tt
 number-small Adapt = lit≤ tt
+number-small Documented = lit≤ tt

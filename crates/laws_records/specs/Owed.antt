@@ -20,12 +20,14 @@ use Rattle.rules.specs.Text.Parameters.{Parameter, parameter, name, enteredAll}
 use Rattle.rules.specs.Text.Decimal.{pieces, series, isWhole, wholeOf}
 use Rattle.rules.specs.Operators.Arguments.{valueOf, wholes, spelling, listing, keyValue}
 use Rattle.rules.specs.Operators.Descriptions.{Operator, Chosen}
-use Rattle.rules.specs.Operators.Table.{isArgs, wordingOf}
+use Rattle.rules.specs.Operators.Table.{isArgs, isOfMode, wordingOf}
 use Rattle.rules.specs.Pipeline.Record.{operator, args, nineDigits}
 use Rattle.rules.specs.Pipeline.Keys.{kindOf, tooLong}
 use Rattle.rules.specs.Pipeline.Prepare.{judged}
 use Rattle.rules.specs.Pipeline.Write.{nameWord, argWords, markWords}
 use Rattle.rules.specs.declared.Decimal.{Decimal}
+use Rattle.rules.specs.declared.Mode.{Mode}
+use Rattle.rules.specs.declared.Mode.the-variants as mode-is
 use Rattle.rules.specs.declared.Step.{Step}
 use Rattle.rules.specs.declared.Name.{Name}
 use Rattle.rules.specs.declared.Kind.the-variants.{Series}
@@ -46,9 +48,18 @@ use Rattle.laws_records.specs.Records.{IsMade, marksOf, mark-words}
 abbrev pub Short : Name → List Parameter → Type 0
 Short n ps = anyOf (λ (p : Parameter). tooLong (kindOf n p) (p .value)) ps ≡ false
 
--- what its parameters choose keeps the rule
+-- what its parameters choose in a mode: an operator of that mode, and arguments that keep its rule
+pub record Well (mode : Mode) (c : Chosen) : Type 0 where
+  pub kept : Kept (c .operator) (c .arguments)
+  pub of-mode : isOfMode mode (c .operator) ≡ true
+
+-- an operator that both modes make
+pub both-modes : (o : Operator) → isOfMode mode-is.Crate o ≡ true → isOfMode mode-is.Documented o ≡ true → (mode : Mode) → isOfMode mode o ≡ true
+both-modes o h k mode-is.Crate = h
+both-modes o h k mode-is.Documented = k
+
 abbrev pub KeepsRule : Name → Type 0
-KeepsRule n = (ps : List Parameter) → Short n ps → (c : Chosen) → wordingOf n .chosen ps ≡ some c → Kept (c .operator) (c .arguments)
+KeepsRule n = (mode : Mode) (ps : List Parameter) → Short n ps → (c : Chosen) → wordingOf n .chosen mode ps ≡ some c → Well mode c
 
 -- the value of a key has passed what every parameter has passed
 value-passed : (test : Parameter → Bool) (k v : Bytes) (ps : List Parameter) → valueOf k ps ≡ some v → anyOf test ps ≡ false → test (record { key = k; value = v }) ≡ false
@@ -96,8 +107,8 @@ pub record Says (o : Operator) (l : List ℤ) : Type 0 where
   pub short : total (nameWord o ∷ argWords o l) ≤ 39
 
 -- what judging makes of a step's words
-abbrev pub wordsJudged : Step → Bytes → Words → Reply Step
-wordsJudged s w ws = judged (enteredAll (name w ∷ map parameter (ws ++ markWords s)) [])
+abbrev pub wordsJudged : Mode → Step → Bytes → Words → Reply Step
+wordsJudged mode s w ws = judged mode (enteredAll (name w ∷ map parameter (ws ++ markWords s)) [])
 
 -- a name is a word that can be read, that is no modifier, and that has no value
 pub record PlainName (w : Bytes) : Type 0 where
@@ -108,13 +119,13 @@ pub record PlainName (w : Bytes) : Type 0 where
 pub record HasText (o : Operator) : Type 0 where
   pub named : PlainName (nameWord o)
   pub says : (l : List ℤ) → length l ≤ 8 → allOf nineDigits l ≡ true → isArgs o l ≡ true → Says o l
-  -- judging the words of a record gives the record
-  pub again : (s : Step) → IsMade s → operator s ≡ o → wordsJudged s (nameWord o) (argWords o (args s)) ≡ answers s
+  -- judging the words of a record, in a mode that makes it, gives the record
+  pub again : (mode : Mode) → isOfMode mode o ≡ true → (s : Step) → IsMade s → operator s ≡ o → wordsJudged mode s (nameWord o) (argWords o (args s)) ≡ answers s
 
 -- where the parameters of its own words are known
-pub by-own : (s : Step) (w : Bytes) (ws : Words) (own : List Parameter) → map parameter ws ≡ own → judged (tableFrom w own (marksOf s)) ≡ answers s → wordsJudged s w ws ≡ answers s
+pub by-own : (mode : Mode) (s : Step) (w : Bytes) (ws : Words) (own : List Parameter) → map parameter ws ≡ own → judged mode (tableFrom w own (marksOf s)) ≡ answers s → wordsJudged mode s w ws ≡ answers s
 unfolding tableFrom
-by-own s w ws own e h = rw (mark-words s, map-append parameter ws (chosen (marksOf s)), e) h
+by-own mode s w ws own e h = rw (mark-words s, map-append parameter ws (chosen (marksOf s)), e) h
 
 -- ---- a single word
 
@@ -175,11 +186,11 @@ module _ (key : String) (x : ℤ) (l : List ℤ) (nines : allOf nineDigits (x �
   unfolding isNone
   list-read k = rw (listing-series x l nines, listing-pieces x l nines, length-map (x ∷ l) spelling, le-ltb 8 (length (x ∷ l)) k)
 
-  pub by-list : (s : Step) (w : Bytes) → lacks (is "=") (ascii key) ≡ true → judged (tableFrom w (keyed key (listing (x ∷ l)) ∷ []) (marksOf s)) ≡ answers s
-      → wordsJudged s w (keyValue key (listing (x ∷ l)) ∷ []) ≡ answers s
-  by-list s w k h =
+  pub by-list : (mode : Mode) (s : Step) (w : Bytes) → lacks (is "=") (ascii key) ≡ true → judged mode (tableFrom w (keyed key (listing (x ∷ l)) ∷ []) (marksOf s)) ≡ answers s
+      → wordsJudged mode s w (keyValue key (listing (x ∷ l)) ∷ []) ≡ answers s
+  by-list mode s w k h =
       let n = listing-lacks x l nines (is "=") (unfold below so firm known anyOf ascii in refl) refl in
-      by-own s w (keyValue key (listing (x ∷ l)) ∷ []) (keyed key (listing (x ∷ l)) ∷ []) (ap (λ (p : Parameter). p ∷ []) (parameter-pair key (listing (x ∷ l)) k n)) h
+      by-own mode s w (keyValue key (listing (x ∷ l)) ∷ []) (keyed key (listing (x ∷ l)) ∷ []) (ap (λ (p : Parameter). p ∷ []) (parameter-pair key (listing (x ∷ l)) k n)) h
 
 -- no list is empty that has a length
 pub none-left : {A : Type 0} → 1 ≤ 0 → A

@@ -1,4 +1,5 @@
--- What was written is read back: whatever preparing in the table's reading leaves of a text that the call `write` answered, it is the table.
+-- What was written is read back: whatever preparing in the table's reading and mode leaves of a text that the call `write` answered, it is
+-- the table. (A table that mixes both modes has no such mode: each of its records has a text of its own.)
 use mathlib.Core.Path.{_≡_, refl, ap, sym}
 use mathlib.Core.Logic.{_↔_}
 use Prim.Native.Nat.{ℕ, suc, _≤_}
@@ -12,8 +13,9 @@ use lib.Dec.{leb, ltb, eqb}
 use Rattle.rules.specs.Text.Lists.{allOf}
 use Rattle.rules.specs.Text.Bytes.{Bytes}
 use Rattle.rules.specs.Text.Refusal.{Reply, answers, refuses, lent, written, Lends}
-use Rattle.rules.specs.Pipeline.Record.{readingNumber, readingOf, made, tableReading, goodIn, firstBad, refusal18}
+use Rattle.rules.specs.Pipeline.Record.{readingNumber, readingOf, ofMode, made, tableReading, goodIn, firstBad, refusal18}
 use Rattle.rules.specs.Pipeline.Prepare.{prepareAs, PreparesAs}
+use Rattle.rules.specs.declared.Mode.{Mode}
 use Rattle.rules.specs.declared.Reading.{Reading}
 use Rattle.rules.specs.declared.Step.{Step}
 use Rattle.rules.specs.declared.Written.{Written}
@@ -23,12 +25,12 @@ use Rattle.rules.specs.declared.Prepared.the-variants as prepared-is
 use Rattle.laws_text.specs.Once.{once}
 use Rattle.rules.specs.Pipeline.Write.{tableWriting, writtenUnless18, write}
 use Rattle.laws_lists.specs.Lists.{Every}
-use Rattle.laws_lists.specs.Tests.{and-left, never}
+use Rattle.laws_lists.specs.Tests.{and-left, never, and-right}
 use Rattle.laws_records.specs.MadeSo.{made-so}
 use Rattle.laws_records.specs.Readings.{InIt, number-again}
 use Rattle.laws_records.specs.Faithful.{Slots}
-use Rattle.laws_records.specs.Made.{never-18, tested-answers}
-use Rattle.laws_records.specs.Exact.{table-prepares, Texted, tables-exactly}
+use Rattle.laws_records.specs.Made.{never-18, tested-answers, all-good}
+use Rattle.laws_records.specs.Exact.{table-prepares, Texted, tables-exactly, made-somehow}
 
 -- ---- an answer of `write`
 
@@ -96,23 +98,45 @@ lends-writes l {out} {r} {out′} p = write-answers l (take r out′) (lent-fron
 
 -- ---- read back
 
--- Where `write` answered r bytes of a table, preparing these bytes in the table's reading into any step table with room for its records can
--- only answer how many they are, with exactly these records at the front and the rest as it was.
-pub written-returns : (l : List Step) → Every Slots l → {out : Bytes} {r : ℕ} {out′ : Bytes} → Lends (write l) out (written-is.Wrote r) out′
-    → (table : List Step) → length l ≤ length table → {answer : Prepared} {table′ : List Step} → PreparesAs (readingOf (tableReading l)) (take r out′) table answer table′
+-- Where `write` answered r bytes of a table of one mode, preparing these bytes in the table's reading and in that mode into any step table
+-- with room for its records can only answer how many they are, with exactly these records at the front and the rest as it was.
+pub written-returns : (mode : Mode) (l : List Step) → Every Slots l → allOf (ofMode mode) l ≡ true → {out : Bytes} {r : ℕ} {out′ : Bytes} → Lends (write l) out (written-is.Wrote r) out′
+    → (table : List Step) → length l ≤ length table → {answer : Prepared} {table′ : List Step} → PreparesAs (readingOf (tableReading l)) mode (take r out′) table answer table′
     → (answer ≡ prepared-is.Steps (length l)) × (table′ ≡ l ++ drop (length l) table)
-written-returns l e {out} {r} {out′} w table room {answer} {table′} p =
+written-returns mode l e f {out} {r} {out′} w table room {answer} {table′} p =
     let k = lends-writes l w in
-    once p (rw (k .is) (table-prepares (readingOf (tableReading l)) l table (record { each = k .all-made; slots = e; alike = k .alike }) (k .few) room))
+    once p (rw (k .is) (table-prepares (readingOf (tableReading l)) mode l table (record { each = k .all-made; slots = e; alike = k .alike; of-mode = f }) (k .few) room))
 
 -- ---- refusal 18, exactly
 
--- A table of records with eight slots, as every record of the code has, is not refused 18 exactly when some text prepares to it, in some reading.
-pub not-18-exactly : (l : List Step) → Every Slots l → (refusal18 l ≡ none) ↔ ((r : Reading) × Texted r l)
-not-18-exactly l slots = (
+-- A table of one mode, of records with eight slots, as every record of the code has, is not refused 18 exactly when some text prepares to it in
+-- that mode, in some reading.
+pub not-18-exactly : (mode : Mode) (l : List Step) → Every Slots l → allOf (ofMode mode) l ≡ true → (refusal18 l ≡ none) ↔ ((r : Reading) × Texted r mode l)
+not-18-exactly mode l slots f = (
   λ h.
       let k = not-18 l h in
       let r = readingOf (tableReading l) in
-      (r, tables-exactly r l .0 (record { each = k .0; slots = slots; alike = table-alike l h }, k .1)),
-  λ t. never-18 (t .0) (t .1 .text) l (tested-answers (prepareAs (t .0)) (t .1 .text) l (t .1 .prepares)),
+      (r, tables-exactly r mode l .0 (record { each = k .0; slots = slots; alike = table-alike l h; of-mode = f }, k .1)),
+  λ t. never-18 (t .0) mode (t .1 .text) l (tested-answers (prepareAs (t .0) mode) (t .1 .text) l (t .1 .prepares)),
+)
+
+-- Any table, of one mode or mixed: it is not refused 18 exactly when it has 64 records at most, all of its first one's reading, and each alone
+-- has a text that prepares to it, in some mode.
+abbrev pub TextedAlone : Step → Type 0
+TextedAlone s = (mode : Mode) × Texted (readingOf (s .reading)) mode (s ∷ [])
+
+each-texted : (l : List Step) → Every Slots l → allOf made l ≡ true → Every TextedAlone l
+unfolding Every allOf
+each-texted [] e h = tt
+each-texted (s ∷ l) e h = (made-somehow s (e .0) .0 (and-left (made s) _ h), each-texted l (e .1) (and-right (made s) _ h))
+
+each-made : (l : List Step) → Every Slots l → Every TextedAlone l → allOf made l ≡ true
+unfolding Every allOf
+each-made [] e h = refl
+each-made (s ∷ l) e h = rw (made-somehow s (e .0) .1 (h .0)) (each-made l (e .1) (h .1))
+
+pub not-18-each : (l : List Step) → Every Slots l → (refusal18 l ≡ none) ↔ ((length l ≤ 64) × Every (InIt (tableReading l)) l × Every TextedAlone l)
+not-18-each l slots = (
+  λ h. let k = not-18 l h in (k .1, k .2, each-texted l slots (k .0)),
+  λ h. all-good l (each-made l slots (h .2)) (h .0) (h .1),
 )

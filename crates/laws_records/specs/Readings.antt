@@ -13,9 +13,10 @@ use Rattle.rules.specs.Text.Bytes.{joinedBy}
 use Rattle.rules.specs.Text.Ascii.{ascii}
 use Rattle.rules.specs.Operators.Arguments.{size}
 use Rattle.rules.specs.Operators.Table.{isArgs, greatest}
-use Rattle.rules.specs.Pipeline.Record.{readingNumber, readingOf, stepWith, inReading, isSet, operator, args, unused, nineDigits, made}
+use Rattle.rules.specs.Pipeline.Record.{readingNumber, readingOf, stepWith, inReading, isSet, operator, args, unused, nineDigits, made, ofMode}
 use Rattle.rules.specs.Pipeline.Running.{opposite, turns, directed, act}
 use Rattle.rules.specs.Pipeline.Write.{markWords, stepWords, writing, tableWriting}
+use Rattle.rules.specs.declared.Mode.{Mode}
 use Rattle.rules.specs.declared.Reading.{Reading}
 use Rattle.rules.specs.declared.Reading.the-variants.{Crate, Proj}
 use Rattle.rules.specs.declared.Direction.{Direction}
@@ -91,6 +92,11 @@ pub all-made-named : (r : Reading) (l : List Step) → allOf made l ≡ true →
 unfolding allOf
 all-made-named r [] h = refl
 all-made-named r (s ∷ l) h = rw (made-named r s (and-left (made s) _ h)) (all-made-named r l (and-right (made s) _ h))
+
+pub all-mode-named : (r : Reading) (mode : Mode) (l : List Step) → allOf (ofMode mode) l ≡ true → allOf (ofMode mode) (map (inReading r) l) ≡ true
+unfolding allOf ofMode operator inReading
+all-mode-named r mode [] h = refl
+all-mode-named r mode (s ∷ l) h = rw (and-left (ofMode mode s) _ h) (all-mode-named r mode l (and-right (ofMode mode s) _ h))
 
 writings-named : (r : Reading) (l : List Step) → map writing (map (inReading r) l) ≡ map writing l
 writings-named r [] = refl

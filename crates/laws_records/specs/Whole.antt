@@ -10,8 +10,9 @@ use Rattle.rules.specs.Text.Lists.{anyOf, allOf, nonEmpty}
 use Rattle.rules.specs.Text.Bytes.{Bytes, Words, Steps, inDomain, words, joinedBy, joined}
 use Rattle.rules.specs.Text.Refusal.{answers, andThen}
 use Rattle.rules.specs.Text.Split.{onlyModifiers, stepsOf, steps, stepText, splitSteps}
-use Rattle.rules.specs.Pipeline.Prepare.{prepareStep, prepareSteps, prepare}
+use Rattle.rules.specs.Pipeline.Prepare.{prepareStep, prepareSteps, prepareIn}
 use Rattle.rules.specs.Opened.{opened}
+use Rattle.rules.specs.declared.Mode.{Mode}
 use Rattle.rules.specs.declared.Step.{Step}
 use Rattle.laws_lists.specs.Lists.{Every}
 use Rattle.laws_records.specs.Calm.{calm}
@@ -106,19 +107,19 @@ pub spaced-domain : (ws : Words) (wss : Steps) → Every Speaks (ws ∷ wss) →
 unfolding spaced ascii
 spaced-domain ws wss h = domain-calm _ (spaced-calm (joined ws) (map joined wss) (all-calm (ws ∷ wss) h) (all-bare (ws ∷ wss) h))
 
-pub spaced-prepared : (wss : Steps) → Every Speaks wss → length wss ≤ 64 → prepare (spaced wss) ≡ prepareSteps 1 (map joined wss)
-unfolding prepare splitSteps andThen
-spaced-prepared wss h l = rw (spaced-steps wss h, all-more wss h, le-ltb 64 (length wss) l, all-texts wss h)
+pub spaced-prepared : (mode : Mode) (wss : Steps) → Every Speaks wss → length wss ≤ 64 → prepareIn mode (spaced wss) ≡ prepareSteps mode 1 (map joined wss)
+unfolding prepareIn splitSteps andThen
+spaced-prepared mode wss h l = rw (spaced-steps wss h, all-more wss h, le-ltb 64 (length wss) l, all-texts wss h)
 
 -- each step's text is prepared to its record
-unfoldable pub Prepared : Bytes → Step → Type 0
-Prepared t s = (place : ℕ) → prepareStep place t ≡ answers s
+unfoldable pub Prepared : Mode → Bytes → Step → Type 0
+Prepared mode t s = (place : ℕ) → prepareStep mode place t ≡ answers s
 
-pub data Each : List Bytes → List Step → Type 0 where
-  end : Each [] []
-  also : {t : Bytes} {s : Step} {ts : List Bytes} {ss : List Step} → Prepared t s → Each ts ss → Each (t ∷ ts) (s ∷ ss)
+pub data Each (mode : Mode) : List Bytes → List Step → Type 0 where
+  end : Each mode [] []
+  also : {t : Bytes} {s : Step} {ts : List Bytes} {ss : List Step} → Prepared mode t s → Each mode ts ss → Each mode (t ∷ ts) (s ∷ ss)
 
-pub all-prepared : {ts : List Bytes} {ss : List Step} → Each ts ss → (place : ℕ) → prepareSteps place ts ≡ answers ss
+pub all-prepared : {mode : Mode} {ts : List Bytes} {ss : List Step} → Each mode ts ss → (place : ℕ) → prepareSteps mode place ts ≡ answers ss
 unfolding prepareSteps andThen Prepared
 all-prepared end place = refl
 all-prepared (also h r) place = rw (h place, all-prepared r (suc place))

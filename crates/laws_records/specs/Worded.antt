@@ -13,6 +13,7 @@ use Rattle.rules.specs.Text.Refusal.{answers, andThen}
 use Rattle.rules.specs.Text.Split.{modifier, onlyModifiers, leading, following, turned, stepText}
 use Rattle.rules.specs.Text.Parameters.{parameter, name, elements, enteredAll, tableOf, stepTable, textTable, parametersOf}
 use Rattle.rules.specs.Pipeline.Prepare.{judged, atStep, prepareStep}
+use Rattle.rules.specs.declared.Mode.{Mode}
 use Rattle.rules.specs.declared.Step.{Step}
 use Rattle.laws_lists.specs.Lists.{all-so}
 use Rattle.laws_lists.specs.Tests.{and-left, and-right, below}
@@ -119,7 +120,7 @@ module _ {w : Bytes} {ws : Words} (h : Spoken w ws) where
       omega (arith, all-length (name w ∷ map parameter ws) [], length-map ws parameter, h .few) in
       rw (normal-calm (joined (w ∷ ws)) (step-calm w ws (h .each)) b, b, step-words w ws (h .each), not-modifiers, not-turned, step-elements, le-ltb 32 _ few)
 
-  pub step-prepared : (place : ℕ) (s : Step) → length (joined (w ∷ ws)) ≤ 4096 → judged (enteredAll (name w ∷ map parameter ws) []) ≡ answers s
-      → prepareStep place (joined (w ∷ ws)) ≡ answers s
+  pub step-prepared : (mode : Mode) (place : ℕ) (s : Step) → length (joined (w ∷ ws)) ≤ 4096 → judged mode (enteredAll (name w ∷ map parameter ws) []) ≡ answers s
+      → prepareStep mode place (joined (w ∷ ws)) ≡ answers s
   unfolding prepareStep atStep andThen
-  step-prepared place s l j = rw (le-ltb 4096 _ l, step-parameters, j)
+  step-prepared mode place s l j = rw (le-ltb 4096 _ l, step-parameters, j)

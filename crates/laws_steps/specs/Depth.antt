@@ -22,7 +22,7 @@ grown (rolls w n) d = d
 grown swaps d = d
 grown drops d = d
 grown (orders back l) d = d
-grown (adapts back l) d = d
+grown (adapts mode back l) d = d
 
 -- the depth after a step that finds too few
 unfoldable pub left : Act → ℕ → ℕ
@@ -34,7 +34,7 @@ left (rolls w n) d = d
 left swaps d = d
 left drops d = d
 left (orders back l) d = d
-left (adapts back l) d = d
+left (adapts mode back l) d = d
 
 -- the depth after a step of the run
 unfoldable pub depthAfter : Act → ℕ → ℕ
@@ -93,7 +93,7 @@ module _ {T C : Type 0} (k : Kit T C) where
   moved-depth swaps m = swap-length (m .columns)
   moved-depth drops m = refl
   moved-depth (orders back l) m = refl
-  moved-depth (adapts back l) m = refl
+  moved-depth (adapts mode back l) m = refl
 
 -- ---- the run
 
@@ -113,7 +113,7 @@ starved-depth (rolls w n) m = refl
 starved-depth swaps m = refl
 starved-depth drops m = refl
 starved-depth (orders back l) m = refl
-starved-depth (adapts back l) m = refl
+starved-depth (adapts mode back l) m = refl
 
 -- A step of the run, whatever it finds.
 pub acted-depth : (a : Act) (m : State) → length (acted a m .columns) ≡ depthAfter a (length (m .columns))

@@ -19,7 +19,7 @@ use Rattle.rules.specs.Text.Split.{split}
 use Rattle.rules.specs.Text.Parameters.{parameters}
 use Rattle.rules.specs.Proj.Translate.{translate}
 use Rattle.rules.specs.Text.Reader.{next}
-use Rattle.rules.specs.Pipeline.Prepare.{prepare, prepareAs, Prepares, PreparesAs}
+use Rattle.rules.specs.Pipeline.Prepare.{prepareIn, prepare, prepareAs, Prepares, PreparesAs}
 use Rattle.rules.specs.Pipeline.Record.{inReading, refusal18}
 use Rattle.rules.specs.Pipeline.Running.{Numbered, running}
 use Rattle.rules.specs.Pipeline.Columns.{after, depths, deepest}
@@ -29,6 +29,8 @@ use Rattle.rules.specs.Pipeline.Check.{Checks}
 use Rattle.rules.specs.Pipeline.Write.{tableWriting, writtenUnless18, write}
 use Rattle.rules.specs.Face.Demands.{OneOf, Ends, RunEnds, CheckEnds, NextEnds}
 use Rattle.rules.specs.declared.Reading.{Reading}
+use Rattle.rules.specs.declared.Mode.{Mode}
+use Rattle.rules.specs.declared.Mode.the-variants as mode-is
 use Rattle.rules.specs.declared.Step.{Step}
 use Rattle.rules.specs.declared.Direction.{Direction}
 use Rattle.rules.specs.declared.Written.{Written}
@@ -102,23 +104,23 @@ module _ {text out : Bytes} {r : Written} {out′ : Bytes} where
 abbrev preparing : List ℕ
 preparing = 1 ∷ 2 ∷ 6 ∷ 7 ∷ 8 ∷ 9 ∷ 10 ∷ 11 ∷ 12 ∷ 13 ∷ 14 ∷ []
 
-step-refuses : (text : Bytes) → Refusing (By preparing) (prepare text)
+step-refuses : (m : Mode) (text : Bytes) → Refusing (By preparing) (prepareIn m text)
 unfolding anyOf
-step-refuses text =
+step-refuses m text =
     let each : (k : ℕ) → OfAStep (By preparing) k = λ k.
     record { long = refl; modifiers = refl; keys = refl; name = refl; unknown-key = refl; no-number = refl; series = refl; own = refl } in
-    prepare-refuses (By preparing) text (λ k h. each k) refl
+    prepare-refuses (By preparing) m text (λ k h. each k) refl
 
 pub prepare-ends : {text : Bytes} {table : List Step} {r : Prepared} {table′ : List Step} → Prepares text table r table′
     → Ends prepared-is.Steps prepared-is.Refused preparing table r table′
 unfolding prepared anyOf
-prepare-ends {text} = ends prepared preparing refl prepare refl refl (step-refuses text)
+prepare-ends {text} = ends prepared preparing refl prepare refl refl (unfold prepare in step-refuses mode-is.Crate text)
 
-pub prepare-as-ends : (how : Reading) {text : Bytes} {table : List Step} {r : Prepared} {table′ : List Step} → PreparesAs how text table r table′
+pub prepare-as-ends : (how : Reading) (m : Mode) {text : Bytes} {table : List Step} {r : Prepared} {table′ : List Step} → PreparesAs how m text table r table′
     → Ends prepared-is.Steps prepared-is.Refused preparing table r table′
 unfolding prepared anyOf prepareAs Refusing
-prepare-as-ends how {text} =
-    ends prepared preparing refl (prepareAs how) refl refl (then-refuses (By preparing) (prepare text) (λ l. answers (map (inReading how) l)) (step-refuses text) (λ l e. tt))
+prepare-as-ends how m {text} =
+    ends prepared preparing refl (prepareAs how m) refl refl (then-refuses (By preparing) (prepareIn m text) (λ l. answers (map (inReading how) l)) (step-refuses m text) (λ l e. tt))
 
 pub write-ends : {out : Bytes} {r : Written} {out′ : Bytes} (table : List Step) → Lends (write table) out r out′
     → Ends written-is.Wrote written-is.Refused (7 ∷ 18 ∷ []) out r out′

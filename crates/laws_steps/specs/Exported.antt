@@ -21,6 +21,7 @@ use Rattle.rules.specs.Pipeline.Check.{check}
 use Rattle.rules.specs.Face.Plain.{plainWritten, plainFound, plainPrepared, recordCount, directionOf, plainVerdict, plainCheck, PlainChecks, plainRan, PlainOutcome, plainOutcome, PlainRuns}
 use Rattle.rules.specs.Face.Demands.{OneOf, Ends, RunEnds, ExportsText}
 use Rattle.rules.specs.declared.Reading.{Reading}
+use Rattle.rules.specs.declared.Mode.{Mode}
 use Rattle.rules.specs.declared.Step.{Step}
 use Rattle.rules.specs.declared.Written.{Written}
 use Rattle.rules.specs.declared.Written.the-variants as written-is
@@ -103,12 +104,12 @@ behind-prepare {text} {table} {r} {table′} p =
     behind-0 prepared plainPrepared (λ n. refl) (λ number place. refl) prepare _ refl
     text table r table′ (λ w h. prepare-ends h) p
 
-pub behind-prepare-as : (how : Reading) {text : Bytes} {table : List Step} {r : Answer} {table′ : List Step} → Promised recordCount (prepareAs how) text table r table′
-    → (w : Prepared) × PreparesAs how text table w table′ × (r ≡ plainPrepared w) × (r .number ≡ 0 → w ≡ prepared-is.Steps (r .length))
+pub behind-prepare-as : (how : Reading) (m : Mode) {text : Bytes} {table : List Step} {r : Answer} {table′ : List Step} → Promised recordCount (prepareAs how m) text table r table′
+    → (w : Prepared) × PreparesAs how m text table w table′ × (r ≡ plainPrepared w) × (r .number ≡ 0 → w ≡ prepared-is.Steps (r .length))
 unfolding anyOf plainPrepared
-behind-prepare-as how {text} {table} {r} {table′} p =
-    behind-0 prepared plainPrepared (λ n. refl) (λ number place. refl) (prepareAs how) _ refl
-    text table r table′ (λ w h. prepare-as-ends how h) p
+behind-prepare-as how m {text} {table} {r} {table′} p =
+    behind-0 prepared plainPrepared (λ n. refl) (λ number place. refl) (prepareAs how m) _ refl
+    text table r table′ (λ w h. prepare-as-ends how m h) p
 
 -- ---- the reader
 

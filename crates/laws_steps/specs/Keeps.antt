@@ -7,6 +7,7 @@ use lib.ListN.{take, drop}
 use lib.IntN.{ℤ}
 use Rattle.rules.specs.Operators.Acts.{Act, pushes, pops, popsAll, flips, rolls, swaps, drops, orders, adapts}
 use Rattle.rules.specs.Pipeline.Running.{Numbered}
+use Rattle.rules.specs.declared.Mode.{Mode}
 use Rattle.rules.specs.Pipeline.Columns.{Machine, Kit, rolledOnce, rolled, swappedTop, pushed, popped, topped, flipped, moved, after}
 use Rattle.rules.specs.Pipeline.Tuples.{tuples, column}
 use Rattle.laws_lists.specs.Lists.{Every, every-append}
@@ -54,7 +55,7 @@ pub record Keeps {T C : Type 0} (k : Kit T C) (P : T → Type 0) (Q : C → Type
   pub column : (i : ℕ) (t : T) → P t → Q (k .column i t)
   pub store : (i : ℕ) (v : C) (t : T) → Q v → P t → P (k .store i v t)
   pub order : (back : Bool) (l : List ℤ) (t : T) → P t → P (k .order back l t)
-  pub adapt : (back : Bool) (l : List ℤ) (t : T) → P t → P (k .adapt back l t)
+  pub adapt : (mode : Mode) (back : Bool) (l : List ℤ) (t : T) → P t → P (k .adapt mode back l t)
 
 module _ {T C : Type 0} {k : Kit T C} {P : T → Type 0} {Q : C → Type 0} (keeps : Keeps k P Q) where
   pushed-keeps : (is : List ℕ) (t : T) (l : List C) → P t → Every Q l → Every Q (pushed k is t l)
@@ -86,7 +87,7 @@ module _ {T C : Type 0} {k : Kit T C} {P : T → Type 0} {Q : C → Type 0} (kee
   moved-keeps swaps m h = record { tuples = h .tuples; columns = every-swapped Q (m .columns) (h .columns) }
   moved-keeps drops m h = h
   moved-keeps (orders back l) m h = record { tuples = keeps .order back l (m .tuples) (h .tuples); columns = h .columns }
-  moved-keeps (adapts back l) m h = record { tuples = keeps .adapt back l (m .tuples) (h .tuples); columns = h .columns }
+  moved-keeps (adapts mode back l) m h = record { tuples = keeps .adapt mode back l (m .tuples) (h .tuples); columns = h .columns }
 
 -- one step after the other
 pub after-keeps : {T C : Type 0} (f : Act → Machine T C → Machine T C) (H : Machine T C → Type 0) → ((a : Act) (m : Machine T C) → H m → H (f a m))

@@ -74,7 +74,7 @@ module _ (n : ℕ) where
         column = λ i ts h. length-map ts _ ∙ h;
         store = λ i v ts q h. stored-length i v ts ∙ h;
         order = λ back l ts h. length-map ts _ ∙ h;
-        adapt = λ back l ts h. length-map ts _ ∙ h;
+        adapt = λ mode back l ts h. length-map ts _ ∙ h;
       }
 
   drained-long : (is : List ℕ) (ts : List Coord) (l : List (List Float)) → Many ts → Every Long l → Holds Many Long (drained is ts l)
@@ -97,7 +97,7 @@ module _ (n : ℕ) where
   starved-long swaps m h = h
   starved-long drops m h = h
   starved-long (orders back l) m h = h
-  starved-long (adapts back l) m h = h
+  starved-long (adapts mode back l) m h = h
 
   pub acted-long : (a : Act) (m : State) → Holds Many Long m → Holds Many Long (acted a m)
   unfolding acted actedIf

@@ -69,7 +69,7 @@ order-named false o l h = swap-named 1 o l l h h
 order-named true o l h = unswap-named 1 o l l h h
 
 named-keeps : Keeps onPlaces FourNamed Named
-named-keeps = record { column = place-named; store = put-named; order = order-named; adapt = λ back l t h. h }
+named-keeps = record { column = place-named; store = put-named; order = order-named; adapt = λ mode back l t h. h }
 
 named-begin : Holds FourNamed Named begin
 unfolding Every

@@ -26,7 +26,7 @@ use Rattle.laws_steps.specs.Runs.{answered, fourfold, as-foretold}
 
 -- ---- number s of tuple i stands at i * 4 + s
 
-abbrev none4 : Coord
+abbrev pub none4 : Coord
 none4 = record { a = nan; b = nan; c = nan; d = nan }
 
 no-less : {i : ℕ} → i < 0 → ⊥
@@ -61,12 +61,12 @@ module _ (xs : List Float) (whole : length xs % 4 ≡ 0) (i : ℕ) (h : i < leng
   below : i < length (tuples xs)
   below = rw (tuples-length xs) h
 
-  own-at : (j : ℕ) → 1 ≤ j → j ≤ 4 → number j (getD (tuples xs) i none4) ≡ numberAt xs i j
+  pub own-at : (j : ℕ) → 1 ≤ j → j ≤ 4 → number j (getD (tuples xs) i none4) ≡ numberAt xs i j
   own-at zero a b = absurd (no-less a)
   own-at (suc s) a b =
       rw (less-one s) (sym (numbers-at (tuples xs) i s below b) ∙ ap (λ (l : List Float). getD l (i * 4 + s) nan) (numbers-tuples xs whole))
 
-  mapped-at : (g : Coord → Coord) (j : ℕ) → 1 ≤ j → j ≤ 4 → numberAt (numbers (map g (tuples xs))) i j ≡ number j (g (getD (tuples xs) i none4))
+  pub mapped-at : (g : Coord → Coord) (j : ℕ) → 1 ≤ j → j ≤ 4 → numberAt (numbers (map g (tuples xs))) i j ≡ number j (g (getD (tuples xs) i none4))
   mapped-at g zero a b = absurd (no-less a)
   mapped-at g (suc s) a b =
       rw (less-one s) (numbers-at (map g (tuples xs)) i s (rw (length-map (tuples xs) g) below) b ∙ ap (number (suc s)) (map-at g (tuples xs) i below))

@@ -184,4 +184,4 @@ module _ (ts : List Coord) where
   moved-told swaps p h = λ k. record { tuples = rows ts (p .tuples); columns = swap-map (line ts) (p .columns) k }
   moved-told drops p h = refl
   moved-told (orders back o) p h = λ k. record { tuples = order-told ts back o (p .tuples) k; columns = map (line ts) (p .columns) }
-  moved-told (adapts back o) p h = absurd (true≢false h)
+  moved-told (adapts mode back o) p h = absurd (true≢false h)

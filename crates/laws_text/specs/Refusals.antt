@@ -20,7 +20,8 @@ use Rattle.rules.specs.Proj.Words.{projSteps}
 use Rattle.rules.specs.Proj.Translate.{Pipeline, pipeline, isPipeline, initFirst, onlyInv, firstFault, translation, translated, translate}
 use Rattle.rules.specs.Pipeline.Keys.{kindOf, unknown, misspelt, tooLong}
 use Rattle.rules.specs.Operators.Arguments.{valueOf}
-use Rattle.rules.specs.Pipeline.Prepare.{ownRule, judged14, judged11, named, judged10, judged, atStep, prepareStep, prepareSteps, prepare}
+use Rattle.rules.specs.Pipeline.Prepare.{ownRule, judged14, judged11, named, judged10, judged, atStep, prepareStep, prepareSteps, prepareIn}
+use Rattle.rules.specs.declared.Mode.{Mode}
 use Rattle.rules.specs.declared.Step.{Step}
 use Rattle.rules.specs.declared.Named.{Named}
 use Rattle.rules.specs.declared.Named.the-variants.{Is, Not}
@@ -117,8 +118,8 @@ pub record OfAStep (P : ℕ → ℕ → Type 0) (place : ℕ) : Type 0 where
   pub series : P 13 place
   pub own : P 14 place
 
-module _ (P : ℕ → ℕ → Type 0) where
-  judged-refuses : (place : ℕ) (ps : List Parameter) → OfAStep P place → Refusing (λ number nowhere. P number place) (judged ps)
+module _ (P : ℕ → ℕ → Type 0) (m : Mode) where
+  judged-refuses : (place : ℕ) (ps : List Parameter) → OfAStep P place → Refusing (λ number nowhere. P number place) (judged m ps)
   unfolding judged judged10 judged11 judged14 Refusing
   judged-refuses place ps h = by10 (named (valueOf (ascii "_name") ps))
     where
@@ -126,36 +127,36 @@ module _ (P : ℕ → ℕ → Type 0) where
       by14 none = h .own
       by14 (some s) = tt
 
-      by10 : (o : Named) → Refusing (λ number nowhere. P number place) (judged10 o ps)
+      by10 : (o : Named) → Refusing (λ number nowhere. P number place) (judged10 m o ps)
       by10 Not = h .name
       by10 (Is n) =
           choose (λ number nowhere. P number place) (anyOf (unknown n) ps) _ _ (h .unknown-key)
           (choose (λ number nowhere. P number place) (anyOf (λ (p : Parameter). misspelt (kindOf n p) (p .value)) ps) _ _ (h .no-number)
           (choose (λ number nowhere. P number place) (anyOf (λ (p : Parameter). tooLong (kindOf n p) (p .value)) ps) _ _ (h .series)
-          (by14 (ownRule n ps))))
+          (by14 (ownRule m n ps))))
 
   at-refuses : (place : ℕ) (r : Reply Step) → Refusing (λ number nowhere. P number place) r → Refusing P (atStep place r)
   unfolding atStep Refusing
   at-refuses place (answers s) h = tt
   at-refuses place (refuses number nowhere) h = h
 
-  step-refuses : (place : ℕ) (t : Bytes) → OfAStep P place → Refusing P (prepareStep place t)
+  step-refuses : (place : ℕ) (t : Bytes) → OfAStep P place → Refusing P (prepareStep m place t)
   unfolding prepareStep Refusing
   step-refuses place t h =
       at-refuses place _ (choose (λ number nowhere. P number place) (ltb 4096 (length t)) _ _ (h .long)
-      (then-refuses (λ number nowhere. P number place) (parametersOf t) judged (table-refuses (λ number nowhere. P number place) t (h .modifiers) (h .keys))
+      (then-refuses (λ number nowhere. P number place) (parametersOf t) (judged m) (table-refuses (λ number nowhere. P number place) t (h .modifiers) (h .keys))
       (λ ps e. judged-refuses place ps h)))
 
-  all-refuse : (last place : ℕ) (ts : List Bytes) → place + length ts ≤ suc last → ((k : ℕ) → k ≤ last → OfAStep P k) → Refusing P (prepareSteps place ts)
+  all-refuse : (last place : ℕ) (ts : List Bytes) → place + length ts ≤ suc last → ((k : ℕ) → k ≤ last → OfAStep P k) → Refusing P (prepareSteps m place ts)
   unfolding prepareSteps Refusing
   all-refuse last place [] l h = tt
   all-refuse last place (t ∷ ts) l h =
-      then-refuses P (prepareStep place t) _ (step-refuses place t (h place (omega arith)))
-      (λ s e. then-refuses P (prepareSteps (suc place) ts) _ (all-refuse last (suc place) ts (omega arith) h) (λ r f. tt))
+      then-refuses P (prepareStep m place t) _ (step-refuses place t (h place (omega arith)))
+      (λ s e. then-refuses P (prepareSteps m (suc place) ts) _ (all-refuse last (suc place) ts (omega arith) h) (λ r f. tt))
 
   -- the numbers of a step at one of the steps, and 8
-  pub prepare-refuses : (t : Bytes) → ((k : ℕ) → k ≤ length (steps t) → OfAStep P k) → P 8 0 → Refusing P (prepare t)
-  unfolding prepare
+  pub prepare-refuses : (t : Bytes) → ((k : ℕ) → k ≤ length (steps t) → OfAStep P k) → P 8 0 → Refusing P (prepareIn m t)
+  unfolding prepareIn
   prepare-refuses t h eight =
-      then-refuses P (splitSteps (steps t)) (prepareSteps 1) (steps-refuses P (steps t) (λ p l. h p l .modifiers) eight)
+      then-refuses P (splitSteps (steps t)) (prepareSteps m 1) (steps-refuses P (steps t) (λ p l. h p l .modifiers) eight)
       (λ ts e. all-refuse (length (steps t)) 1 ts (omega (arith, split-few (steps t) ts e .0)) h)

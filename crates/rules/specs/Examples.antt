@@ -1,10 +1,10 @@
 -- Document 01's examples, input beside outcome: P1 to P13 in one table, the line below them in a second, what the program `steps`
--- prints in a third, what `write` answers in a fourth; document 02's, of the reading named PROJ, in a fifth; and a few of the words in which the
--- demands are said. That every row of them holds is the one statement of specs/ExamplesHold.antt.
+-- prints in a third, what `write` answers in a fourth; document 02's, of the reading named PROJ and of the documented mode, in two more; and a few of the words
+-- in which the demands are said. That every row of them holds is the one statement of specs/ExamplesHold.antt.
 use mathlib.Core.Path.{_≡_}
 use Prim.Native.Nat.{ℕ}
 use Prim.Native.String.{String}
-use mathlib.Core.Bool.{true}
+use mathlib.Core.Bool.{true, false}
 use mathlib.Core.List.{List, [], _∷_, _++_, map, flatMap}
 use lib.ListN.{replicate}
 use lib.IntN.{ℤ, pos}
@@ -19,12 +19,15 @@ use Rattle.rules.specs.Proj.Translate.{translate}
 use Rattle.rules.specs.Text.Decimal.{signed}
 use Rattle.rules.specs.Pipeline.Prepare.{prepare, prepareAs}
 use Rattle.rules.specs.Operators.Acts.{Act, pushes, popsAll, flips, rolls, swaps, drops, orders}
+use Rattle.rules.specs.Pipeline.Record.{args}
 use Rattle.rules.specs.Pipeline.Running.{act}
 use Rattle.rules.specs.Pipeline.Run.{Outcome, runs}
 use Rattle.rules.specs.Pipeline.Check.{plus, four, check}
 use Rattle.rules.specs.Pipeline.Write.{write}
 use Rattle.rules.specs.Face.Shown.{shown}
 use Rattle.rules.specs.Face.Demands.{numberAt, signTurned}
+use Rattle.rules.specs.declared.Mode.{Mode}
+use Rattle.rules.specs.declared.Mode.the-variants as mode
 use Rattle.rules.specs.declared.Reading.{Reading}
 use Rattle.rules.specs.declared.Reading.the-variants.{Crate, Proj}
 use Rattle.rules.specs.declared.Step.{Step}
@@ -128,11 +131,11 @@ also =
 
 -- ---- the program `steps`: what is read, and the lines that are printed, "each line ended by a newline"
 
-unfoldable pub printsAs : Reading → String → List String → Example
-printsAs r text lines = says text (shown r (ascii text)) (flatMap (λ (l : String). line (ascii l)) lines)
+unfoldable pub printsAs : Reading → Mode → String → List String → Example
+printsAs r m text lines = says text (shown r m (ascii text)) (flatMap (λ (l : String). line (ascii l)) lines)
 
 unfoldable pub prints : String → List String → Example
-prints text lines = printsAs Crate text lines
+prints text lines = printsAs Crate mode.Crate text lines
 
 unfoldable pub printed : List Example
 printed =
@@ -178,12 +181,20 @@ printed =
     ∷ prints "push v_1 | inv" ("translated: push v_1 | inv" ∷ "refused 6 2" ∷ [])
     ∷ prints "push v_1 | :inv" ("translated: push v_1 | :inv" ∷ "step 1: push v_1" ∷ "step 2: :inv" ∷ "refused 6 2" ∷ [])
     ∷ prints "proj=x step inv" ("refused 5 2" ∷ [])
-    ∷ printsAs Proj "pop inv v_3 | push inv v_3" (
+    ∷ printsAs Proj mode.Crate "pop inv v_3 | push inv v_3" (
     "translated: pop inv v_3 | push inv v_3"
     ∷ "step 1: pop inv v_3"
     ∷ "step 2: push inv v_3"
     ∷ "forward: deepest 1 left 0 places 1,2,3,4"
     ∷ "inverse: deepest 1 left 0 places 1,2,3,4"
+    ∷ []
+    )
+    ∷ printsAs Crate mode.Documented "adapt from=nwuf | push v_1" (
+    "translated: adapt from=nwuf | push v_1"
+    ∷ "step 1: adapt from=nwuf"
+    ∷ "step 2: push v_1"
+    ∷ "forward: deepest 1 left 1"
+    ∷ "inverse: step 2 too few"
     ∷ []
     )
     ∷ []
@@ -211,13 +222,13 @@ rewritten =
 
 -- the check of a definition in a reading, what the first step of one does, and the records of two, one behind the other
 unfoldable pub checkOn : Reading → Direction → String → Foretold
-checkOn r d text = check d (records (on (prepareAs r) text))
+checkOn r d text = check d (records (on (prepareAs r mode.Crate) text))
 
 unfoldable pub doesOn : Reading → Direction → String → List Act
-doesOn r d text = map (act d) (records (on (prepareAs r) text))
+doesOn r d text = map (act d) (records (on (prepareAs r mode.Crate) text))
 
 unfoldable pub mixed : Reading → String → Reading → String → List Step
-mixed r text q other = records (on (prepareAs r) text) ++ records (on (prepareAs q) other)
+mixed r text q other = records (on (prepareAs r mode.Crate) text) ++ records (on (prepareAs q mode.Crate) other)
 
 abbrev pub pair : String
 pair = "pop inv v_3 | push inv v_3"
@@ -239,7 +250,44 @@ readings =
     ∷ says "as in the crate's" (doesOn Crate Forward "axisswap order=2,-1 inv") (orders true (pos 2 ∷ minus1 ∷ []) ∷ [])
     ∷ says "18 at a record whose reading is not the first's" (check Forward (mixed Proj "push v_1" Crate "pop v_1") .verdict) (Refused 18 2)
     ∷ says "whichever is the first's" (check Inverse (mixed Crate "push v_1 | pop v_1" Proj "push v_1") .verdict) (Refused 18 3)
-    ∷ says "a text in either reading" (write (records (on (prepareAs Proj) pair))) (answers (ascii "pop v_3 inv | push v_3 inv"))
+    ∷ says "a text in either reading" (write (records (on (prepareAs Proj mode.Crate) pair))) (answers (ascii "pop v_3 inv | push v_3 inv"))
+    ∷ []
+
+-- ---- document 02, request 2: the documented mode
+
+-- the records of a definition in a mode, a run of them, and the operators and arguments of records
+unfoldable pub madeIn : Mode → String → List Step
+madeIn m text = records (on (prepareAs Crate m) text)
+
+unfoldable pub ranIn : Mode → Direction → String → List Float → List Float
+ranIn m d text xs = runs d (madeIn m text) xs [] .list
+
+unfoldable pub recordsIn : Mode → String → List (ℕ × List ℤ)
+recordsIn m text = map (λ (s : Step). (s .operator, args s)) (madeIn m text)
+
+unfoldable pub rewritesIn : Mode → String → String → Example
+rewritesIn m text again = says text (write (madeIn m text)) (answers (ascii again))
+
+abbrev pub outputs : ℤ → ℤ → ℤ → ℤ → ℕ → ℕ → ℕ → ℕ → List ℤ
+outputs a b c d e f g h = a ∷ b ∷ c ∷ d ∷ pos e ∷ pos f ∷ pos g ∷ pos h ∷ []
+
+unfoldable pub modes : List Example
+modes =
+    says "`from=nwuf` sends 1,2,3,4 to -2,1,3,4" (ranIn mode.Documented Forward "adapt from=nwuf" oneToFour) (floats (signed true 2 ∷ pos 1 ∷ pos 3 ∷ pos 4 ∷ []))
+    ∷ says "in the crate's mode to 2,-1,3,4" (ranIn mode.Crate Forward "adapt from=nwuf" oneToFour) (floats (pos 2 ∷ minus1 ∷ pos 3 ∷ pos 4 ∷ []))
+    ∷ says "the inverse sends each number back" (ranIn mode.Documented Inverse "adapt from=nwuf" (floats (signed true 2 ∷ pos 1 ∷ pos 3 ∷ pos 4 ∷ []))) oneToFour
+    ∷ says "and so does `inv`" (ranIn mode.Documented Forward "adapt from=nwuf | adapt from=nwuf inv" oneToFour) oneToFour
+    ∷ says "in the crate's mode it does not" (ranIn mode.Crate Forward "adapt from=nwuf | adapt from=nwuf inv" oneToFour) (floats (minus1 ∷ signed true 2 ∷ pos 3 ∷ pos 4 ∷ []))
+    ∷ says "of the word `unef_deg` places 2 and 3 carry the angle" (recordsIn mode.Documented "adapt to=unef_deg") ((11, outputs (pos 3) (pos 2) (pos 1) (pos 4) 0 1 1 0) ∷ [])
+    ∷ says "in the crate's mode 1 and 2" (recordsIn mode.Crate "adapt to=unef_deg") ((10, outputs (pos 3) (pos 2) (pos 1) (pos 4) 1 1 0 0) ∷ [])
+    ∷ says "up and down, future and past carry none" (recordsIn mode.Documented "adapt from=dpsw_gon") ((11, outputs (signed true 4) (signed true 3) (signed true 1) (signed true 2) 6 6 0 0) ∷ [])
+    ∷ says "no other record changes" (recordsIn mode.Documented "push v_1 | axisswap order=2,1") ((0, pos 1 ∷ []) ∷ (9, pos 2 ∷ pos 1 ∷ []) ∷ [])
+    ∷ says "letters as in document 01" (on (prepareAs Crate mode.Documented) "adapt from=entu") (refuses 14 1)
+    ∷ says "tables that mix both are accepted" (check Forward (madeIn mode.Crate "adapt" ++ madeIn mode.Documented "adapt") .verdict) Passes
+    ∷ says "no places are told" (check Forward (madeIn mode.Documented "adapt") .told) false
+    ∷ rewritesIn mode.Documented "adapt from=nwuf" "adapt from=enuf to=seuf"
+    ∷ rewritesIn mode.Documented "adapt from=unef_deg" "adapt from=uenf_deg to=neuf"
+    ∷ rewritesIn mode.Documented "adapt from=dpsw_gon to=wsdp_deg inv" "adapt from=ufen_gon to=neuf_deg inv"
     ∷ []
 
 -- ---- the words of the demands

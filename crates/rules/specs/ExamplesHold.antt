@@ -2,15 +2,16 @@
 -- table's, and its n-th `refl` is that of row n.
 use mathlib.Core.Path.{refl}
 use Rattle.rules.specs.Opened.{opened}
-use Rattle.rules.specs.Examples.{examples, also, printed, rewritten, readings, demanded, AllHold}
+use Rattle.rules.specs.Examples.{examples, also, printed, rewritten, readings, modes, demanded, AllHold}
 
-pub examples-hold : AllHold examples × AllHold also × AllHold printed × AllHold rewritten × AllHold readings × AllHold demanded
+pub examples-hold : AllHold examples × AllHold also × AllHold printed × AllHold rewritten × AllHold readings × AllHold modes × AllHold demanded
 unfolding opened
 examples-hold = (
   (refl, (refl, (refl, (refl, (refl, (refl, (refl, (refl, (refl, (refl, (refl, (refl, (refl, (refl, (refl, (refl, tt)))))))))))))))),
   (refl, (refl, (refl, (refl, (refl, (refl, (refl, (refl, (refl, (refl, (refl, (refl, (refl, (refl, (refl, (refl, (refl, (refl, (refl, tt))))))))))))))))))),
-  (refl, (refl, (refl, (refl, (refl, (refl, (refl, (refl, (refl, tt))))))))),
+  (refl, (refl, (refl, (refl, (refl, (refl, (refl, (refl, (refl, (refl, tt)))))))))),
   (refl, (refl, (refl, (refl, (refl, (refl, (refl, (refl, (refl, (refl, tt)))))))))),
   (refl, (refl, (refl, (refl, (refl, (refl, (refl, (refl, (refl, (refl, (refl, (refl, (refl, (refl, (refl, (refl, tt)))))))))))))))),
+  (refl, (refl, (refl, (refl, (refl, (refl, (refl, (refl, (refl, (refl, (refl, (refl, (refl, (refl, (refl, tt))))))))))))))),
   (refl, (refl, (refl, tt))),
 )

@@ -3,23 +3,25 @@
 use mathlib.Core.Bool.{xor}
 use mathlib.Core.List.{flatMap}
 use lib.Ieee.{neg, mul, div, eq, ofInt, ofFields, ofBits, toBits, size}
-use Rattle.rules.specs.Examples.{on, refusal, records, ran, verdictOn, floats, examples, deep, also, printsAs, prints, printed, rewrites, rewritten, checkOn, doesOn, mixed, readings, demanded, Holds, AllHold}
-use Rattle.rules.specs.Face.Plain.{plainWritten, plainFound, plainPrepared, directionOf, plainVerdict, plainCheck, plainRan, plainOutcome}
+use Rattle.rules.specs.Examples.{on, refusal, records, ran, verdictOn, floats, examples, deep, also, printsAs, prints, printed, rewrites, rewritten, checkOn, doesOn, mixed, readings, madeIn, ranIn, recordsIn, rewritesIn, modes, demanded, Holds, AllHold}
+use Rattle.rules.specs.Face.Demands.{signAngle}
+use Rattle.rules.specs.Face.Plain.{plainWritten, plainFound, plainPrepared, modeOf, directionOf, plainVerdict, plainCheck, plainRan, plainOutcome}
 use Rattle.rules.specs.Face.Shown.{counted, refusalText, orRefused, called, signedPlace, twoPlaces, fourPlaces, passText, verdictText, verdictLine, bothChecks, shownChecks, heading, headed, shownSteps, translatedLine, shown}
 use Rattle.rules.specs.Operators.Adapt.{placeIn, axis, ending, wordOf, word, wordGiven, position, outputOf, angles, combined, between, isCode, isAdapt, angle, factor, post, mult, output, sets, stays, noop, adaptedIf, adapted, letter, endingOf, fromWord, toWord}
 use Rattle.rules.specs.Operators.Arguments.{valueOf, isGiven, arg, places, isPlace, isDistinct, isOrder, wholes, spelling, listing, keyValue}
 use Rattle.rules.specs.Operators.Axisswap.{order, swapFrom, unswapFrom, reordered, swapped}
 use Rattle.rules.specs.Operators.Descriptions.{choose}
+use Rattle.rules.specs.Operators.Documented.{inputAt, outputByAxis, carriesAngle, angleByAxis, combinedByAxis, isPair, twoAlike, isDocumented, sendsBack, adaptedByAxis, codeFrom, lettersFor, lettersFrom, letterOf, codeOf, fromByAxis, toByAxis, adaptIn, combinedIn, isAdaptIn, adaptedIn}
 use Rattle.rules.specs.Operators.Keys.{flag, numbered, worded, kindIn}
 use Rattle.rules.specs.Operators.Numbers.{number, put, turn}
 use Rattle.rules.specs.Operators.PushPop.{isRising, axisKeys, flagged, axes, flagOf}
 use Rattle.rules.specs.Operators.Stack.{isPlaces, isRoll, isNothing, rolling, unrolling, actionKeys, actions, actionThen, actionsGiven, exactlyOne}
-use Rattle.rules.specs.Operators.Table.{operators, numberOf, withNumber, operatorOf, isArgs, forward, inverse, names, nameIn, nameOf}
+use Rattle.rules.specs.Operators.Table.{operators, numberOf, withNumber, operatorOf, isArgs, otherMode, isOfMode, forward, inverse, names, nameIn, nameOf}
 use Rattle.rules.specs.Pipeline.Check.{place, putPlace, turnPlace, adapting, anyAdapt, verdict, only, foretold, answered, checked, check}
 use Rattle.rules.specs.Pipeline.Columns.{rolledOnce, rolled, swappedTop, pushed, popped, topped, flipped, moved, takes, tooFew, after, depths, deepest}
 use Rattle.rules.specs.Pipeline.Keys.{everyKey, ownKeys, kindOf, isLacking, unknown, misspelt, tooLong}
-use Rattle.rules.specs.Pipeline.Prepare.{mark, recordOf, recorded, ownRule, judged14, judged11, named, judged10, judged, atStep, prepareStep, prepareSteps, prepare, prepareAs}
-use Rattle.rules.specs.Pipeline.Record.{readingNumber, readingOf, stepWith, inReading, operator, args, unused, isSet, nineDigits, made, tableReading, goodIn, firstBad, refusal18, blank, listed}
+use Rattle.rules.specs.Pipeline.Prepare.{mark, recordOf, recorded, ownRule, judged14, judged11, named, judged10, judged, atStep, prepareStep, prepareSteps, prepareIn, prepare, prepareAs}
+use Rattle.rules.specs.Pipeline.Record.{readingNumber, readingOf, stepWith, inReading, operator, args, unused, isSet, ofMode, nineDigits, made, tableReading, goodIn, firstBad, refusal18, blank, listed}
 use Rattle.rules.specs.Pipeline.Run.{countFrom, count, passes64, badList, storeAfter, refused, finished, unless16, unless15, unless18, runs}
 use Rattle.rules.specs.Pipeline.Running.{opposite, turns, directed, actOf, act, omitted, ordered, runningFrom, running}
 use Rattle.rules.specs.Pipeline.Tuples.{tuples, numbers, column, stored, drained, stomped, starved, actedIf, acted, countsNone, counts}
@@ -40,19 +42,22 @@ use Rattle.rules.specs.Text.Split.{modifier, onlyModifiers, leading, fol
 
 unfoldable pub opened : Unit {0}
 unfolding xor flatMap neg mul div eq ofInt ofFields ofBits toBits size on refusal records ran verdictOn floats
-    examples deep also printsAs prints printed rewrites rewritten checkOn doesOn mixed readings demanded Holds
-    AllHold plainWritten plainFound plainPrepared directionOf plainVerdict plainCheck plainRan plainOutcome counted
-    refusalText orRefused called signedPlace twoPlaces fourPlaces passText verdictText verdictLine bothChecks
-    shownChecks heading headed shownSteps translatedLine shown placeIn axis ending wordOf word wordGiven position
-    outputOf angles combined between isCode isAdapt angle factor post mult output sets stays noop adaptedIf adapted
-    letter endingOf fromWord toWord valueOf isGiven arg places isPlace isDistinct isOrder wholes spelling listing
-    keyValue order swapFrom unswapFrom reordered swapped choose flag numbered worded kindIn number put turn isRising
-    axisKeys flagged axes flagOf isPlaces isRoll isNothing rolling unrolling actionKeys actions actionThen
-    actionsGiven exactlyOne operators numberOf withNumber operatorOf isArgs forward inverse names nameIn nameOf
-    place putPlace turnPlace adapting anyAdapt verdict only foretold answered checked check rolledOnce rolled
-    swappedTop pushed popped topped flipped moved takes tooFew after depths deepest everyKey ownKeys kindOf
-    isLacking unknown misspelt tooLong mark recordOf recorded ownRule judged14 judged11 named judged10 judged atStep
-    prepareStep prepareSteps prepare prepareAs readingNumber readingOf stepWith inReading operator args unused isSet
+    examples deep also printsAs prints printed rewrites rewritten checkOn doesOn mixed readings madeIn ranIn
+    recordsIn rewritesIn modes demanded Holds AllHold signAngle plainWritten plainFound plainPrepared modeOf
+    directionOf plainVerdict plainCheck plainRan plainOutcome counted refusalText orRefused called signedPlace
+    twoPlaces fourPlaces passText verdictText verdictLine bothChecks shownChecks heading headed shownSteps
+    translatedLine shown placeIn axis ending wordOf word wordGiven position outputOf angles combined between isCode
+    isAdapt angle factor post mult output sets stays noop adaptedIf adapted letter endingOf fromWord toWord valueOf
+    isGiven arg places isPlace isDistinct isOrder wholes spelling listing keyValue order swapFrom unswapFrom
+    reordered swapped choose inputAt outputByAxis carriesAngle angleByAxis combinedByAxis isPair twoAlike
+    isDocumented sendsBack adaptedByAxis codeFrom lettersFor lettersFrom letterOf codeOf fromByAxis toByAxis adaptIn
+    combinedIn isAdaptIn adaptedIn flag numbered worded kindIn number put turn isRising axisKeys flagged axes flagOf
+    isPlaces isRoll isNothing rolling unrolling actionKeys actions actionThen actionsGiven exactlyOne operators
+    numberOf withNumber operatorOf isArgs otherMode isOfMode forward inverse names nameIn nameOf place putPlace
+    turnPlace adapting anyAdapt verdict only foretold answered checked check rolledOnce rolled swappedTop pushed
+    popped topped flipped moved takes tooFew after depths deepest everyKey ownKeys kindOf isLacking unknown misspelt
+    tooLong mark recordOf recorded ownRule judged14 judged11 named judged10 judged atStep prepareStep prepareSteps
+    prepareIn prepare prepareAs readingNumber readingOf stepWith inReading operator args unused isSet ofMode
     nineDigits made tableReading goodIn firstBad refusal18 blank listed countFrom count passes64 badList storeAfter
     refused finished unless16 unless15 unless18 runs opposite turns directed actOf act omitted ordered runningFrom
     running tuples numbers column stored drained stomped starved actedIf acted countsNone counts nameWord argWords

@@ -9,4 +9,5 @@ pub mod PushPop
 pub mod Stack
 pub mod Axisswap
 pub mod Adapt
+pub mod Documented
 pub mod Table

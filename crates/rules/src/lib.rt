@@ -24,8 +24,11 @@ pub const AXISSWAP: u8 = 9;
 
 pub const ADAPT: u8 = 10;
 
+// `adapt` of the documented mode.
+pub const DOCUMENTED: u8 = 11;
+
 // The greatest of their numbers.
-pub const GREATEST: u8 = ADAPT;
+pub const GREATEST: u8 = DOCUMENTED;
 
 // The five names of operators; and whether a word is one of them.
 pub enum Name {
@@ -59,6 +62,13 @@ pub enum Reading {
 pub const CRATE: u8 = 0;
 
 pub const PROJ: u8 = 1;
+
+// The two modes of `adapt`: the crate's, which ties sign and angle to a position, and the documented, which ties them to an axis. Only an
+// `adapt` step knows its mode: by its operator's number.
+pub enum Mode {
+    Crate,
+    Documented,
+}
 
 // A step record: the operator by its number, how many arguments it has, the marks, each 0 or 1, the reading by its number, and up
 // to eight arguments in place. A slot that is not used holds 0. Whatever a C caller lends is some record; one that no preparation

@@ -23,12 +23,14 @@ use Rattle.rules.specs.Operators.Numbers.{number, put, turn}
 use Rattle.rules.specs.Operators.Keys.{flag, numbered, worded, kindIn}
 use Rattle.rules.specs.Operators.Descriptions.{Operator, Axisswap, choose}
 use Rattle.rules.specs.Operators.Axisswap.{order, swapFrom, unswapFrom, reordered, swapped}
-use Rattle.rules.specs.Operators.Table.{isArgs, nameOf}
+use Rattle.rules.specs.Operators.Table.{isArgs, nameOf, numberOf, otherMode, isOfMode}
+use Rattle.rules.specs.Operators.Documented.{adaptIn}
 use Rattle.rules.specs.Pipeline.Record.{operator, args, nineDigits}
 use Rattle.rules.specs.Pipeline.Keys.{everyKey, ownKeys, kindOf, isLacking, unknown, misspelt, tooLong}
 use Rattle.rules.specs.Pipeline.Prepare.{recordOf, recorded, ownRule, named, judged}
 use Rattle.rules.specs.Pipeline.Write.{nameWord, argWords}
 use Rattle.rules.specs.declared.Coord.{Coord}
+use Rattle.rules.specs.declared.Mode.{Mode}
 use Rattle.rules.specs.declared.Step.{Step}
 use Rattle.rules.specs.declared.Name.the-variants as name-is
 use Rattle.laws_lists.specs.Lists.{all-so}
@@ -42,7 +44,7 @@ use Rattle.laws_records.specs.Sayings.{each-total, spelling-short}
 use Rattle.laws_records.specs.Kept.{Kept}
 use Rattle.laws_records.specs.Records.{IsMade, marksOf, marks-bare, record-again}
 use Rattle.laws_records.specs.Ieee.{unit, turn-mul}
-use Rattle.laws_records.specs.Owed.{KeepsRule, Short, wholes-kept, Says, wordsJudged, PlainName, HasText, keyed, list-says, list-read, by-list, none-left}
+use Rattle.laws_records.specs.Owed.{KeepsRule, both-modes, Well, Short, wholes-kept, Says, wordsJudged, PlainName, HasText, keyed, list-says, list-read, by-list, none-left}
 
 -- ---- the rule
 
@@ -56,14 +58,14 @@ order-kept ps short none e l h = let same : pos 1 ∷ pos 2 ∷ pos 3 ∷ pos 4 
 order-kept ps short (some v) e l h = wholes-kept name-is.Axisswap ps short Axisswap (ascii "order") v refl e l h
 
 pub axisswap-keeps : KeepsRule name-is.Axisswap
-unfolding choose
-axisswap-keeps ps short c h = go (order (valueOf (ascii "order") ps)) refl h
+unfolding choose isOfMode numberOf adaptIn otherMode
+axisswap-keeps mode ps short c h = go (order (valueOf (ascii "order") ps)) refl h
   where
-    go : (r : Option (List ℤ)) → order (valueOf (ascii "order") ps) ≡ r → choose Axisswap r ≡ some c → Kept (c .operator) (c .arguments)
+    go : (r : Option (List ℤ)) → order (valueOf (ascii "order") ps) ≡ r → choose Axisswap r ≡ some c → Well mode c
     go none e h = absurd (never (cc h))
     go (some l) e h =
         let z : record { operator = Axisswap; arguments = l } ≡ c = cc h in
-        rw (← z) (order-kept ps short (valueOf (ascii "order") ps) refl l e)
+        rw (← z) (record { kept = order-kept ps short (valueOf (ascii "order") ps) refl l e; of-mode = both-modes Axisswap refl refl mode })
 
 -- ---- its text
 
@@ -92,32 +94,32 @@ module _ (s : Step) (m : IsMade s) where
   abbrev orderTable : Bytes → List Parameter
   orderTable v = tableFrom (ascii "axisswap") (keyed "order" v ∷ []) (marksOf s)
 
-  order-judged : (x : ℤ) (l : List ℤ) → args s ≡ x ∷ l → operator s ≡ Axisswap → isOrder (x ∷ l) ≡ true → judged (orderTable (listing (x ∷ l))) ≡ answers s
+  order-judged : (mode : Mode) (x : ℤ) (l : List ℤ) → args s ≡ x ∷ l → operator s ≡ Axisswap → isOrder (x ∷ l) ≡ true → judged mode (orderTable (listing (x ∷ l))) ≡ answers s
   unfolding keyed latest look picked marksOf named nameOf faulty unknown isLacking misspelt tooLong kindOf kindIn everyKey ownKeys flag numbered
       worded name bare anyOf same ascii isNone ownRule order recorded choose
-  order-judged x l z e r =
+  order-judged mode x l z e r =
       let nines : allOf nineDigits (x ∷ l) ≡ true = rw z at (m .keeps .nines) in
       let fit : length (x ∷ l) ≤ 8 = rw z at (m .keeps .fit) in
       let v = listing (x ∷ l) in
-      table-judged (ascii "axisswap") (keyed "order" v ∷ []) (marksOf s) (marks-bare s) name-is.Axisswap s refl
+      table-judged mode (ascii "axisswap") (keyed "order" v ∷ []) (marksOf s) (marks-bare s) name-is.Axisswap s refl
       (rw (list-read "order" x l nines fit)) refl
       (rw (looked (ascii "axisswap") (keyed "order" v ∷ []) (marksOf s) (marks-bare s) (ascii "order"), listing-wholes x l nines isOrder r)
       (ap (λ (a : List ℤ). some (recordOf Axisswap (orderTable v) a)) (sym z)
       ∙ ap (λ (o : Operator). some (recordOf o (orderTable v) (args s))) (sym e)
       ∙ ap some (record-again s (ascii "axisswap") (keyed "order" v ∷ []) (record { no-inv = refl; no-fwd = refl; no-back = refl }) m)))
 
-  order-again : operator s ≡ Axisswap → wordsJudged s (nameWord Axisswap) (argWords Axisswap (args s)) ≡ answers s
+  order-again : (mode : Mode) → operator s ≡ Axisswap → wordsJudged mode s (nameWord Axisswap) (argWords Axisswap (args s)) ≡ answers s
   unfolding isArgs nameWord argWords
-  order-again e = go (args s) refl
+  order-again mode e = go (args s) refl
     where
       rule : isOrder (args s) ≡ true
       rule = rw e at (m .keeps .rule)
 
-      go : (l : List ℤ) → args s ≡ l → wordsJudged s (ascii "axisswap") (keyValue "order" (listing (args s)) ∷ []) ≡ answers s
+      go : (l : List ℤ) → args s ≡ l → wordsJudged mode s (ascii "axisswap") (keyValue "order" (listing (args s)) ∷ []) ≡ answers s
       go [] z = none-left (order-some [] (rw z at rule) .0)
       go (x ∷ l) z =
           rw z
-          (by-list "order" x l (rw z at (m .keeps .nines)) s (ascii "axisswap") (unfold lacks anyOf ascii in refl) (order-judged x l z e (rw z at rule)))
+          (by-list "order" x l (rw z at (m .keeps .nines)) mode s (ascii "axisswap") (unfold lacks anyOf ascii in refl) (order-judged mode x l z e (rw z at rule)))
 
 axisswap-name : PlainName (ascii "axisswap")
 unfolding word.worded calm firm known follows middle quiet endOf lacks white modifier same anyOf ascii
@@ -128,7 +130,7 @@ axisswap-text =
     record {
       named = unfold nameWord in axisswap-name;
       says = λ l f h r. order-says l h (unfold isArgs in r);
-      again = order-again;
+      again = λ mode of s m. order-again s m mode;
     }
 
 -- ---- what it does, as the Rust has it: each number times its sign

@@ -22,11 +22,13 @@ use Rattle.rules.specs.Operators.Arguments.{isGiven, size, isPlace}
 use Rattle.rules.specs.Operators.Keys.{flag, numbered, worded, kindIn}
 use Rattle.rules.specs.Operators.Descriptions.{Operator, Push, Pop, choose}
 use Rattle.rules.specs.Operators.PushPop.{isRising, axisKeys, flagged, axes, flagOf}
-use Rattle.rules.specs.Operators.Table.{isArgs, nameOf}
+use Rattle.rules.specs.Operators.Table.{isArgs, nameOf, numberOf, otherMode, isOfMode}
+use Rattle.rules.specs.Operators.Documented.{adaptIn}
 use Rattle.rules.specs.Pipeline.Record.{operator, args, nineDigits}
 use Rattle.rules.specs.Pipeline.Keys.{everyKey, ownKeys, kindOf, isLacking, unknown, misspelt, tooLong}
 use Rattle.rules.specs.Pipeline.Prepare.{recordOf, recorded, ownRule, named, judged}
 use Rattle.rules.specs.Pipeline.Write.{nameWord, argWords}
+use Rattle.rules.specs.declared.Mode.{Mode}
 use Rattle.rules.specs.declared.Step.{Step}
 use Rattle.rules.specs.declared.Name.{Name}
 use Rattle.rules.specs.declared.Name.the-variants as name-is
@@ -39,7 +41,7 @@ use Rattle.laws_records.specs.Worded as word
 use Rattle.laws_records.specs.Sayings.{total}
 use Rattle.laws_records.specs.Kept.{Kept}
 use Rattle.laws_records.specs.Records.{IsMade, marksOf, marks-bare, Unmarked, given-back, record-again}
-use Rattle.laws_records.specs.Owed.{KeepsRule, Says, wordsJudged, PlainName, HasText, by-own}
+use Rattle.laws_records.specs.Owed.{KeepsRule, both-modes, Says, wordsJudged, PlainName, HasText, by-own}
 
 -- ---- whichever flags are given, the axes keep the rule
 
@@ -65,12 +67,16 @@ axes-kept o ps e =
     }
 
 pub push-keeps : KeepsRule name-is.Push
-unfolding choose isArgs
-push-keeps ps short c h = let e : record { operator = Push; arguments = axes ps } ≡ c = cc h in rw (← e) (axes-kept Push ps (λ l. refl))
+unfolding choose isArgs isOfMode numberOf adaptIn otherMode
+push-keeps mode ps short c h =
+    let e : record { operator = Push; arguments = axes ps } ≡ c = cc h in
+    rw (← e) (record { kept = axes-kept Push ps (λ l. refl); of-mode = both-modes Push refl refl mode })
 
 pub pop-keeps : KeepsRule name-is.Pop
-unfolding choose isArgs
-pop-keeps ps short c h = let e : record { operator = Pop; arguments = axes ps } ≡ c = cc h in rw (← e) (axes-kept Pop ps (λ l. refl))
+unfolding choose isArgs isOfMode numberOf adaptIn otherMode
+pop-keeps mode ps short c h =
+    let e : record { operator = Pop; arguments = axes ps } ≡ c = cc h in
+    rw (← e) (record { kept = axes-kept Pop ps (λ l. refl); of-mode = both-modes Pop refl refl mode })
 
 -- ---- a choice of axes
 
@@ -220,12 +226,12 @@ module _ (s : Step) (m : IsMade s) (ch : Choice (args s)) where
       go : (a b c d : Bool) → cond a (pos 1 ∷ []) [] ++ (cond b (pos 2 ∷ []) [] ++ (cond c (pos 3 ∷ []) [] ++ cond d (pos 4 ∷ []) [])) ≡ axesOn a b c d
       go a b c d = unfold axesOn in one a (pos 1) _ ∙ ap (before a (pos 1)) (one b (pos 2) _ ∙ ap (before b (pos 2)) (one c (pos 3) _ ∙ ap (before c (pos 3)) (unfold before in refl)))
 
-  axes-judged : (n : Name) (o : Operator) (w : Bytes) → nameOf w ≡ Is n → faulty n (name w) ≡ false → anyOf (λ (f : Flag). faulty n (bare (f .word))) flags ≡ false
-      → anyOf (λ (f : Flag). faulty n (bare (f .word))) (marksOf s) ≡ false → ((ps : List Parameter) → ownRule n ps ≡ some (recordOf o ps (axes ps)))
-      → operator s ≡ o → judged (tableFrom w own (marksOf s)) ≡ answers s
+  axes-judged : (mode : Mode) (n : Name) (o : Operator) (w : Bytes) → nameOf w ≡ Is n → faulty n (name w) ≡ false → anyOf (λ (f : Flag). faulty n (bare (f .word))) flags ≡ false
+      → anyOf (λ (f : Flag). faulty n (bare (f .word))) (marksOf s) ≡ false → ((ps : List Parameter) → ownRule mode n ps ≡ some (recordOf o ps (axes ps)))
+      → operator s ≡ o → judged mode (tableFrom w own (marksOf s)) ≡ answers s
   unfolding named
-  axes-judged n o w i f g k r e =
-      table-judged w own (marksOf s) (marks-bare s) n s
+  axes-judged mode n o w i f g k r e =
+      table-judged mode w own (marksOf s) (marks-bare s) n s
       (rw (look-name w) i)
       (unfold anyOf in rw f (any-chosen (faulty n) flags (axis-bare (ch .a) (ch .b) (ch .c) (ch .d)) g))
       k
@@ -235,20 +241,20 @@ module _ (s : Step) (m : IsMade s) (ch : Choice (args s)) where
   flags-own : map parameter (map flagOf (args s)) ≡ own
   flags-own = ap (λ (k : List ℤ). map parameter (map flagOf k)) (ch .are) ∙ ap (map parameter) (flags-choice (ch .a) (ch .b) (ch .c) (ch .d))
 
-module _ (s : Step) (m : IsMade s) where
-  push-again : operator s ≡ Push → wordsJudged s (nameWord Push) (argWords Push (args s)) ≡ answers s
+module _ (mode : Mode) (s : Step) (m : IsMade s) where
+  push-again : operator s ≡ Push → wordsJudged mode s (nameWord Push) (argWords Push (args s)) ≡ answers s
   unfolding isArgs nameWord argWords nameOf anyOf faulty unknown isLacking misspelt tooLong kindOf kindIn everyKey ownKeys axisKeys flag numbered
       worded name bare marksOf axisFlags axisFlag same ascii isNone ownRule recorded choose
   push-again e =
       let ch = rising-choice (args s) (rw e at (m .keeps .rule)) in
-      by-own s (ascii "push") (map flagOf (args s)) _ (flags-own s m ch) (axes-judged s m ch name-is.Push Push (ascii "push") refl refl refl refl (λ ps. refl) e)
+      by-own mode s (ascii "push") (map flagOf (args s)) _ (flags-own s m ch) (axes-judged s m ch mode name-is.Push Push (ascii "push") refl refl refl refl (λ ps. refl) e)
 
-  pop-again : operator s ≡ Pop → wordsJudged s (nameWord Pop) (argWords Pop (args s)) ≡ answers s
+  pop-again : operator s ≡ Pop → wordsJudged mode s (nameWord Pop) (argWords Pop (args s)) ≡ answers s
   unfolding isArgs nameWord argWords nameOf anyOf faulty unknown isLacking misspelt tooLong kindOf kindIn everyKey ownKeys axisKeys flag numbered
       worded name bare marksOf axisFlags axisFlag same ascii isNone ownRule recorded choose
   pop-again e =
       let ch = rising-choice (args s) (rw e at (m .keeps .rule)) in
-      by-own s (ascii "pop") (map flagOf (args s)) _ (flags-own s m ch) (axes-judged s m ch name-is.Pop Pop (ascii "pop") refl refl refl refl (λ ps. refl) e)
+      by-own mode s (ascii "pop") (map flagOf (args s)) _ (flags-own s m ch) (axes-judged s m ch mode name-is.Pop Pop (ascii "pop") refl refl refl refl (λ ps. refl) e)
 
 -- ---- their words
 
@@ -300,7 +306,7 @@ push-text =
     record {
       named = unfold nameWord in push-name;
       says = λ l f h r. flags-say Push l (unfold argWords in refl) (unfold nameWord ascii in lit≤ tt) f (unfold isArgs in r);
-      again = push-again;
+      again = λ mode of. push-again mode;
     }
 
 pub pop-text : HasText Pop
@@ -308,5 +314,5 @@ pop-text =
     record {
       named = unfold nameWord in pop-name;
       says = λ l f h r. flags-say Pop l (unfold argWords in refl) (unfold nameWord ascii in lit≤ tt) f (unfold isArgs in r);
-      again = pop-again;
+      again = λ mode of. pop-again mode;
     }

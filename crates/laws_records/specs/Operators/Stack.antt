@@ -21,11 +21,13 @@ use Rattle.rules.specs.Operators.Arguments.{valueOf, size, isPlace, wholes, spe
 use Rattle.rules.specs.Operators.Keys.{flag, numbered, worded, kindIn}
 use Rattle.rules.specs.Operators.Descriptions.{Operator, StackPush, StackPop, StackFlip, StackRoll, StackUnroll, StackSwap, StackDrop, Chosen, choose}
 use Rattle.rules.specs.Operators.Stack.{isPlaces, isRoll, isNothing, actionKeys, Action, actions, actionThen, actionsGiven, exactlyOne}
-use Rattle.rules.specs.Operators.Table.{isArgs, nameOf}
+use Rattle.rules.specs.Operators.Table.{isArgs, nameOf, numberOf, otherMode, isOfMode}
+use Rattle.rules.specs.Operators.Documented.{adaptIn}
 use Rattle.rules.specs.Pipeline.Record.{operator, args, nineDigits}
 use Rattle.rules.specs.Pipeline.Keys.{everyKey, ownKeys, kindOf, isLacking, unknown, misspelt, tooLong}
 use Rattle.rules.specs.Pipeline.Prepare.{recorded, ownRule, named, judged}
 use Rattle.rules.specs.Pipeline.Write.{nameWord, argWords}
+use Rattle.rules.specs.declared.Mode.{Mode}
 use Rattle.rules.specs.declared.Step.{Step}
 use Rattle.rules.specs.declared.Name.the-variants.{Stack}
 use Rattle.rules.specs.declared.Named.the-variants.{Is}
@@ -39,48 +41,50 @@ use Rattle.laws_records.specs.Worded as word
 use Rattle.laws_records.specs.Sayings.{total, each-total, spelling-long, spelling-short}
 use Rattle.laws_records.specs.Kept.{Kept}
 use Rattle.laws_records.specs.Records.{IsMade, marksOf, marks-bare, Unmarked, record-again}
-use Rattle.laws_records.specs.Owed.{KeepsRule, Short, wholes-kept, Says, wordsJudged, HasText, by-own, PlainName, one-says, keyed, list-says, list-read, by-list}
+use Rattle.laws_records.specs.Owed.{KeepsRule, both-modes, Well, Short, wholes-kept, Says, wordsJudged, HasText, by-own, PlainName, one-says, keyed, list-says, list-read, by-list}
 
 -- ---- the action that is given keeps its rule
 
--- a choice, if it is one, keeps the rule of its operator
-abbrev IfKept : Option Chosen → Type 0
-IfKept r = (c : Chosen) → r ≡ some c → Kept (c .operator) (c .arguments)
+-- a choice, if it is one, is of a mode that makes its operator, and keeps the operator's rule
+abbrev IfKept : Mode → Option Chosen → Type 0
+IfKept mode r = (c : Chosen) → r ≡ some c → Well mode c
 
-one-kept : (l : List (Option Chosen)) → Every IfKept l → IfKept (exactlyOne l)
-unfolding Every exactlyOne
-one-kept [] a c h = absurd (never (cc h))
-one-kept (x ∷ []) a c h = a .0 c h
-one-kept (x ∷ y ∷ l) a c h = absurd (never (cc h))
+module _ (mode : Mode) where
+  one-kept : (l : List (Option Chosen)) → Every (IfKept mode) l → IfKept mode (exactlyOne l)
+  unfolding Every exactlyOne
+  one-kept [] a c h = absurd (never (cc h))
+  one-kept (x ∷ []) a c h = a .0 c h
+  one-kept (x ∷ y ∷ l) a c h = absurd (never (cc h))
 
-choose-kept : (o : Operator) (r : Option (List ℤ)) → ((l : List ℤ) → r ≡ some l → Kept o l) → IfKept (choose o r)
-unfolding choose
-choose-kept o none k c h = absurd (never (cc h))
-choose-kept o (some l) k c h = let e : record { operator = o; arguments = l } ≡ c = cc h in rw (← e) (k l refl)
+  choose-kept : (o : Operator) (r : Option (List ℤ)) → isOfMode mode o ≡ true → ((l : List ℤ) → r ≡ some l → Kept o l) → IfKept mode (choose o r)
+  unfolding choose
+  choose-kept o none f k c h = absurd (never (cc h))
+  choose-kept o (some l) f k c h = let e : record { operator = o; arguments = l } ≡ c = cc h in rw (← e) (record { kept = k l refl; of-mode = f })
 
-action-kept : (a : Action) (v : Option Bytes) (l : List (Option Chosen)) → ((w : Bytes) → v ≡ some w → (m : List ℤ) → a .arguments w ≡ some m → Kept (a .operator) m)
-    → Every IfKept l → Every IfKept (actionThen a v l)
-unfolding Every actionThen
-action-kept a none l h r = r
-action-kept a (some v) l h r = (choose-kept (a .operator) (a .arguments v) (h v refl), r)
+  action-kept : (a : Action) (v : Option Bytes) (l : List (Option Chosen)) → isOfMode mode (a .operator) ≡ true
+      → ((w : Bytes) → v ≡ some w → (m : List ℤ) → a .arguments w ≡ some m → Kept (a .operator) m) → Every (IfKept mode) l → Every (IfKept mode) (actionThen a v l)
+  unfolding Every actionThen
+  action-kept a none l f h r = r
+  action-kept a (some v) l f h r = (choose-kept (a .operator) (a .arguments v) f (h v refl), r)
 
 nothing-kept : (o : Operator) → isArgs o [] ≡ true → (l : List ℤ) → some [] ≡ some l → Kept o l
 unfolding allOf
 nothing-kept o r l h = let e : [] ≡ l = cc h in rw (← e) (record { fit = lit≤ tt; nines = refl; rule = r })
 
-actions-kept : (ps : List Parameter) → Short Stack ps → Every IfKept (actionsGiven ps actions)
-unfolding Every actionsGiven actions isArgs isNothing kindOf kindIn everyKey ownKeys actionKeys flag numbered worded same ascii
-actions-kept ps short =
-    action-kept _ (valueOf (ascii "push") ps) _ (λ v e. wholes-kept Stack ps short StackPush (ascii "push") v refl e)
-    (action-kept _ (valueOf (ascii "pop") ps) _ (λ v e. wholes-kept Stack ps short StackPop (ascii "pop") v refl e)
-    (action-kept _ (valueOf (ascii "flip") ps) _ (λ v e. wholes-kept Stack ps short StackFlip (ascii "flip") v refl e)
-    (action-kept _ (valueOf (ascii "roll") ps) _ (λ v e. wholes-kept Stack ps short StackRoll (ascii "roll") v refl e)
-    (action-kept _ (valueOf (ascii "unroll") ps) _ (λ v e. wholes-kept Stack ps short StackUnroll (ascii "unroll") v refl e)
-    (action-kept _ (valueOf (ascii "swap") ps) _ (λ v e. nothing-kept StackSwap refl)
-    (action-kept _ (valueOf (ascii "drop") ps) _ (λ v e. nothing-kept StackDrop refl) tt))))))
+actions-kept : (mode : Mode) (ps : List Parameter) → Short Stack ps → Every (IfKept mode) (actionsGiven ps actions)
+unfolding Every actionsGiven actions isArgs isOfMode numberOf adaptIn otherMode isNothing kindOf kindIn everyKey ownKeys actionKeys flag numbered worded
+    same ascii
+actions-kept mode ps short =
+    action-kept mode _ (valueOf (ascii "push") ps) _ (both-modes StackPush refl refl mode) (λ v e. wholes-kept Stack ps short StackPush (ascii "push") v refl e)
+    (action-kept mode _ (valueOf (ascii "pop") ps) _ (both-modes StackPop refl refl mode) (λ v e. wholes-kept Stack ps short StackPop (ascii "pop") v refl e)
+    (action-kept mode _ (valueOf (ascii "flip") ps) _ (both-modes StackFlip refl refl mode) (λ v e. wholes-kept Stack ps short StackFlip (ascii "flip") v refl e)
+    (action-kept mode _ (valueOf (ascii "roll") ps) _ (both-modes StackRoll refl refl mode) (λ v e. wholes-kept Stack ps short StackRoll (ascii "roll") v refl e)
+    (action-kept mode _ (valueOf (ascii "unroll") ps) _ (both-modes StackUnroll refl refl mode) (λ v e. wholes-kept Stack ps short StackUnroll (ascii "unroll") v refl e)
+    (action-kept mode _ (valueOf (ascii "swap") ps) _ (both-modes StackSwap refl refl mode) (λ v e. nothing-kept StackSwap refl)
+    (action-kept mode _ (valueOf (ascii "drop") ps) _ (both-modes StackDrop refl refl mode) (λ v e. nothing-kept StackDrop refl) tt))))))
 
 pub stack-keeps : KeepsRule Stack
-stack-keeps ps short c h = one-kept (actionsGiven ps actions) (actions-kept ps short) c h
+stack-keeps mode ps short c h = one-kept mode (actionsGiven ps actions) (actions-kept mode ps short) c h
 
 -- ---- the action that a text gives
 
@@ -105,11 +109,11 @@ module _ (s : Step) (m : IsMade s) where
   stack-given : (key : String) (v : Bytes) → actionsGiven (stackTable key v) actions ≡ actionsBy (looks key v) actions
   stack-given key v = actions-by _ (stackTable key v) (looked (ascii "stack") (keyed key v ∷ []) (marksOf s) (marks-bare s)) actions
 
-  stack-judged : (key : String) (v : Bytes) (o : Operator) → Unmarked (keyed key v ∷ []) → named (looks key v (ascii "_name")) ≡ Is Stack → faulty Stack (keyed key v) ≡ false
-      → exactlyOne (actionsBy (looks key v) actions) ≡ choose o (some (args s)) → operator s ≡ o → judged (stackTable key v) ≡ answers s
+  stack-judged : (mode : Mode) (key : String) (v : Bytes) (o : Operator) → Unmarked (keyed key v ∷ []) → named (looks key v (ascii "_name")) ≡ Is Stack → faulty Stack (keyed key v) ≡ false
+      → exactlyOne (actionsBy (looks key v) actions) ≡ choose o (some (args s)) → operator s ≡ o → judged mode (stackTable key v) ≡ answers s
   unfolding ownRule anyOf recorded choose
-  stack-judged key v o u n f g e =
-      table-judged (ascii "stack") (keyed key v ∷ []) (marksOf s) (marks-bare s) Stack s n
+  stack-judged mode key v o u n f g e =
+      table-judged mode (ascii "stack") (keyed key v ∷ []) (marksOf s) (marks-bare s) Stack s n
       (rw f (unfold faulty unknown isLacking misspelt tooLong kindOf kindIn everyKey ownKeys actionKeys flag numbered worded name same ascii isNone in refl))
       (unfold faulty unknown isLacking misspelt tooLong kindOf kindIn everyKey ownKeys actionKeys flag numbered worded bare marksOf same ascii isNone in refl)
       (rw (stack-given key v, g, ← e) (ap some (record-again s (ascii "stack") (keyed key v ∷ []) u m)))
@@ -124,19 +128,19 @@ module _ (s : Step) (m : IsMade s) where
       none : (n : ℕ) → suc n ≡ 0 → ⊥
       none n e = omega arith
 
-  swap-again : operator s ≡ StackSwap → wordsJudged s (nameWord StackSwap) (argWords StackSwap (args s)) ≡ answers s
+  swap-again : (mode : Mode) → operator s ≡ StackSwap → wordsJudged mode s (nameWord StackSwap) (argWords StackSwap (args s)) ≡ answers s
   unfolding isArgs nameWord argWords keyed latest look picked marksOf named nameOf faulty unknown isLacking misspelt tooLong kindOf kindIn everyKey
       ownKeys actionKeys flag numbered worded same ascii isNone actionsBy actions actionThen exactlyOne
-  swap-again e =
-      by-own s (ascii "stack") (ascii "swap" ∷ []) (keyed "swap" (ascii "true") ∷ []) (unfold parameter anyOf ascii in refl)
-      (stack-judged "swap" (ascii "true") StackSwap (record { no-inv = refl; no-fwd = refl; no-back = refl }) refl refl (rw (no-args (args s) (rw e at (m .keeps .rule)))) e)
+  swap-again mode e =
+      by-own mode s (ascii "stack") (ascii "swap" ∷ []) (keyed "swap" (ascii "true") ∷ []) (unfold parameter anyOf ascii in refl)
+      (stack-judged mode "swap" (ascii "true") StackSwap (record { no-inv = refl; no-fwd = refl; no-back = refl }) refl refl (rw (no-args (args s) (rw e at (m .keeps .rule)))) e)
 
-  drop-again : operator s ≡ StackDrop → wordsJudged s (nameWord StackDrop) (argWords StackDrop (args s)) ≡ answers s
+  drop-again : (mode : Mode) → operator s ≡ StackDrop → wordsJudged mode s (nameWord StackDrop) (argWords StackDrop (args s)) ≡ answers s
   unfolding isArgs nameWord argWords keyed latest look picked marksOf named nameOf faulty unknown isLacking misspelt tooLong kindOf kindIn everyKey
       ownKeys actionKeys flag numbered worded same ascii isNone actionsBy actions actionThen exactlyOne
-  drop-again e =
-      by-own s (ascii "stack") (ascii "drop" ∷ []) (keyed "drop" (ascii "true") ∷ []) (unfold parameter anyOf ascii in refl)
-      (stack-judged "drop" (ascii "true") StackDrop (record { no-inv = refl; no-fwd = refl; no-back = refl }) refl refl (rw (no-args (args s) (rw e at (m .keeps .rule)))) e)
+  drop-again mode e =
+      by-own mode s (ascii "stack") (ascii "drop" ∷ []) (keyed "drop" (ascii "true") ∷ []) (unfold parameter anyOf ascii in refl)
+      (stack-judged mode "drop" (ascii "true") StackDrop (record { no-inv = refl; no-fwd = refl; no-back = refl }) refl refl (rw (no-args (args s) (rw e at (m .keeps .rule)))) e)
 
   -- ---- an action with a list of numbers
 
@@ -151,13 +155,13 @@ module _ (s : Step) (m : IsMade s) where
     as-stack : nameWord o ≡ ascii "stack"
     some-left : isArgs o [] ≡ false
 
-  list-again : (key : String) (o : Operator) → ListAction key o → operator s ≡ o → wordsJudged s (nameWord o) (argWords o (args s)) ≡ answers s
-  list-again key o a e = go (args s) refl
+  list-again : (mode : Mode) (key : String) (o : Operator) → ListAction key o → operator s ≡ o → wordsJudged mode s (nameWord o) (argWords o (args s)) ≡ answers s
+  list-again mode key o a e = go (args s) refl
     where
       rule : isArgs o (args s) ≡ true
       rule = rw e at (m .keeps .rule)
 
-      go : (l : List ℤ) → args s ≡ l → wordsJudged s (nameWord o) (argWords o (args s)) ≡ answers s
+      go : (l : List ℤ) → args s ≡ l → wordsJudged mode s (nameWord o) (argWords o (args s)) ≡ answers s
       go [] z = absurd (never (cc (rw z at rule, a .some-left)))
       go (x ∷ l) z =
           let nines : allOf nineDigits (x ∷ l) ≡ true = rw z at (m .keeps .nines) in
@@ -165,7 +169,7 @@ module _ (s : Step) (m : IsMade s) where
           let v = listing (x ∷ l) in
           let g : exactlyOne (actionsBy (looks key v) actions) ≡ choose o (some (args s)) = rw (a .chooses v, listing-wholes x l nines (isArgs o) (rw z at rule), z) in
           rw (z, a .as-stack, a .as-word (x ∷ l))
-          (by-list key x l nines s (ascii "stack") (a .bare-key) (stack-judged key v o (a .unmarked v) (a .is-stack v) (a .is-series v (list-read key x l nines fit)) g e))
+          (by-list key x l nines mode s (ascii "stack") (a .bare-key) (stack-judged mode key v o (a .unmarked v) (a .is-stack v) (a .is-series v (list-read key x l nines fit)) g e))
 
   -- each of the five
   push-list : ListAction "push" StackPush
@@ -278,7 +282,7 @@ push-text =
           λ l f h r. numbers-say "push" StackPush (λ k. unfold argWords in refl)
           (unfold word.worded calm firm known follows middle quiet endOf lacks white anyOf ascii in refl) (unfold nameWord ascii in lit≤ tt)
           (unfold isArgs isPlaces in refl) l (places-total l f (unfold isArgs in r)) h r;
-      again = λ s m. list-again s m "push" StackPush (push-list s m);
+      again = λ mode of s m. list-again s m mode "push" StackPush (push-list s m);
     }
 
 pub pop-text : HasText StackPop
@@ -289,7 +293,7 @@ pop-text =
           λ l f h r. numbers-say "pop" StackPop (λ k. unfold argWords in refl)
           (unfold word.worded calm firm known follows middle quiet endOf lacks white anyOf ascii in refl) (unfold nameWord ascii in lit≤ tt)
           (unfold isArgs isPlaces in refl) l (places-total l f (unfold isArgs in r)) h r;
-      again = λ s m. list-again s m "pop" StackPop (pop-list s m);
+      again = λ mode of s m. list-again s m mode "pop" StackPop (pop-list s m);
     }
 
 pub flip-text : HasText StackFlip
@@ -300,7 +304,7 @@ flip-text =
           λ l f h r. numbers-say "flip" StackFlip (λ k. unfold argWords in refl)
           (unfold word.worded calm firm known follows middle quiet endOf lacks white anyOf ascii in refl) (unfold nameWord ascii in lit≤ tt)
           (unfold isArgs isPlaces in refl) l (places-total l f (unfold isArgs in r)) h r;
-      again = λ s m. list-again s m "flip" StackFlip (flip-list s m);
+      again = λ mode of s m. list-again s m mode "flip" StackFlip (flip-list s m);
     }
 
 pub roll-text : HasText StackRoll
@@ -311,7 +315,7 @@ roll-text =
           λ l f h r. numbers-say "roll" StackRoll (λ k. unfold argWords in refl)
           (unfold word.worded calm firm known follows middle quiet endOf lacks white anyOf ascii in refl) (unfold nameWord ascii in lit≤ tt)
           (unfold isArgs isRoll in refl) l (roll-total l h (unfold isArgs in r)) h r;
-      again = λ s m. list-again s m "roll" StackRoll (roll-list s m);
+      again = λ mode of s m. list-again s m mode "roll" StackRoll (roll-list s m);
     }
 
 pub unroll-text : HasText StackUnroll
@@ -322,7 +326,7 @@ unroll-text =
           λ l f h r. numbers-say "unroll" StackUnroll (λ k. unfold argWords in refl)
           (unfold word.worded calm firm known follows middle quiet endOf lacks white anyOf ascii in refl) (unfold nameWord ascii in lit≤ tt)
           (unfold isArgs isRoll in refl) l (roll-total l h (unfold isArgs in r)) h r;
-      again = λ s m. list-again s m "unroll" StackUnroll (unroll-list s m);
+      again = λ mode of s m. list-again s m mode "unroll" StackUnroll (unroll-list s m);
     }
 
 pub swap-text : HasText StackSwap
@@ -332,7 +336,7 @@ swap-text =
       says =
           λ l f h r. one-says StackSwap l (ascii "swap") (unfold argWords in refl)
           (unfold word.worded calm firm known follows middle quiet endOf lacks white anyOf ascii in refl) (unfold nameWord total ascii in lit≤ tt);
-      again = swap-again;
+      again = λ mode of s m. swap-again s m mode;
     }
 
 pub drop-text : HasText StackDrop
@@ -342,5 +346,5 @@ drop-text =
       says =
           λ l f h r. one-says StackDrop l (ascii "drop") (unfold argWords in refl)
           (unfold word.worded calm firm known follows middle quiet endOf lacks white anyOf ascii in refl) (unfold nameWord total ascii in lit≤ tt);
-      again = drop-again;
+      again = λ mode of s m. drop-again s m mode;
     }

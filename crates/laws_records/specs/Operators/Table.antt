@@ -1,5 +1,7 @@
 -- The laws of all operators: by name, and by number.
-use Rattle.rules.specs.Operators.Descriptions.{Operator, Push, Pop, StackPush, StackPop, StackFlip, StackRoll, StackUnroll, StackSwap, StackDrop, Axisswap, Adapt}
+use Rattle.rules.specs.Operators.Descriptions.{Operator, Push, Pop, StackPush, StackPop, StackFlip, StackRoll, StackUnroll, StackSwap, StackDrop, Axisswap, Adapt, Documented}
+use Rattle.rules.specs.Operators.Documented.{adaptIn}
+use Rattle.rules.specs.declared.Mode.the-variants as mode-is
 use Rattle.rules.specs.declared.Name.{Name}
 use Rattle.rules.specs.declared.Name.the-variants as name-is
 use Rattle.laws_records.specs.Owed.{KeepsRule, HasText}
@@ -18,6 +20,7 @@ keeps-rule name-is.Adapt = adapt-keeps
 
 -- each has its text
 pub has-text : (o : Operator) → HasText o
+unfolding adaptIn
 has-text Push = push-text
 has-text Pop = pop-text
 has-text StackPush = stack.push-text
@@ -28,4 +31,5 @@ has-text StackUnroll = stack.unroll-text
 has-text StackSwap = stack.swap-text
 has-text StackDrop = stack.drop-text
 has-text Axisswap = axisswap-text
-has-text Adapt = adapt-text
+has-text Adapt = adapt-text mode-is.Crate
+has-text Documented = adapt-text mode-is.Documented

@@ -5,8 +5,14 @@ use mathlib.Core.Bool.{Bool, true, cond}
 use mathlib.Core.List.{List, [], _∷_, _++_}
 use lib.Dec.{leb, eqb}
 use lib.ListN.{length, drop, getD}
-use lib.Ieee.{Float, nan, binary64, nanBits, ofBits}
+use lib.IntN.{ℤ}
+use lib.Ieee.{Float, nan, binary64, neg, nanBits, ofBits}
 use Rattle.rules.specs.Text.Lists.{anyOf}
+use Rattle.rules.specs.Text.Decimal.{minus}
+use Rattle.rules.specs.Operators.Arguments.{arg}
+use Rattle.rules.specs.Operators.Numbers.{turn}
+use Rattle.rules.specs.Operators.Adapt.{Word, one, angle, mult}
+use Rattle.rules.specs.Operators.Documented.{carriesAngle}
 use Rattle.rules.specs.Pipeline.Running.{Numbered}
 use Rattle.rules.specs.Pipeline.Columns.{takes, after}
 use Rattle.rules.specs.Pipeline.Tuples.{acted}
@@ -117,3 +123,18 @@ signTurned p = cond (leb (2 ^ 63) p) (p - 2 ^ 63) (p + 2 ^ 63)
 pub data Alike (minus : Bool) (p q : ℕ) : Type 0 where
   bit-for-bit : q ≡ cond minus (signTurned p) p → Alike minus p q
   nan-for-nan : nanBits binary64 p ≡ true → nanBits binary64 q ≡ true → Alike minus p q
+
+-- ---- document 02, request 2
+
+-- the sign and the angle of place i of a word: "only east, west, north and south carry an angle wherever they stand"
+unfoldable pub signAngle : Word → ℕ → Float
+signAngle w i = turn (minus (arg i (w .axes))) (angle (cond (carriesAngle (arg i (w .axes))) (w .angle) 0))
+
+-- "plus or minus one"
+pub data IsUnit (x : Float) : Type 0 where
+  plus-one : x ≡ one → IsUnit x
+  minus-one : x ≡ neg one → IsUnit x
+
+-- "Where every factor is plus or minus one": the four factors of an `adapt` step with these arguments
+abbrev pub EachUnit : List ℤ → Type 0
+EachUnit l = (i : ℕ) → 1 ≤ i → i ≤ 4 → IsUnit (mult l i)

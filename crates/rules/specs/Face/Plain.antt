@@ -9,6 +9,8 @@ use lib.Ieee.{Float}
 use Rattle.rules.specs.Text.Refusal.{Reply, written, prepared}
 use Rattle.rules.specs.Pipeline.Check.{check}
 use Rattle.rules.specs.Pipeline.Run.{Outcome, runs}
+use Rattle.rules.specs.declared.Mode.{Mode}
+use Rattle.rules.specs.declared.Mode.the-variants as mode
 use Rattle.rules.specs.declared.Written.{Written}
 use Rattle.rules.specs.declared.Written.the-variants.{Wrote, Refused}
 use Rattle.rules.specs.declared.Prepared.{Prepared}
@@ -55,6 +57,10 @@ plainPrepared (prepared-is.Refused number place) = record { number = number; pla
 
 abbrev pub recordCount : Reply ℕ → Answer
 recordCount r = plainPrepared (prepared r)
+
+-- 0 is the crate's mode, any other number the documented
+unfoldable pub modeOf : ℕ → Mode
+modeOf number = cond (eqb number 0) mode.Crate mode.Documented
 
 -- 0 is forward, any other number inverse
 unfoldable pub directionOf : ℕ → Direction

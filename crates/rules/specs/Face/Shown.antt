@@ -14,6 +14,7 @@ use Rattle.rules.specs.Text.Numerals.{digits}
 use Rattle.rules.specs.Pipeline.Prepare.{prepareAs}
 use Rattle.rules.specs.Pipeline.Check.{nth, check}
 use Rattle.rules.specs.declared.Reading.{Reading}
+use Rattle.rules.specs.declared.Mode.{Mode}
 use Rattle.rules.specs.declared.Step.{Step}
 use Rattle.rules.specs.declared.Place.{Place}
 use Rattle.rules.specs.declared.Direction.the-variants.{Forward, Inverse}
@@ -73,8 +74,8 @@ unfoldable pub bothChecks : List Step → Bytes
 bothChecks ss = verdictLine (ascii "forward: ") (check Forward ss) ++ verdictLine (ascii "inverse: ") (check Inverse ss)
 
 -- "prepares, then checks": preparing prints nothing where it answers
-unfoldable pub shownChecks : Reading → Bytes → Bytes
-shownChecks r t = orRefused (tested (prepareAs r) t) bothChecks
+unfoldable pub shownChecks : Reading → Mode → Bytes → Bytes
+shownChecks r m t = orRefused (tested (prepareAs r m) t) bothChecks
 
 -- ---- the steps
 
@@ -88,8 +89,8 @@ headed k begun [] = []
 headed k begun (x ∷ t) = cond begun [] (heading k) ++ (x ∷ cond (is "\n" x) (headed (suc k) false t) (headed k true t))
 
 -- "splits", and what follows
-unfoldable pub shownSteps : Reading → Bytes → Bytes
-shownSteps r t = orRefused (called split t) (λ lines. headed 1 false lines ++ shownChecks r t)
+unfoldable pub shownSteps : Reading → Mode → Bytes → Bytes
+shownSteps r m t = orRefused (called split t) (λ lines. headed 1 false lines ++ shownChecks r m t)
 
 -- ---- the whole
 
@@ -97,6 +98,6 @@ shownSteps r t = orRefused (called split t) (λ lines. headed 1 false lines ++ s
 unfoldable pub translatedLine : Bytes → Bytes
 translatedLine t = line (ascii "translated: " ++ t)
 
--- (`steps` reads a definition as the crate does, `steps --proj` as PROJ does)
-unfoldable pub shown : Reading → Bytes → Bytes
-shown r text = orRefused (called translate text) (λ t. translatedLine t ++ shownSteps r t)
+-- (`steps` reads a definition as the crate does, `steps --proj` as PROJ does, `steps --documented` in the documented mode)
+unfoldable pub shown : Reading → Mode → Bytes → Bytes
+shown r m text = orRefused (called translate text) (λ t. translatedLine t ++ shownSteps r m t)

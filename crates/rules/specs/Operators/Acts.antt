@@ -3,6 +3,7 @@ use Prim.Native.Nat.{ℕ}
 use mathlib.Core.Bool.{Bool}
 use mathlib.Core.List.{List}
 use lib.IntN.{ℤ}
+use Rattle.rules.specs.declared.Mode.{Mode}
 
 pub data Act : Type 0 where
   -- a column for each place, in this order
@@ -17,5 +18,6 @@ pub data Act : Type 0 where
   rolls : ℕ → ℕ → Act
   -- the two top columns exchanged; nothing
   swaps drops : Act
-  -- the tuple's numbers in another order, or adapted: with the step's arguments, forward (false) or back (true)
-  orders adapts : Bool → List ℤ → Act
+  -- the tuple's numbers in another order, or adapted in a mode: with the step's arguments, forward (false) or back (true)
+  orders : Bool → List ℤ → Act
+  adapts : Mode → Bool → List ℤ → Act

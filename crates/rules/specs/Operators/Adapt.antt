@@ -1,4 +1,5 @@
--- `adapt`: "words such as `neuf_deg`", the eight arguments that two of them make, and what they do to a coordinate.
+-- `adapt`: "words such as `neuf_deg`", the eight arguments that two of them make, and what they do to a coordinate. (Its documented mode
+-- is in Documented.)
 use Prim.Native.Nat.{ℕ, zero, suc, _+_, _-_, _*_, _/_, _%_}
 use mathlib.Core.Bool.{Bool, true, false, cond, not, _&&_, _||_, xor}
 use mathlib.Core.Option.{Option, none, some}
@@ -12,11 +13,12 @@ use Rattle.rules.specs.Text.Lists.{allOf}
 use Rattle.rules.specs.Text.Bytes.{Bytes, same}
 use Rattle.rules.specs.Text.Decimal.{signed, minus}
 use Rattle.rules.specs.Operators.Acts.{adapts}
-use Rattle.rules.specs.Operators.Arguments.{valueOf, size, arg, keyValue, isOrder}
+use Rattle.rules.specs.Operators.Arguments.{size, arg, keyValue, isOrder}
 use Rattle.rules.specs.Operators.Numbers.{number, put, turn}
 use Rattle.rules.specs.Operators.Keys.{Key, worded}
-use Rattle.rules.specs.Operators.Descriptions.{Adapt, Description, Wording, choose}
+use Rattle.rules.specs.Operators.Descriptions.{Description}
 use Rattle.rules.specs.declared.Coord.{Coord}
+use Rattle.rules.specs.declared.Mode.the-variants as mode
 
 -- ---- its words
 
@@ -93,10 +95,11 @@ combined from to =
     ∷ pos 0
     ∷ []
 
-unfoldable pub between : Option Word → Option Word → Option (List ℤ)
-between none to = none
-between (some from) none = none
-between (some from) (some to) = some (combined from to)
+-- what two words make, if both are words
+unfoldable pub between : (Word → Word → List ℤ) → Option Word → Option Word → Option (List ℤ)
+between make none to = none
+between make (some from) none = none
+between make (some from) (some to) = some (make from to)
 
 -- the code of a factor's size: 0, or that of two angles of which neither is the other (4 and 8 would be 1 again)
 unfoldable pub isCode : ℤ → Bool
@@ -191,18 +194,10 @@ adapt =
       name = "adapt";
       isArgs = isAdapt;
       turned = true;
-      forward = adapts false;
-      inverse = adapts true;
+      forward = adapts mode.Crate false;
+      inverse = adapts mode.Crate true;
       words = λ l. keyValue "from" (fromWord (size (arg 5 l))) ∷ keyValue "to" (toWord (size (arg 5 l)) (take 4 l)) ∷ [];
     }
 
 abbrev pub wordKeys : List Key
 wordKeys = worded "from" ∷ worded "to" ∷ []
-
-abbrev pub adaptWording : Wording
-adaptWording =
-    record {
-      name = adapt .name;
-      keys = wordKeys;
-      chosen = λ ps. choose Adapt (between (wordGiven (valueOf (ascii "from") ps)) (wordGiven (valueOf (ascii "to") ps)));
-    }

@@ -61,4 +61,4 @@ abbrev pub orderKeys : List Key
 orderKeys = numbered "order" ∷ []
 
 abbrev pub axisswapWording : Wording
-axisswapWording = record { name = axisswap .name; keys = orderKeys; chosen = λ ps. choose Axisswap (order (valueOf (ascii "order") ps)) }
+axisswapWording = record { name = axisswap .name; keys = orderKeys; chosen = λ mode ps. choose Axisswap (order (valueOf (ascii "order") ps)) }

@@ -9,10 +9,11 @@ use Rattle.rules.specs.Text.Bytes.{Words}
 use Rattle.rules.specs.Text.Parameters.{Parameter}
 use Rattle.rules.specs.Operators.Acts.{Act}
 use Rattle.rules.specs.Operators.Keys.{Key}
+use Rattle.rules.specs.declared.Mode.{Mode}
 
--- the five operators, `stack` by its seven actions
+-- the five operators, `stack` by its seven actions, and `adapt` by its two modes
 pub data Operator : Type 0 where
-  Push Pop StackPush StackPop StackFlip StackRoll StackUnroll StackSwap StackDrop Axisswap Adapt : Operator
+  Push Pop StackPush StackPop StackFlip StackRoll StackUnroll StackSwap StackDrop Axisswap Adapt Documented : Operator
 
 -- an operator, as a step record has it
 pub record Description : Type 0 where
@@ -43,5 +44,5 @@ pub record Wording : Type 0 where
   -- its name, and its keys beside those that every operator takes
   pub name : String
   pub keys : List Key
-  -- its own rule: what its parameters choose, or none where the rule is broken
-  pub chosen : List Parameter → Option Chosen
+  -- its own rule: what its parameters choose in a mode, or none where the rule is broken
+  pub chosen : Mode → List Parameter → Option Chosen

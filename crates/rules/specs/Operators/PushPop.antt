@@ -64,7 +64,7 @@ pop =
     }
 
 abbrev pub pushWording : Wording
-pushWording = record { name = push .name; keys = axisKeys; chosen = λ ps. choose Push (some (axes ps)) }
+pushWording = record { name = push .name; keys = axisKeys; chosen = λ mode ps. choose Push (some (axes ps)) }
 
 abbrev pub popWording : Wording
-popWording = record { name = pop .name; keys = axisKeys; chosen = λ ps. choose Pop (some (axes ps)) }
+popWording = record { name = pop .name; keys = axisKeys; chosen = λ mode ps. choose Pop (some (axes ps)) }

@@ -166,4 +166,4 @@ exactlyOne (c ∷ []) = c
 exactlyOne (c ∷ d ∷ l) = none
 
 abbrev pub stackWording : Wording
-stackWording = record { name = "stack"; keys = actionKeys; chosen = λ ps. exactlyOne (actionsGiven ps actions) }
+stackWording = record { name = "stack"; keys = actionKeys; chosen = λ mode ps. exactlyOne (actionsGiven ps actions) }

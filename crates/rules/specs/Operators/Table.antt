@@ -1,18 +1,21 @@
 -- All operators: which is which by its number in a record, and by its name in a text. What the general definitions ask of an operator
 -- is asked here.
 use Prim.Native.Nat.{ℕ}
-use mathlib.Core.Bool.{Bool, cond}
+use mathlib.Core.Bool.{Bool, cond, not}
 use mathlib.Core.List.{List, [], _∷_}
 use lib.Dec.{eqb}
 use lib.IntN.{ℤ}
 use Rattle.rules.specs.Text.Ascii.{ascii}
 use Rattle.rules.specs.Text.Bytes.{Bytes, same}
 use Rattle.rules.specs.Operators.Acts.{Act}
-use Rattle.rules.specs.Operators.Descriptions.{Operator, Push, Pop, StackPush, StackPop, StackFlip, StackRoll, StackUnroll, StackSwap, StackDrop, Axisswap, Adapt, Description, Wording}
+use Rattle.rules.specs.Operators.Descriptions.{Operator, Push, Pop, StackPush, StackPop, StackFlip, StackRoll, StackUnroll, StackSwap, StackDrop, Axisswap, Adapt, Documented, Description, Wording}
 use Rattle.rules.specs.Operators.PushPop.{push, pop, pushWording, popWording}
 use Rattle.rules.specs.Operators.Stack.{stackPush, stackPop, stackFlip, stackRoll, stackUnroll, stackSwap, stackDrop, stackWording}
 use Rattle.rules.specs.Operators.Axisswap.{axisswap, axisswapWording}
-use Rattle.rules.specs.Operators.Adapt.{adapt, adaptWording}
+use Rattle.rules.specs.Operators.Adapt.{adapt}
+use Rattle.rules.specs.Operators.Documented.{documented, adaptIn, adaptWording}
+use Rattle.rules.specs.declared.Mode.{Mode}
+use Rattle.rules.specs.declared.Mode.the-variants as mode
 use Rattle.rules.specs.declared.Name.{Name}
 use Rattle.rules.specs.declared.Name.the-variants as name
 use Rattle.rules.specs.declared.Named.{Named}
@@ -32,6 +35,7 @@ describe StackSwap = stackSwap
 describe StackDrop = stackDrop
 describe Axisswap = axisswap
 describe Adapt = adapt
+describe Documented = documented
 
 -- all of them, in the order of their numbers, which begin at 0
 unfoldable pub operators : List Operator
@@ -47,11 +51,12 @@ operators =
     ∷ StackDrop
     ∷ Axisswap
     ∷ Adapt
+    ∷ Documented
     ∷ []
 
 -- the greatest of their numbers
 abbrev pub greatest : ℕ
-greatest = 10
+greatest = 11
 
 unfoldable pub numberOf : Operator → ℕ
 numberOf o = describe o .number
@@ -68,6 +73,14 @@ operatorOf k = withNumber k operators
 -- the arguments that a preparation gives each operator
 unfoldable pub isArgs : Operator → List ℤ → Bool
 isArgs o l = describe o .isArgs l
+
+-- does a preparation in this mode make it? Only `adapt` knows a mode: not the other mode's `adapt`
+unfoldable pub otherMode : Mode → Mode
+otherMode mode.Crate = mode.Documented
+otherMode mode.Documented = mode.Crate
+
+unfoldable pub isOfMode : Mode → Operator → Bool
+isOfMode m o = not (eqb (numberOf o) (numberOf (adaptIn (otherMode m))))
 
 -- what it does
 unfoldable pub forward : Operator → List ℤ → Act

@@ -52,14 +52,14 @@ turnPlace minus p = record { axis = p .axis; minus = xor minus (p .minus) }
 
 -- ---- the steps on places
 
--- adapt moves no place: where it runs, no places are told
+-- adapt moves no place, in either mode: where it runs, no places are told
 abbrev pub onPlaces : Kit (List Place) Place
 onPlaces =
     record {
       column = place;
       store = putPlace;
       order = λ back l t. reordered place putPlace turnPlace back l t;
-      adapt = λ back l t. t;
+      adapt = λ mode back l t. t;
     }
 
 abbrev pub Traced : Type 0
@@ -79,7 +79,7 @@ adapting (rolls w n) = false
 adapting swaps = false
 adapting drops = false
 adapting (orders back l) = false
-adapting (adapts back l) = true
+adapting (adapts mode back l) = true
 
 unfoldable pub anyAdapt : List Numbered → Bool
 anyAdapt l = anyOf (λ (s : Numbered). adapting (s .does)) l

@@ -8,6 +8,7 @@ use lib.Dec.{ltb}
 use lib.IntN.{ℤ}
 use Rattle.rules.specs.Operators.Acts.{Act, pushes, pops, popsAll, flips, rolls, swaps, drops, orders, adapts}
 use Rattle.rules.specs.Pipeline.Running.{Numbered}
+use Rattle.rules.specs.declared.Mode.{Mode}
 
 pub record Machine (T C : Type 0) : Type 0 where
   pub tuples : T
@@ -18,7 +19,7 @@ pub record Kit (T C : Type 0) : Type 0 where
   pub column : ℕ → T → C
   pub store : ℕ → C → T → T
   pub order : Bool → List ℤ → T → T
-  pub adapt : Bool → List ℤ → T → T
+  pub adapt : Mode → Bool → List ℤ → T → T
 
 -- ---- columns alone
 
@@ -73,7 +74,7 @@ module _ {T C : Type 0} (k : Kit T C) where
   moved swaps m = record { tuples = m .tuples; columns = swappedTop (m .columns) }
   moved drops m = m
   moved (orders back l) m = record { tuples = k .order back l (m .tuples); columns = m .columns }
-  moved (adapts back l) m = record { tuples = k .adapt back l (m .tuples); columns = m .columns }
+  moved (adapts mode back l) m = record { tuples = k .adapt mode back l (m .tuples); columns = m .columns }
 
 -- ---- too few columns
 
@@ -87,7 +88,7 @@ takes (rolls w n) = w
 takes swaps = 0
 takes drops = 0
 takes (orders back l) = 0
-takes (adapts back l) = 0
+takes (adapts mode back l) = 0
 
 -- does a step that finds `depth` columns find "fewer columns than it takes"?
 unfoldable pub tooFew : Act → ℕ → Bool

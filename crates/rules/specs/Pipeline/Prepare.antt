@@ -19,6 +19,8 @@ use Rattle.rules.specs.Operators.Table.{numberOf, wordingOf, nameOf}
 use Rattle.rules.specs.Pipeline.Record.{stepWith, inReading}
 use Rattle.rules.specs.Pipeline.Keys.{kindOf, unknown, misspelt, tooLong}
 use Rattle.rules.specs.declared.Reading.{Reading}
+use Rattle.rules.specs.declared.Mode.{Mode}
+use Rattle.rules.specs.declared.Mode.the-variants as mode
 use Rattle.rules.specs.declared.Step.{Step}
 use Rattle.rules.specs.declared.Name.{Name}
 use Rattle.rules.specs.declared.Named.{Named}
@@ -39,8 +41,8 @@ recorded ps none = none
 recorded ps (some c) = some (recordOf (c .operator) ps (c .arguments))
 
 -- the record that the operator's own rule gives; none for 14, "the operator's own rule is broken"
-unfoldable pub ownRule : Name → List Parameter → Option Step
-ownRule n ps = recorded ps (wordingOf n .chosen ps)
+unfoldable pub ownRule : Mode → Name → List Parameter → Option Step
+ownRule m n ps = recorded ps (wordingOf n .chosen m ps)
 
 -- ---- one step
 
@@ -50,24 +52,24 @@ judged14 none = refuses 14 0
 judged14 (some s) = answers s
 
 -- "its lowest number of .. 9 to 14": 11, 12, 13, then 14
-unfoldable pub judged11 : Name → List Parameter → Reply Step
-judged11 n ps =
+unfoldable pub judged11 : Mode → Name → List Parameter → Reply Step
+judged11 m n ps =
     cond (anyOf (unknown n) ps) (refuses 11 0)
     (cond (anyOf (λ (p : Parameter). misspelt (kindOf n p) (p .value)) ps) (refuses 12 0)
     (cond (anyOf (λ (p : Parameter). tooLong (kindOf n p) (p .value)) ps) (refuses 13 0)
-    (judged14 (ownRule n ps))))
+    (judged14 (ownRule m n ps))))
 
 -- 10: "no operator name, or not one of the five"
 unfoldable pub named : Option Bytes → Named
 named none = Not
 named (some value) = nameOf value
 
-unfoldable pub judged10 : Named → List Parameter → Reply Step
-judged10 Not ps = refuses 10 0
-judged10 (Is n) ps = judged11 n ps
+unfoldable pub judged10 : Mode → Named → List Parameter → Reply Step
+judged10 m Not ps = refuses 10 0
+judged10 m (Is n) ps = judged11 m n ps
 
-unfoldable pub judged : List Parameter → Reply Step
-judged ps = judged10 (named (valueOf (ascii "_name") ps)) ps
+unfoldable pub judged : Mode → List Parameter → Reply Step
+judged m ps = judged10 m (named (valueOf (ascii "_name") ps)) ps
 
 -- "A refusal returns .. a place: that of the faulty step"
 unfoldable pub atStep : ℕ → Reply Step → Reply Step
@@ -76,29 +78,33 @@ atStep place (refuses number nowhere) = refuses number place
 
 -- one step's text at its place: 1, "in preparing one step's text, is over 4,096 bytes"; then 6 and 9 as it is cut into
 -- parameters, then 10 to 14
-unfoldable pub prepareStep : ℕ → Bytes → Reply Step
-prepareStep place t =
-    atStep place (cond (ltb 4096 (length t)) (refuses 1 0) (andThen (parametersOf t) judged))
+unfoldable pub prepareStep : Mode → ℕ → Bytes → Reply Step
+prepareStep m place t =
+    atStep place (cond (ltb 4096 (length t)) (refuses 1 0) (andThen (parametersOf t) (judged m)))
 
 -- ---- all steps
 
 -- "takes the first faulty step": the steps' texts, the first of them at `place`
-unfoldable pub prepareSteps : ℕ → List Bytes → Reply (List Step)
-prepareSteps place [] = answers []
-prepareSteps place (t ∷ ts) =
-    andThen (prepareStep place t) (λ s. andThen (prepareSteps (suc place) ts) (λ l. answers (s ∷ l)))
+unfoldable pub prepareSteps : Mode → ℕ → List Bytes → Reply (List Step)
+prepareSteps m place [] = answers []
+prepareSteps m place (t ∷ ts) =
+    andThen (prepareStep m place t) (λ s. andThen (prepareSteps m (suc place) ts) (λ l. answers (s ∷ l)))
 
--- the call `prepare`: "Preparing splits first"
+-- "Preparing splits first"; "a documented mode, chosen for a whole preparation"
+unfoldable pub prepareIn : Mode → Bytes → Reply (List Step)
+prepareIn m t = andThen (splitSteps (steps t)) (prepareSteps m 1)
+
+-- the call `prepare`: "The crate's mode stays the default"
 unfoldable pub prepare : Bytes → Reply (List Step)
-prepare t = andThen (splitSteps (steps t)) (prepareSteps 1)
+prepare t = prepareIn mode.Crate t
 
 -- the call `prepare_as`: "a second reading, named PROJ, beside the crate's". The records are the same, but that each names the reading.
-unfoldable pub prepareAs : Reading → Bytes → Reply (List Step)
-prepareAs r t = andThen (prepare t) (λ l. answers (map (inReading r) l))
+unfoldable pub prepareAs : Reading → Mode → Bytes → Reply (List Step)
+prepareAs r m t = andThen (prepareIn m t) (λ l. answers (map (inReading r) l))
 
 -- what preparing promises: the answer, and the lent step table afterwards
 abbrev pub Prepares : Bytes → List Step → Prepared → List Step → Type 0
 Prepares text table result table′ = Promised prepared prepare text table result table′
 
-abbrev pub PreparesAs : Reading → Bytes → List Step → Prepared → List Step → Type 0
-PreparesAs r text table result table′ = Promised prepared (prepareAs r) text table result table′
+abbrev pub PreparesAs : Reading → Mode → Bytes → List Step → Prepared → List Step → Type 0
+PreparesAs r m text table result table′ = Promised prepared (prepareAs r m) text table result table′

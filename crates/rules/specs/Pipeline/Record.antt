@@ -10,7 +10,8 @@ use lib.IntN.{ℤ, pos}
 use Rattle.rules.specs.Text.Lists.{allOf}
 use Rattle.rules.specs.Operators.Arguments.{size}
 use Rattle.rules.specs.Operators.Descriptions.{Operator}
-use Rattle.rules.specs.Operators.Table.{operatorOf, isArgs, greatest}
+use Rattle.rules.specs.Operators.Table.{operatorOf, isArgs, isOfMode, greatest}
+use Rattle.rules.specs.declared.Mode.{Mode}
 use Rattle.rules.specs.declared.Reading.{Reading}
 use Rattle.rules.specs.declared.Reading.the-variants.{Crate, Proj}
 use Rattle.rules.specs.declared.Step.{Step}
@@ -69,6 +70,10 @@ unused s = drop (s .n) (s .args)
 -- a mark that is set
 unfoldable pub isSet : ℕ → Bool
 isSet mark = eqb mark 1
+
+-- a record that a preparation in this mode can make: not one of the other mode's `adapt`
+unfoldable pub ofMode : Mode → Step → Bool
+ofMode m s = isOfMode m (operator s)
 
 -- ---- the records that a preparation makes
 

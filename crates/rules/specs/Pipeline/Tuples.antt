@@ -7,7 +7,7 @@ use lib.Dec.{eqb}
 use lib.Ieee.{Float, nan}
 use Rattle.rules.specs.Operators.Numbers.{number, put}
 use Rattle.rules.specs.Operators.Axisswap.{swapped}
-use Rattle.rules.specs.Operators.Adapt.{adapted}
+use Rattle.rules.specs.Operators.Documented.{adaptedIn}
 use Rattle.rules.specs.Operators.Acts.{Act, pushes, pops, popsAll, flips, rolls, swaps, drops, orders, adapts}
 use Rattle.rules.specs.Pipeline.Columns.{Machine, Kit, moved, tooFew}
 use Rattle.rules.specs.declared.Coord.{Coord}
@@ -46,7 +46,7 @@ onNumbers =
       column = column;
       store = stored;
       order = λ back l ts. map (swapped back l) ts;
-      adapt = λ back l ts. map (adapted back l) ts;
+      adapt = λ mode back l ts. map (adaptedIn mode back l) ts;
     }
 
 -- pop: "on an empty stack that axis is NaN for all tuples, the step stops"
@@ -73,7 +73,7 @@ starved (rolls w n) m = stomped m
 starved swaps m = m
 starved drops m = m
 starved (orders back l) m = m
-starved (adapts back l) m = m
+starved (adapts mode back l) m = m
 
 unfoldable pub actedIf : Bool → Act → State → State
 actedIf true a m = starved a m
@@ -93,7 +93,7 @@ countsNone (rolls w n) depth = tooFew (rolls w n) depth
 countsNone swaps depth = eqb depth 0
 countsNone drops depth = true
 countsNone (orders back l) depth = false
-countsNone (adapts back l) depth = false
+countsNone (adapts mode back l) depth = false
 
 unfoldable pub counts : Act → State → ℕ
 counts a m = cond (countsNone a (length (m .columns))) 0 (length (m .tuples))

@@ -19,7 +19,7 @@ use Rattle.laws_records.specs.Operators.Adapt.Words.{Sized, order-sized,
 -- ---- a code stands for one angle over the other
 
 -- equal angles make 1, whose code is 0
-factor-same : (k : ℕ) → k ≤ 2 → factor 0 ≡ div binary64 (angle k) (angle k)
+pub factor-same : (k : ℕ) → k ≤ 2 → factor 0 ≡ div binary64 (angle k) (angle k)
 unfolding factor angle div
 factor-same zero h = refl
 factor-same (suc zero) h = refl
@@ -118,7 +118,7 @@ turn-div f a b (fin s m e) (fin t n d) =
 
 -- ---- two words
 
-minus-signed : (b : Bool) (n : ℕ) → 1 ≤ n → minus (signed b n) ≡ b
+pub minus-signed : (b : Bool) (n : ℕ) → 1 ≤ n → minus (signed b n) ≡ b
 unfolding minus signed
 minus-signed false n h = refl
 minus-signed true zero h = absurd (none h)

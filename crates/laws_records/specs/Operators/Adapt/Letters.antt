@@ -17,7 +17,12 @@ use Rattle.rules.specs.Text.Bytes.{same}
 use Rattle.rules.specs.Text.Decimal.{signed, minus}
 use Rattle.rules.specs.Operators.Arguments.{size, arg, isDistinct, isOrder}
 use Rattle.rules.specs.Operators.Adapt.{isCode, isAdapt, Word, placeIn, axis, ending, wordOf, word, position, outputOf, angles, combined, between, letter, endingOf, fromWord, toWord}
+use Rattle.rules.specs.Operators.Descriptions.{Adapt}
+use Rattle.rules.specs.Operators.Documented.{adaptIn, combinedIn}
+use Rattle.rules.specs.Pipeline.Write.{argWords}
+use Rattle.rules.specs.declared.Mode.the-variants as mode-is
 use Rattle.laws_lists.specs.Tests.{and-left, and-right, below, below-at}
+use Rattle.laws_records.specs.Operators.Adapt.TwoWords.{Spelt}
 use Rattle.laws_records.specs.Operators.Adapt.Words.{Sized, order-sized}
 use Rattle.laws_records.specs.Calm.{known, firm, so, so-at}
 use Rattle.laws_records.specs.Numbers.{Firmly}
@@ -89,7 +94,7 @@ from-read code h = go (code / 3) h
     go k h = unfold same ascii axis placeIn signed wordOf isOrder isDistinct allOf anyOf in rw (ending-again k h)
 
 module _ (a b c d : ℤ) (o : isOrder (a ∷ b ∷ c ∷ d ∷ []) ≡ true) where
-  to-read : (code : ℕ) → code % 3 < 3 → word (toWord code (a ∷ b ∷ c ∷ d ∷ [])) ≡ some (record { axes = a ∷ b ∷ c ∷ d ∷ []; angle = code % 3 })
+  pub to-read : (code : ℕ) → code % 3 < 3 → word (toWord code (a ∷ b ∷ c ∷ d ∷ [])) ≡ some (record { axes = a ∷ b ∷ c ∷ d ∷ []; angle = code % 3 })
   unfolding word toWord same ascii wordOf
   to-read code h =
       let z = order-sized a b c d o in
@@ -120,15 +125,15 @@ codes : below 8 (λ k. so (isCode (pos k)) (eqb (codeOf k) k)) ≡ true
 unfolding below so isCode minus codeOf
 codes = refl
 
-code-small : (k : ℕ) → isCode (pos k) ≡ true → k < 8
+pub code-small : (k : ℕ) → isCode (pos k) ≡ true → k < 8
 unfolding isCode
 code-small k h = omega (arith, leb-true k 7 (and-left (leb k 7) _ (and-right (not (minus (pos k))) _ h)))
 
-code-again : (k : ℕ) → isCode (pos k) ≡ true → cond (eqb (k / 3) (k % 3)) 0 (3 * (k / 3) + k % 3) ≡ k
+pub code-again : (k : ℕ) → isCode (pos k) ≡ true → cond (eqb (k / 3) (k % 3)) 0 (3 * (k / 3) + k % 3) ≡ k
 unfolding codeOf
 code-again k h = eqb-true (codeOf k) k (so-at (isCode (pos k)) (eqb (codeOf k) k) (below-at 8 (λ k. so (isCode (pos k)) (eqb (codeOf k) k)) codes k (code-small k h)) h)
 
-code-pos : (x : ℤ) → isCode x ≡ true → x ≡ pos (size x)
+pub code-pos : (x : ℤ) → isCode x ≡ true → x ≡ pos (size x)
 unfolding isCode minus
 code-pos (pos n) h = refl
 code-pos (negsuc n) h = absurd (false≢true h)
@@ -213,7 +218,7 @@ module _ {l : List ℤ} (p : Adapts l) where
       let z = order-sized (p .a) (p .b) (p .c) (p .d) (p .ordered) in
       rw (output-again (p .a) (z .0 .most), output-again (p .b) (z .1 .most), output-again (p .c) (z .2 .most), output-again (p .d) (z .3 .most), code-again (p .code) (p .coded)) (sym (p .are))
 
-  pub between-again : between (word (fromWord (p .code))) (word (toWord (p .code) outputs)) ≡ some l
+  between-again : between combined (word (fromWord (p .code))) (word (toWord (p .code) outputs)) ≡ some l
   unfolding between
   between-again =
       rw (
@@ -236,12 +241,12 @@ ending-short zero = lit≤ tt
 ending-short (suc zero) = lit≤ tt
 ending-short (suc (suc k)) = lit≤ tt
 
-pub from-firm : (code : ℕ) → Firmly (fromWord code)
+from-firm : (code : ℕ) → Firmly (fromWord code)
 unfolding fromWord ascii
 from-firm code =
     record { firmly = unfold allOf in (unfold firm known anyOf ascii in ending-firm (code / 3)); not-empty = omega arith }
 
-pub from-short : (code : ℕ) → length (fromWord code) ≤ 8
+from-short : (code : ℕ) → length (fromWord code) ≤ 8
 unfolding fromWord ascii
 from-short code = omega (arith, ending-short (code / 3))
 
@@ -261,3 +266,20 @@ module _ (code : ℕ) (a b c d : ℤ) (o : isOrder (a ∷ b ∷ c ∷ d ∷ []) 
   pub to-short : length (toWord code (a ∷ b ∷ c ∷ d ∷ [])) ≤ 8
   unfolding toWord
   to-short = omega (arith, ending-short (code % 3))
+
+-- ---- both words
+
+pub spelt : (l : List ℤ) → isAdapt l ≡ true → Spelt mode-is.Crate l
+unfolding argWords arg adaptIn combinedIn
+spelt l h =
+    let p = adapts l h in
+    record {
+      from = fromWord (p .code);
+      to = toWord (p .code) (outputs p);
+      are = ap (argWords Adapt) (p .are);
+      from-firm = from-firm (p .code);
+      from-short = from-short (p .code);
+      to-firm = to-firm (p .code) (p .a) (p .b) (p .c) (p .d) (p .ordered);
+      to-short = to-short (p .code) (p .a) (p .b) (p .c) (p .d) (p .ordered);
+      again = between-again p;
+    }

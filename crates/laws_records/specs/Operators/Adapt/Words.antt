@@ -14,7 +14,7 @@ use Rattle.rules.specs.Text.Ascii.{ascii}
 use Rattle.rules.specs.Text.Lists.{allOf, anyOf}
 use Rattle.rules.specs.Text.Bytes.{Bytes, same}
 use Rattle.rules.specs.Text.Decimal.{signed, minus}
-use Rattle.rules.specs.Operators.Descriptions.{Adapt}
+use Rattle.rules.specs.Operators.Descriptions.{Operator, Adapt}
 use Rattle.rules.specs.Operators.Arguments.{size, arg, isDistinct, isOrder}
 use Rattle.rules.specs.Operators.Adapt.{isCode, isAdapt, Word, ending, wordOf, word, position, outputOf, angles, combined, wordGiven, between}
 use Rattle.rules.specs.Operators.Table.{isArgs}
@@ -27,7 +27,7 @@ use Rattle.laws_records.specs.Kept.{Kept}
 -- ---- the table
 
 -- four sizes are an order
-order4 : ℕ → ℕ → ℕ → ℕ → Bool
+unfoldable pub order4 : ℕ → ℕ → ℕ → ℕ → Bool
 order4 a b c d = isOrder (pos a ∷ pos b ∷ pos c ∷ pos d ∷ [])
 
 -- the places of e, f, g, h among a, b, c, d are one
@@ -36,13 +36,17 @@ places4 a b c d e f g h =
     let l = pos a ∷ pos b ∷ pos c ∷ pos d ∷ [] in
     order4 (position 1 e l) (position 1 f l) (position 1 g l) (position 1 h l)
 
-below4 : (ℕ → ℕ → ℕ → ℕ → Bool) → Bool
-below4 test = below 5 (λ a. below 5 (λ b. below 5 (λ c. below 5 (λ d. test a b c d))))
+-- every four numbers up to m
+unfoldable pub upTo : ℕ → (ℕ → ℕ → ℕ → ℕ → Bool) → Bool
+upTo m test = below (suc m) (λ a. below (suc m) (λ b. below (suc m) (λ c. below (suc m) (λ d. test a b c d))))
 
-below4-at : (test : ℕ → ℕ → ℕ → ℕ → Bool) → below4 test ≡ true → (a b c d : ℕ) → a ≤ 4 → b ≤ 4 → c ≤ 4 → d ≤ 4 → test a b c d ≡ true
-unfolding below4
-below4-at test h a b c d ha hb hc hd =
-    below-at 5 _ (below-at 5 _ (below-at 5 _ (below-at 5 (λ a. below 5 (λ b. below 5 (λ c. below 5 (λ d. test a b c d)))) h a (omega arith)) b (omega arith)) c (omega arith)) d (omega arith)
+pub upTo-at : (m : ℕ) (test : ℕ → ℕ → ℕ → ℕ → Bool) → upTo m test ≡ true
+    → (a b c d : ℕ) → a ≤ m → b ≤ m → c ≤ m → d ≤ m → test a b c d ≡ true
+unfolding upTo
+upTo-at m test h a b c d ha hb hc hd =
+    let n = suc m in
+    let r = below-at n (λ a. below n (λ b. below n (λ c. below n (λ d. test a b c d)))) h a (omega arith) in
+    below-at n _ (below-at n _ (below-at n _ r b (omega arith)) c (omega arith)) d (omega arith)
 
 -- if the first test is passed, the second is
 so : Bool → Bool → Bool
@@ -55,10 +59,10 @@ so-at true b h e = h
 so-at false b h e = absurd (false≢true e)
 
 row : (a b c d : ℕ) → Bool
-row a b c d = below4 (λ e f g h. so (order4 e f g h) (places4 a b c d e f g h))
+row a b c d = upTo 4 (λ e f g h. so (order4 e f g h) (places4 a b c d e f g h))
 
-table : below4 (λ a b c d. let r = row a b c d in so (order4 a b c d) r) ≡ true
-unfolding below below4 order4 places4 so row position isOrder isDistinct allOf anyOf
+table : upTo 4 (λ a b c d. let r = row a b c d in so (order4 a b c d) r) ≡ true
+unfolding below upTo order4 places4 so row position isOrder isDistinct allOf anyOf
 table = refl
 
 -- ---- orders
@@ -73,7 +77,7 @@ order-each l h =
     (leb-true (length l) 4 (and-left B (C && isDistinct l) r), and-left C (isDistinct l) (and-right B (C && isDistinct l) r))
 
 -- so it has nine digits at most
-order-nines : (l : List ℤ) → isOrder l ≡ true → allOf nineDigits l ≡ true
+pub order-nines : (l : List ℤ) → isOrder l ≡ true → allOf nineDigits l ≡ true
 unfolding nineDigits
 order-nines l h =
     let e = order-each l h in
@@ -95,7 +99,7 @@ sized x k =
 
 module _ (a b c d : ℤ) (h : isOrder (a ∷ b ∷ c ∷ d ∷ []) ≡ true) where
   -- an order is a matter of sizes alone
-  order-sizes : order4 (size a) (size b) (size c) (size d) ≡ true
+  pub order-sizes : order4 (size a) (size b) (size c) (size d) ≡ true
   unfolding order4 isOrder isDistinct allOf anyOf
   order-sizes = h
 
@@ -111,7 +115,7 @@ module _ (a b c d : ℤ) (h : isOrder (a ∷ b ∷ c ∷ d ∷ []) ≡ true) whe
       (sized a (and-left (w a) _ h1), sized b (and-left (w b) _ h2), sized c (and-left (w c) _ h3), sized d (and-left (w d) true h4))
 
 -- the sign does not matter
-signed-order : (s t u v : Bool) (a b c d : ℕ) → order4 a b c d ≡ true → isOrder (signed s a ∷ signed t b ∷ signed u c ∷ signed v d ∷ []) ≡ true
+pub signed-order : (s t u v : Bool) (a b c d : ℕ) → order4 a b c d ≡ true → isOrder (signed s a ∷ signed t b ∷ signed u c ∷ signed v d ∷ []) ≡ true
 unfolding order4 isOrder isDistinct allOf anyOf
 signed-order s t u v a b c d h = rw (size-signed s a, size-signed t b, size-signed u c, size-signed v d) h
 
@@ -123,8 +127,8 @@ places-order a b c d e f g h p q =
     let s = order-sized a b c d p in
     let t = order-sized e f g h q in
     let r : row (size a) (size b) (size c) (size d) ≡ true =
-    so-at (order4 (size a) (size b) (size c) (size d)) _ (below4-at _ table (size a) (size b) (size c) (size d) (s .0 .most) (s .1 .most) (s .2 .most) (s .3 .most)) (order-sizes a b c d p) in
-    so-at (order4 (size e) (size f) (size g) (size h)) _ (below4-at _ r (size e) (size f) (size g) (size h) (t .0 .most) (t .1 .most) (t .2 .most) (t .3 .most)) (order-sizes e f g h q)
+    so-at (order4 (size a) (size b) (size c) (size d)) _ (upTo-at 4 _ table (size a) (size b) (size c) (size d) (s .0 .most) (s .1 .most) (s .2 .most) (s .3 .most)) (order-sizes a b c d p) in
+    so-at (order4 (size e) (size f) (size g) (size h)) _ (upTo-at 4 _ r (size e) (size f) (size g) (size h) (t .0 .most) (t .1 .most) (t .2 .most) (t .3 .most)) (order-sizes e f g h q)
 
 -- ---- two words
 
@@ -138,7 +142,7 @@ pub record IsWord (w : Word) : Type 0 where
   pub ordered : isOrder (w .axes) ≡ true
   pub angle-small : w .angle ≤ 2
 
-four-list : (l : List ℤ) → length l ≡ 4 → (a : ℤ) × (b : ℤ) × (c : ℤ) × (d : ℤ) × (l ≡ a ∷ b ∷ c ∷ d ∷ [])
+pub four-list : (l : List ℤ) → length l ≡ 4 → (a : ℤ) × (b : ℤ) × (c : ℤ) × (d : ℤ) × (l ≡ a ∷ b ∷ c ∷ d ∷ [])
 four-list [] h = absurd (never (cc h))
 four-list (a ∷ []) h = absurd (never (cc h))
 four-list (a ∷ b ∷ []) h = absurd (never (cc h))
@@ -149,22 +153,28 @@ four-list (a ∷ b ∷ c ∷ d ∷ e ∷ l) h = absurd (none (length l) h)
     none : (n : ℕ) → suc (suc (suc (suc (suc n)))) ≡ 4 → ⊥
     none n h = omega arith
 
--- their outputs are an order
-pub outs-order : (v w : Word) → IsWord v → IsWord w → isOrder (outs v w) ≡ true
-unfolding outputOf arg
-outs-order v w p q =
+-- the places of one word's axes in the other are an order
+pub words-order : (v w : Word) → IsWord v → IsWord w
+    → (let at : ℕ → ℕ = λ i. position 1 (size (arg i (w .axes))) (v .axes) in order4 (at 1) (at 2) (at 3) (at 4) ≡ true)
+unfolding arg
+words-order v w p q =
     let l = four-list (v .axes) (p .four) in
     let m = four-list (w .axes) (q .four) in
     let P : isOrder (l .0 ∷ l .1 ∷ l .2 ∷ l .3 ∷ []) ≡ true = rw (l .4) at (p .ordered) in
     let Q : isOrder (m .0 ∷ m .1 ∷ m .2 ∷ m .3 ∷ []) ≡ true = rw (m .4) at (q .ordered) in
-    rw (l .4, m .4) (signed-order _ _ _ _ _ _ _ _ (places-order (l .0) (l .1) (l .2) (l .3) (m .0) (m .1) (m .2) (m .3) P Q))
+    rw (l .4, m .4) (places-order (l .0) (l .1) (l .2) (l .3) (m .0) (m .1) (m .2) (m .3) P Q)
+
+-- their outputs are an order
+pub outs-order : (v w : Word) → IsWord v → IsWord w → isOrder (outs v w) ≡ true
+unfolding outputOf
+outs-order v w p q = signed-order _ _ _ _ _ _ _ _ (words-order v w p q)
 
 -- the code of two angles is one that `made` takes
 codes : below 3 (λ x. below 3 (λ y. isCode (pos (cond (eqb x y) 0 (3 * x + y))))) ≡ true
 unfolding below isCode minus
 codes = refl
 
-angles-code : (v w : Word) → v .angle ≤ 2 → w .angle ≤ 2 → isCode (angles v w) ≡ true
+pub angles-code : (v w : Word) → v .angle ≤ 2 → w .angle ≤ 2 → isCode (angles v w) ≡ true
 unfolding angles
 angles-code v w h k = below-at 3 _ (below-at 3 _ codes (v .angle) (omega arith)) (w .angle) (omega arith)
 
@@ -172,7 +182,7 @@ nought-code : isCode (pos 0) ≡ true
 unfolding isCode minus
 nought-code = refl
 
-code-nine : (x : ℤ) → isCode x ≡ true → nineDigits x ≡ true
+pub code-nine : (x : ℤ) → isCode x ≡ true → nineDigits x ≡ true
 unfolding isCode nineDigits
 code-nine x h =
     let few = leb-true (size x) 7 (and-left (leb (size x) 7) (not (eqb (size x) 4)) (and-right (not (minus x)) (leb (size x) 7 && not (eqb (size x) 4)) h)) in
@@ -188,7 +198,7 @@ adapt-kept a b c d x h k =
       rule = rw (h, k, nought-code, eq-eqb (size x) (size x) refl);
     }
 
-combined-kept : (v w : Word) → IsWord v → IsWord w → Kept Adapt (combined v w)
+pub combined-kept : (v w : Word) → IsWord v → IsWord w → Kept Adapt (combined v w)
 unfolding combined
 combined-kept v w p q =
     adapt-kept (outputOf v w 1) (outputOf v w 2) (outputOf v w 3) (outputOf v w 4) (angles v w) (outs-order v w p q) (angles-code v w (p .angle-small) (q .angle-small))
@@ -225,12 +235,13 @@ unfolding wordGiven
 given-is none w h = word-is _ w h
 given-is (some v) w h = word-is v w h
 
--- The arguments that two words make keep their rule.
-pub between-kept : (o r : Option Bytes) (l : List ℤ) → between (wordGiven o) (wordGiven r) ≡ some l → Kept Adapt l
+-- What two words make keeps a rule, if it does so for every two that are read.
+pub between-kept : (a : Operator) (make : Word → Word → List ℤ) → ((v w : Word) → IsWord v → IsWord w → Kept a (make v w))
+    → (o r : Option Bytes) (l : List ℤ) → between make (wordGiven o) (wordGiven r) ≡ some l → Kept a l
 unfolding between
-between-kept o r l h = go (wordGiven o) (wordGiven r) (given-is o) (given-is r) h
+between-kept a make kept o r l h = go (wordGiven o) (wordGiven r) (given-is o) (given-is r) h
   where
-    go : (x y : Option Word) → ((w : Word) → x ≡ some w → IsWord w) → ((w : Word) → y ≡ some w → IsWord w) → between x y ≡ some l → Kept Adapt l
+    go : (x y : Option Word) → ((w : Word) → x ≡ some w → IsWord w) → ((w : Word) → y ≡ some w → IsWord w) → between make x y ≡ some l → Kept a l
     go none y p q h = absurd (never (cc h))
     go (some v) none p q h = absurd (never (cc h))
-    go (some v) (some w) p q h = let same : combined v w ≡ l = cc h in rw (← same) (combined-kept v w (p v refl) (q w refl))
+    go (some v) (some w) p q h = let same : make v w ≡ l = cc h in rw (← same) (kept v w (p v refl) (q w refl))
