@@ -3,6 +3,9 @@ pub mod Scaled
 pub mod Signs
 pub mod AdaptTest
 pub mod Spelt
+pub mod SpeltByAxis
 pub mod FirstPlace
 pub mod WordRead
 pub mod TwoWords
+pub mod ByAxis
+pub mod ActIn

@@ -1,4 +1,4 @@
--- An `adapt` step with its slots and factors made does what its arguments say.
+-- An `adapt` step with its slots and factors made does what its arguments say, in either mode.
 use mathlib.Core.Path.{_≡_, refl, sym, ap, _∙_}
 use Prim.Native.Nat.{ℕ, zero, suc, _+_, _≤_}
 use mathlib.Core.Bool.{Bool, true, false}
@@ -11,13 +11,14 @@ use lib.IntN.{ℤ}
 use lib.Ieee.{Float, binary64, mul, div}
 use Rattle.rules.specs.Operators.Arguments.{arg, isOrder}
 use Rattle.rules.specs.Operators.Adapt.{isAdapt, one, post, mult, output, sets, stays, noop, adaptedIf, adapted}
+use Rattle.rules.specs.Operators.Documented.{isDocumented, sendsBack, adaptedByAxis}
 use Rattle.rules.specs.Operators.Numbers.{number, put}
 use Rattle.rules.specs.declared.Coord.{Coord}
 use Rattle.laws_lists.specs.Lists.{map-same}
 use Rattle.laws_lists.specs.Tests.{and-left, and-right}
 use Rattle.laws_records.specs.Operators.Adapt.Words.{Sized, order-sized}
 use Rattle.columns.specs.Coords.{slot, slotAt, slotsOf, picked, placed}
-use Rattle.adapt.specs.Factors.{staying, allStaying, mults, overs, scaledBy, scaled, unscaled, scaledIf, factorsFor}
+use Rattle.adapt.specs.Factors.{staying, allStaying, mults, overs, scaledBy, scaled, unscaled, scaledIf, factorsFor, factorsByAxis}
 use Rattle.columns.specs.declared.slots.Slots.{Slots}
 use Rattle.columns.proofs.BySlot.{slot-number, slot-put}
 
@@ -74,17 +75,25 @@ over-at l (suc (suc (suc (suc (suc i))))) h k = absurd (over k)
     over : suc (suc (suc (suc (suc i)))) ≤ 4 → ⊥
     over h = omega arith
 
-module _ (l : List ℤ) (h : isAdapt l ≡ true) where
+-- what both modes ask of the arguments: there are eight, and the first four are an order
+record Ordered (l : List ℤ) : Type 0 where
   long : length l ≡ 8
-  unfolding isAdapt
-  long = eqb-true (length l) 8 (and-left (eqb (length l) 8) _ h)
+  order : isOrder (take 4 l) ≡ true
 
+crates-ordered : (l : List ℤ) → isAdapt l ≡ true → Ordered l
+unfolding isAdapt
+crates-ordered l h =
+    record { long = eqb-true (length l) 8 (and-left (eqb (length l) 8) _ h); order = and-left (isOrder (take 4 l)) _ (and-right (eqb (length l) 8) _ h) }
+
+documented-ordered : (l : List ℤ) → isDocumented l ≡ true → Ordered l
+unfolding isDocumented
+documented-ordered l h =
+    record { long = eqb-true (length l) 8 (and-left (eqb (length l) 8) _ h); order = and-left (isOrder (take 4 l)) _ (and-right (eqb (length l) 8) _ h) }
+
+module _ (l : List ℤ) (h : Ordered l) where
   -- the four places are from 1 to 4
   places-sized : Sized (arg 1 l) × Sized (arg 2 l) × Sized (arg 3 l) × Sized (arg 4 l)
-  unfolding isAdapt
-  places-sized =
-      let o : isOrder (take 4 l) ≡ true = and-left (isOrder (take 4 l)) _ (and-right (eqb (length l) 8) _ h) in
-      order-sized (arg 1 l) (arg 2 l) (arg 3 l) (arg 4 l) (rw (fours l long) at o)
+  places-sized = order-sized (arg 1 l) (arg 2 l) (arg 3 l) (arg 4 l) (rw (fours l (h .long)) at (h .order))
 
   -- the slots of a step
   abbrev slots : Slots
@@ -92,7 +101,7 @@ module _ (l : List ℤ) (h : isAdapt l ≡ true) where
 
   slots-made : slotsOf (take 4 l) ≡ slots
   unfolding slotsOf slotAt post
-  slots-made = ap slotsOf (fours l long)
+  slots-made = ap slotsOf (fours l (h .long))
 
   module _ (c : Coord) where
     scale-made : scaled slots (mults l) c ≡ adaptedIf false false l c
@@ -119,6 +128,20 @@ module _ (l : List ℤ) (h : isAdapt l ≡ true) where
         (back-one 2 (s .1 .least) (s .1 .most)
         (back-one 1 (s .0 .least) (s .0 .most) refl)))
 
+    -- in the documented mode
+    by-axis-scaled : scaled slots (mults l) c ≡ adaptedByAxis false l c
+    unfolding adaptedByAxis adaptedIf
+    by-axis-scaled = scale-made
+
+    sent-one : (j : ℕ) {out out′ : Coord} → out ≡ out′
+        → put (slot (post l j) + 1) (mul binary64 (number j c) (div binary64 one (mult l j))) out ≡ sendsBack l c j out′
+    unfolding sendsBack
+    sent-one j {out} {out′} e = ap (put (slot (post l j) + 1) (mul binary64 (number j c) (div binary64 one (mult l j)))) e ∙ slot-put (post l j) _ out′
+
+    by-axis-unscaled : unscaled slots (overs (mults l)) c ≡ adaptedByAxis true l c
+    unfolding unscaled scaledBy placed overs mults adaptedByAxis number
+    by-axis-unscaled = sent-one 4 (sent-one 3 (sent-one 2 (sent-one 1 refl)))
+
   still-made : allStaying (slots .s1 + 1) (slots .s2 + 1) (slots .s3 + 1) (slots .s4 + 1) (mults l) ≡ noop l
   unfolding allStaying staying noop stays mults post
   still-made =
@@ -135,8 +158,11 @@ map-own : (f : Coord → Coord) → ((c : Coord) → c ≡ f c) → (ts : List C
 map-own f e [] = refl
 map-own f e (t ∷ ts) = λ i. e t i ∷ map-own f e ts i
 
-module _ (l : List ℤ) (h : isAdapt l ≡ true) (o : Slots) (m : Coord) (b : Bool) (ts : List Coord) (named : o ≡ slotsOf (take 4 l))
+module _ (l : List ℤ) (is : isAdapt l ≡ true) (o : Slots) (m : Coord) (b : Bool) (ts : List Coord) (named : o ≡ slotsOf (take 4 l))
     (made : m ≡ mults l) (still : b ≡ allStaying (o .s1 + 1) (o .s2 + 1) (o .s3 + 1) (o .s4 + 1) m) where
+  h : Ordered l
+  h = crates-ordered l is
+
   same : o ≡ slots l h
   same = named ∙ slots-made l h
 
@@ -163,3 +189,18 @@ module _ (l : List ℤ) (h : isAdapt l ≡ true) (o : Slots) (m : Coord) (b : Bo
   pub all-scaled : (back : Bool) (w : Coord) → b ≡ false → w ≡ factorsFor back o m → map (scaledIf back o w) ts ≡ map (adapted back l) ts
   all-scaled back w e f =
       map-same (scaledIf back o w) (adapted back l) (λ c. scaled-so back w f c ∙ ap (λ (z : Bool). adaptedIf z back l c) (sym e) ∙ by-noop back c) ts
+
+-- ---- in the documented mode
+
+module _ (l : List ℤ) (is : isDocumented l ≡ true) (o : Slots) (m : Coord) (ts : List Coord) (named : o ≡ slotsOf (take 4 l)) (made : m ≡ mults l) where
+  axis-slots : o ≡ slots l (documented-ordered l is)
+  axis-slots = named ∙ slots-made l (documented-ordered l is)
+
+  axis-scaled-so : (back : Bool) (w : Coord) → w ≡ factorsByAxis back m → (c : Coord) → scaledIf back o w c ≡ adaptedByAxis back l c
+  unfolding scaledIf factorsByAxis
+  axis-scaled-so false w e c = (λ i. scaled (axis-slots i) ((e ∙ made) i) c) ∙ by-axis-scaled l (documented-ordered l is) c
+  axis-scaled-so true w e c = (λ i. unscaled (axis-slots i) ((e ∙ ap overs made) i) c) ∙ by-axis-unscaled l (documented-ordered l is) c
+
+  -- each tuple is scaled
+  pub all-by-axis : (back : Bool) (w : Coord) → w ≡ factorsByAxis back m → map (scaledIf back o w) ts ≡ map (adaptedByAxis back l) ts
+  all-by-axis back w f = map-same (scaledIf back o w) (adaptedByAxis back l) (axis-scaled-so back w f) ts

@@ -20,7 +20,7 @@ use Rattle.rules.specs.Operators.Adapt.{isAdapt, letter, endingOf, fromWord, to
 use Rattle.laws_lists.specs.Tests.{and-left, and-right}
 use Rattle.numbers.specs.Parts.{rest}
 use Rattle.numbers.specs.Axes.{isAxis}
-use Rattle.adapt.specs.Text.{lettered, fromText, toText}
+use Rattle.adapt.specs.Text.{lettered, wordText, wordsText}
 
 -- ---- letters and endings
 
@@ -59,23 +59,19 @@ gon-ending zero a b = absurd (a refl)
 gon-ending (suc zero) a b = absurd (b refl)
 gon-ending (suc (suc k)) a b = refl
 
--- ---- the words of `adapt`
+-- ---- the words
 
-pub from-is : (code : ℕ) → fromText code ≡ ascii "adapt from=enuf" ++ endingOf (code / 3)
-unfolding fromText
-from-is code = refl
+-- the name and two words with a space between, by the axes of both and the code
+pub words-are : (code : ℕ) (from to : List ℤ)
+    → joined (ascii "adapt" ∷ keyValue "from" (map letter from ++ endingOf (code / 3)) ∷ keyValue "to" (map letter to ++ endingOf (code % 3)) ∷ [])
+    ≡ wordsText code from to
+unfolding joined joinedBy afterEach keyValue ascii wordsText wordText
+words-are code from to = rw (append-nil (map letter to ++ endingOf (code % 3)))
 
-pub to-is : (code : ℕ) (l : List ℤ) → toText code l ≡ (32 ∷ 116 ∷ 111 ∷ 61 ∷ []) ++ (map letter l ++ endingOf (code % 3))
-unfolding toText ascii
-to-is code l = refl
-
--- ---- the whole
-
-pub adapt-is : (l : List ℤ) {code : ℕ} → code ≡ size (getD l 4 (pos 0)) → joined (operatorWords Adapt l) ≡ fromText code ++ toText code (take 4 l)
-unfolding joined joinedBy afterEach operatorWords nameWord argWords keyValue fromWord toWord fromText toText arg ascii
-adapt-is l {code} e =
-    rw (← e) (ap (λ (t : Bytes). 97 ∷ 100 ∷ 97 ∷ 112 ∷ 116 ∷ 32 ∷ 102 ∷ 114 ∷ 111 ∷ 109 ∷ 61 ∷ 101 ∷ 110 ∷ 117 ∷ 102 ∷
-    (endingOf (code / 3) ++ (32 ∷ 116 ∷ 111 ∷ 61 ∷ t))) (append-nil (map letter (take 4 l) ++ endingOf (code % 3))))
+pub adapt-is : (l : List ℤ) {code : ℕ} → code ≡ size (getD l 4 (pos 0))
+    → joined (operatorWords Adapt l) ≡ wordsText code (pos 1 ∷ pos 2 ∷ pos 3 ∷ pos 4 ∷ []) (take 4 l)
+unfolding operatorWords nameWord argWords fromWord toWord arg letter minus ascii
+adapt-is l {code} e = rw (← e) (words-are code (pos 1 ∷ pos 2 ∷ pos 3 ∷ pos 4 ∷ []) (take 4 l))
 
 pub adapt-long : (l : List ℤ) → isAdapt l ≡ true → length l ≡ 8
 unfolding isAdapt

@@ -18,7 +18,7 @@ use Rattle.adapt.specs.declared.words.Word.{Word}
 use Rattle.adapt.specs.Words.{wordAs, Ready}
 use Rattle.adapt.proofs.FirstPlace.{finds-size, place-most}
 
-differ : (a b : Bool) → not (Bool·beq a b) ≡ xor a b
+pub differ : (a b : Bool) → not (Bool·beq a b) ≡ xor a b
 unfolding xor
 differ true true = refl
 differ true false = refl

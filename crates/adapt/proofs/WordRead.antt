@@ -133,7 +133,7 @@ module _ (t : Bytes) where
       word-so {angle} f =
           record {
             is = sym (rw (ending-is, f, ← are, four-axes, o));
-            ready = λ _. record { four = four-axes; small = e .small angle f };
+            ready = λ _. record { four = four-axes; ordered = o; small = e .small angle f };
           }
 
 -- `pass` is `enuf`

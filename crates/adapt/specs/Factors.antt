@@ -54,6 +54,10 @@ unscaled o m c = placed o (scaledBy m c) c
 unfoldable pub scaledIf : Bool → Slots → Coord → Coord → Coord
 scaledIf back o m c = cond back (unscaled o m c) (scaled o m c)
 
+-- the factors of a direction in the documented mode: back, that of a number is 1 over its own
+unfoldable pub factorsByAxis : Bool → Coord → Coord
+factorsByAxis back m = cond back (overs m) m
+
 -- the factors of a direction: back, that of a number is 1 over that of its place
 unfoldable pub factorsFor : Bool → Slots → Coord → Coord
 factorsFor back o m = cond back (picked o (overs m)) m

@@ -6,6 +6,7 @@ use mathlib.Core.Option.{Option, none, some}
 use mathlib.Core.List.{map}
 use lib.ListN.{length, take, drop}
 use Rattle.rules.specs.Text.Bytes.{Bytes}
+use Rattle.rules.specs.Operators.Arguments.{isOrder}
 use Rattle.rules.specs.Operators.Adapt as adapt
 use Rattle.adapt.specs.declared.words.Word.{Word}
 use Rattle.adapt.specs.declared.words.Ending.{Ending}
@@ -32,9 +33,10 @@ wordAs w = record { axes = w .axes; angle = w .angle }
 unfoldable pub wordIs : Word → Option adapt.Word
 wordIs w = cond (w .is) (some (wordAs w)) none
 
--- what is needed of a word: four axes, and one of the three angles
+-- what is needed of a word: four axes, each once, and one of the three angles
 pub record Ready (w : Word) : Type 0 where
   pub four : length (w .axes) ≡ 4
+  pub ordered : isOrder (w .axes) ≡ true
   pub small : w .angle ≤ 2
 
 -- what reading a word gives

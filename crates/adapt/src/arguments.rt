@@ -12,7 +12,7 @@ ghost use Rattle.rules.specs.Operators.Adapt.{isCode, isAdapt};
 ghost use Rattle.adapt.specs.Arguments.{areFactors};
 
 // Is argument i of l the code of a factor's size?
-fn is_code(l: &[i32], i: usize) -> bool
+pub fn is_code(l: &[i32], i: usize) -> bool
     requires { ⌜ i < length (now l) ⌝ }
     ensures { λ r. ⌜ r ≡ isCode (getD (now (l .entry)) i (pos 0)) ⌝ }
 {

@@ -50,7 +50,7 @@ fn axis_of(b: u8) -> i32
 }
 
 // The axes of the first four bytes.
-fn axes_of(t: &[u8]) -> [i32; 4]
+pub fn axes_of(t: &[u8]) -> [i32; 4]
     requires { ⌜ 4 ≤ length (now t) ⌝ }
     ensures { λ r. ⌜ r ≡ map axis (take 4 (now (t .entry))) ⌝ }
 {
@@ -117,7 +117,7 @@ pub fn word_of(t: &[u8]) -> Word
 }
 
 // Which place of l holds a number of that size, counted from 1; 0 where none does.
-fn position_of(size: usize, l: &[i32]) -> usize
+pub fn position_of(size: usize, l: &[i32]) -> usize
     ensures { λ r. ⌜ r ≡ position 1 size (now (l .entry)) ⌝ }
 {
     let mut i = 0;
@@ -145,7 +145,7 @@ fn output(from: Word, to: Word, i: usize) -> i32
 }
 
 // The code of the factor that goes from one angle to the other, 0 where they are the same.
-fn code_of(from: Word, to: Word) -> i32
+pub fn code_of(from: Word, to: Word) -> i32
     requires { ⌜ Ready from ⌝ }
     requires { ⌜ Ready to ⌝ }
     ensures { λ r. ⌜ r ≡ angles (wordAs from) (wordAs to) ⌝ }
@@ -158,7 +158,7 @@ fn code_of(from: Word, to: Word) -> i32
 
 // The eight arguments that two words make: the four outputs, and the codes of their factors (an angle stands in the first
 // two numbers).
-pub fn between(from: Word, to: Word) -> [i32; 8]
+pub fn combined(from: Word, to: Word) -> [i32; 8]
     requires { ⌜ Ready from ⌝ }
     requires { ⌜ Ready to ⌝ }
     ensures { λ r. ⌜ r ≡ combined (wordAs from) (wordAs to) ⌝ }

@@ -17,7 +17,7 @@ ghost use Rattle.numbers.specs.Axes.{isAxis};
 ghost use Rattle.rules.specs.Text.Bytes.{joined};
 ghost use Rattle.rules.specs.Operators.Descriptions.{Adapt};
 ghost use Rattle.rules.specs.Pipeline.Write.{operatorWords};
-ghost use Rattle.adapt.specs.Text.{fromText, toText};
+ghost use Rattle.adapt.specs.Text.{wordText, wordsText};
 
 // Byte i of s.
 fn byte_at(s: &[u8], i: usize) -> u8
@@ -70,33 +70,34 @@ fn ending(angle: usize, out: &mut [u8], o: usize) -> usize
     put(b"_gon", out, o)
 }
 
-// The name, and the word `from`, by the code of a factor.
-fn from_word(code: usize, out: &mut [u8], o: usize) -> usize
-    requires { ⌜ Room (fromText code) o (now out) ⌝ }
-    ensures { λ r. ⌜ WroteAt (fromText code) (now (out .entry)) o r (now (out .exit)) ⌝ }
-{
-    let e = put(b"adapt from=enuf", out, o);
-    ending(code / 3, out, e)
-}
-
-// The word `to`, after a space, by the outputs and the code of a factor.
-fn to_word(code: usize, l: &[i32], out: &mut [u8], o: usize) -> usize
+// A word behind its key: the letters of its axes, and the ending of its angle.
+fn word(key: &[u8], l: &[i32], angle: usize, out: &mut [u8], o: usize) -> usize
     requires { ⌜ allOf isAxis (now l) ≡ true ⌝ }
-    requires { ⌜ Room (toText code (now l)) o (now out) ⌝ }
-    ensures { λ r. ⌜ WroteAt (toText code (now (l .entry))) (now (out .entry)) o r (now (out .exit)) ⌝ }
+    requires { ⌜ Room (wordText (now key) (now l) angle) o (now out) ⌝ }
+    ensures { λ r. ⌜ WroteAt (wordText (now (key .entry)) (now (l .entry)) angle) (now (out .entry)) o r (now (out .exit)) ⌝ }
 {
-    let a = put(b" to=", out, o);
+    let a = put(key, out, o);
     let e = letters(l, out, a);
-    ending(code % 3, out, e)
+    ending(angle, out, e)
 }
 
-// The name and both words.
+// The name and both words, by their axes and the code of the factor that goes from one angle to the other.
+pub fn words(code: usize, from: &[i32], to: &[i32], out: &mut [u8], o: usize) -> usize
+    requires { ⌜ allOf isAxis (now from) ≡ true ⌝ }
+    requires { ⌜ allOf isAxis (now to) ≡ true ⌝ }
+    requires { ⌜ Room (wordsText code (now from) (now to)) o (now out) ⌝ }
+    ensures { λ r. ⌜ WroteAt (wordsText code (now (from .entry)) (now (to .entry))) (now (out .entry)) o r (now (out .exit)) ⌝ }
+{
+    let e = word(b"adapt from=", from, code / 3, out, o);
+    word(b" to=", to, code % 3, out, e)
+}
+
+// In the crate's mode `from` has the axes in their order, and `to` has the outputs.
 pub fn write_words(l: &[i32], out: &mut [u8], o: usize) -> usize
     requires { ⌜ isAdapt (now l) ≡ true ⌝ }
     requires { ⌜ Room (joined (operatorWords Adapt (now l))) o (now out) ⌝ }
     ensures { λ r. ⌜ WroteAt (joined (operatorWords Adapt (now (l .entry)))) (now (out .entry)) o r (now (out .exit)) ⌝ }
 {
-    let code = size_at(l, 4);
-    let e = from_word(code, out, o);
-    to_word(code, &l[..4], out, e)
+    let from = [1, 2, 3, 4];
+    words(size_at(l, 4), &from[..], &l[..4], out, o)
 }

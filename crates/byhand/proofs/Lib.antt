@@ -4,3 +4,4 @@ pub mod Owned
 pub mod Fields
 pub mod Counting
 pub mod Branch
+pub mod Enums

@@ -35,7 +35,7 @@ module _ (l : List ℤ) where
       go Swaps h = absurd h
       go Drops h = absurd h
       go (Orders back) h = absurd h
-      go (Adapts back) h = absurd h
+      go (Adapts mode back) h = absurd h
 
   -- what asks for no column: a push, the exchange and the drop, a reordering and an adapting
   pub takes-none : (a : Act) → Found (0 ∷ 5 ∷ 6 ∷ 7 ∷ 8 ∷ []) a → 0 ≡ takes (does a l)
@@ -51,7 +51,7 @@ module _ (l : List ℤ) where
       go Swaps h = refl
       go Drops h = refl
       go (Orders back) h = refl
-      go (Adapts back) h = refl
+      go (Adapts mode back) h = refl
 
   -- all but swap and drop: where it finds too few columns
   pub counts-few : (depth : ℕ) (a : Act) → Found (0 ∷ 1 ∷ 2 ∷ 3 ∷ 4 ∷ 7 ∷ 8 ∷ []) a → ltb depth (takes (does a l)) ≡ countsNone (does a l) depth
@@ -67,7 +67,7 @@ module _ (l : List ℤ) where
       go Swaps h = absurd h
       go Drops h = absurd h
       go (Orders back) h = le-ltb depth 0 (omega arith)
-      go (Adapts back) h = le-ltb depth 0 (omega arith)
+      go (Adapts mode back) h = le-ltb depth 0 (omega arith)
 
   same : (b : Bool) (x : ℕ) → cond b x x ≡ x
   same true x = refl
@@ -87,7 +87,7 @@ module _ (l : List ℤ) where
       go Swaps h = sym (same (tooFew rules.swaps depth) depth)
       go Drops h = sym (same (tooFew rules.drops depth) depth)
       go (Orders back) h = sym (same (tooFew (rules.orders back l) depth) depth)
-      go (Adapts back) h = sym (same (tooFew (rules.adapts back l) depth) depth)
+      go (Adapts mode back) h = sym (same (tooFew (rules.adapts mode back l) depth) depth)
 
 -- ---- of a doing
 

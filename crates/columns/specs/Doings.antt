@@ -8,7 +8,7 @@ use lib.IntN.{ℤ}
 use lib.Dec.{ltb}
 use Rattle.rules.specs.Text.Lists.{allOf}
 use Rattle.rules.specs.Operators.Arguments.{places, isPlace, isOrder}
-use Rattle.rules.specs.Operators.Adapt.{isAdapt}
+use Rattle.rules.specs.Operators.Documented.{isAdaptIn}
 use Rattle.rules.specs.Operators.Acts as rules
 use Rattle.columns.specs.declared.acts.Act.{Act}
 use Rattle.columns.specs.declared.acts.Act.the-variants.{Pushes, Pops, PopsAll, Flips, Rolls, Swaps, Drops, Orders, Adapts}
@@ -24,7 +24,7 @@ does (Rolls m n) l = rules.rolls m n
 does Swaps l = rules.swaps
 does Drops l = rules.drops
 does (Orders back) l = rules.orders back l
-does (Adapts back) l = rules.adapts back l
+does (Adapts mode back) l = rules.adapts mode back l
 
 unfoldable pub doing : Doing → rules.Act
 doing d = does (d .act) (take (d .n) (d .args))
@@ -39,7 +39,7 @@ able (Rolls m n) l = ltb n (2 * m)
 able Swaps l = true
 able Drops l = true
 able (Orders back) l = isOrder l
-able (Adapts back) l = isAdapt l
+able (Adapts mode back) l = isAdaptIn mode l
 
 -- the code's act is that of the rules, and its arguments can be
 pub record Does (a : rules.Act) (d : Doing) : Type 0 where

@@ -1,5 +1,6 @@
 // The acts: what a step does, once its direction is settled. Run and check both go by them. "Action names and function
 // pointers become cases".
+use rules::Mode;
 ghost use mathlib.Core.Path.{_≡_};
 ghost use mathlib.Core.List.{reverse};
 ghost use Prim.Native.Nat.{_≤_};
@@ -19,9 +20,9 @@ pub enum Act {
     Rolls { m: usize, n: usize },
     Swaps,
     Drops,
-    // each tuple reordered, or adapted, forward or back
+    // each tuple reordered, or adapted in a mode, forward or back
     Orders { back: bool },
-    Adapts { back: bool },
+    Adapts { mode: Mode, back: bool },
 }
 
 // An act with its arguments: the first n of eight.

@@ -1,3 +1,2 @@
--- What the walks cite of the types of a direction and of a reading.
-pub mod DirectionType
-pub mod ReadingType
+-- What the walks cite of the enums that they pass on.
+pub mod Choices

@@ -11,6 +11,7 @@ use lib.Seq.{take-at}
 use Rattle.rules.specs.Text.Bytes.{Bytes}
 use Rattle.rules.specs.Text.Refusal.{Reply, answers, refuses, tested, lent, outcome, prepared}
 use Rattle.rules.specs.Pipeline.Prepare.{prepareAs}
+use Rattle.rules.specs.declared.Mode.{Mode}
 use Rattle.rules.specs.declared.Prepared.{Prepared}
 use Rattle.rules.specs.declared.Prepared.the-variants as prepared-is
 use Rattle.rules.specs.declared.Reading.{Reading}
@@ -78,20 +79,20 @@ brought (answers xs) few row = go (ltb (length front) (length xs)) refl
         (writes row xs (drop (length xs) front ++ drop (length row) blanks) small (omega (arith, size, ltb-false (length front) (length xs) e)))
 
 -- the plan keeps what preparing promises
-pub plans : (r : Reading) (text : Bytes) (room : ℕ) {p : Plan} → p ≡ planOf (preparingAs r text (emptied room)) → Plans r text room p
+pub plans : (r : Reading) (mode : Mode) (text : Bytes) (room : ℕ) {p : Plan} → p ≡ planOf (preparingAs r mode text (emptied room)) → Plans r mode text room p
 unfolding preparingAs outcome
-plans r text room {p} e =
+plans r mode text room {p} e =
     record { fits = λ row l. brings row l .fits; keeps = λ row l. record { exactly = brings row l .keeps } }
   where
-    brings : (row : List Step) → length row ≡ room → Brings (tested (prepareAs r) text) row p
+    brings : (row : List Step) → length row ≡ room → Brings (tested (prepareAs r mode) text) row p
     brings row l =
-        subst (Brings (tested (prepareAs r) text) row) (ap (λ (n : ℕ). planOf (preparingAs r text (emptied n))) l ∙ sym e)
-        (brought (tested (prepareAs r) text) (λ xs h. prepare-as-made r text xs (tested-answers (prepareAs r) text xs h) .1) row)
+        subst (Brings (tested (prepareAs r mode) text) row) (ap (λ (n : ℕ). planOf (preparingAs r mode text (emptied n))) l ∙ sym e)
+        (brought (tested (prepareAs r mode) text) (λ xs h. prepare-as-made r mode text xs (tested-answers (prepareAs r mode) text xs h) .1) row)
 
 -- the same, from what the callees promise
-pub planned-by : (r : Reading) (text : Bytes) (room : ℕ) {t : Table} {q : Preparing} {n : ℕ} → t ≡ emptied room → q ≡ preparingAs r text t → n ≡ countOf (q .answer)
-    → Plans r text room (record { answer = q .answer; steps = q .table .steps; n = n })
+pub planned-by : (r : Reading) (mode : Mode) (text : Bytes) (room : ℕ) {t : Table} {q : Preparing} {n : ℕ} → t ≡ emptied room → q ≡ preparingAs r mode text t → n ≡ countOf (q .answer)
+    → Plans r mode text room (record { answer = q .answer; steps = q .table .steps; n = n })
 unfolding planOf
-planned-by r text room {t} {q} e f g =
-    plans r text room
-    ((λ i. record { answer = q .answer; steps = q .table .steps; n = g i }) ∙ ap planOf (f ∙ ap (preparingAs r text) e))
+planned-by r mode text room {t} {q} e f g =
+    plans r mode text room
+    ((λ i. record { answer = q .answer; steps = q .table .steps; n = g i }) ∙ ap planOf (f ∙ ap (preparingAs r mode text) e))

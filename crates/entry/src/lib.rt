@@ -2,6 +2,7 @@
 // row, or the row's records of such a table, and leaves the work to the call by value. No call has a `requires`.
 use rules::Direction;
 use rules::Foretold;
+use rules::Mode;
 use rules::Prepared;
 use rules::Ran;
 use rules::Reading;
@@ -29,11 +30,11 @@ fn count_of(answer: Prepared) -> usize
     }
 }
 
-// Prepares text in a reading for a row of so many records.
-fn planned(text: &[u8], reading: Reading, lent: usize) -> Plan
-    ensures { λ r. ⌜ Plans reading (now (text .entry)) lent r ⌝ }
+// Prepares text in a reading and a mode for a row of so many records.
+fn planned(text: &[u8], reading: Reading, mode: Mode, lent: usize) -> Plan
+    ensures { λ r. ⌜ Plans reading mode (now (text .entry)) lent r ⌝ }
 {
-    let p = prepare::prepare_as(text, reading, rows::empty(lent));
+    let p = prepare::prepare_as(text, reading, mode, rows::empty(lent));
     let answer = p.answer;
     let table = p.table;
     let steps = table.steps;
@@ -44,20 +45,20 @@ fn planned(text: &[u8], reading: Reading, lent: usize) -> Plan
     }
 }
 
-// Makes step records of a definition in a reading, from the first of the lent row on.
-pub fn prepare_as(text: &[u8], reading: Reading, table: &mut [Step]) -> Prepared
-    ensures { λ r. ⌜ PreparesAs reading (now (text .entry)) (now (table .entry)) r (now (table .exit)) ⌝ }
+// Makes step records of a definition in a reading and a mode, from the first of the lent row on.
+pub fn prepare_as(text: &[u8], reading: Reading, mode: Mode, table: &mut [Step]) -> Prepared
+    ensures { λ r. ⌜ PreparesAs reading mode (now (text .entry)) (now (table .entry)) r (now (table .exit)) ⌝ }
 {
-    let p = planned(text, reading, table.len());
+    let p = planned(text, reading, mode, table.len());
     rows::store(table, p.steps, p.n);
     p.answer
 }
 
-// The same in the crate's reading.
+// The same in the crate's reading and the crate's mode.
 pub fn prepare(text: &[u8], table: &mut [Step]) -> Prepared
     ensures { λ r. ⌜ Prepares (now (text .entry)) (now (table .entry)) r (now (table .exit)) ⌝ }
 {
-    prepare_as(text, Reading::Crate, table)
+    prepare_as(text, Reading::Crate, Mode::Crate, table)
 }
 
 // Says of a step table and a direction, without any data, what a run will do.

@@ -10,6 +10,7 @@ use lib.ListN.{length}
 use Rattle.rules.specs.Text.Lists.{allOf}
 use Rattle.rules.specs.Text.Decimal.{minus}
 use Rattle.rules.specs.Operators.Arguments.{isPlace, places, isOrder}
+use Rattle.rules.specs.declared.Mode.{Mode}
 use Rattle.rules.specs.Operators.Acts.{pops, popsAll, drops, adapts}
 use Rattle.rules.specs.Pipeline.Columns.{takes, moved}
 use Rattle.laws_steps.specs.Depth.{grown}
@@ -68,7 +69,7 @@ unfolding moved
 moves-none w = record { whole = w; same = refl }
 
 -- `adapt` moves no place
-pub moves-no-place : {t : Traced} {back : Bool} {l : List ℤ} → Whole t → Moved (adapts back l) t t
+pub moves-no-place : {t : Traced} {mode : Mode} {back : Bool} {l : List ℤ} → Whole t → Moved (adapts mode back l) t t
 unfolding moved machine
 moves-no-place w = record { whole = w; same = refl }
 
@@ -86,4 +87,4 @@ others-not l a h = go a (found (0 ∷ 1 ∷ 2 ∷ 3 ∷ 4 ∷ 5 ∷ 6 ∷ 7 ∷ 
     go Swaps h = refl
     go Drops h = refl
     go (Orders back) h = refl
-    go (Adapts back) h = absurd h
+    go (Adapts mode back) h = absurd h

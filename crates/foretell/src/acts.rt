@@ -46,7 +46,7 @@ pub fn is_adapting(d: Doing) -> bool
 {
     let act = d.act;
     match act {
-        Act::Adapts { back: _ } => true,
+        Act::Adapts { mode: _, back: _ } => true,
         _ => false,
     }
 }
@@ -69,6 +69,6 @@ pub fn step(t: Traced, d: Doing) -> Traced
         Act::Swaps => swap_places(t),
         Act::Drops => t,
         Act::Orders { back } => order_places(t, back, &args[..n]),
-        Act::Adapts { back: _ } => t,
+        Act::Adapts { mode: _, back: _ } => t,
     }
 }

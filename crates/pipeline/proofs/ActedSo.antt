@@ -11,7 +11,10 @@ use lib.Ieee.{Float}
 use lib.ListN.{length, take}
 use lib.Seq.{take-all, length-take-le}
 use Rattle.rules.specs.Operators.Acts as rules
-use Rattle.rules.specs.Operators.Adapt.{isAdapt, adapted}
+use Rattle.rules.specs.Operators.Adapt.{isAdapt}
+use Rattle.rules.specs.Operators.Documented.{isDocumented, isAdaptIn, adaptedIn}
+use Rattle.rules.specs.declared.Mode.{Mode}
+use Rattle.rules.specs.declared.Mode.the-variants as mode-is
 use Rattle.rules.specs.Operators.Arguments.{isOrder}
 use Rattle.rules.specs.Operators.Axisswap.{swapped}
 use Rattle.rules.specs.Pipeline.Columns.{moved, takes}
@@ -26,6 +29,12 @@ use Rattle.columns.specs.declared.acts.Act.the-variants.{Pushes, Rolls, Drops, 
 use Rattle.columns.specs.declared.acts.Doing.{Doing}
 use Rattle.columns.proofs.Acted.{enough-so, tuples-so}
 use Rattle.columns.proofs.DepthRules.{after-pushes}
+
+-- in either mode `adapt` has eight arguments
+eight-in : (mode : Mode) (l : List ℤ) → isAdaptIn mode l ≡ true → length l ≡ 8
+unfolding isAdaptIn isAdapt isDocumented
+eight-in mode-is.Crate l h = eqb-true (length l) 8 (and-left (eqb (length l) 8) _ h)
+eight-in mode-is.Documented l h = eqb-true (length l) 8 (and-left (eqb (length l) 8) _ h)
 
 module _ (d : Doing) where
   abbrev l : List ℤ
@@ -57,15 +66,13 @@ module _ (d : Doing) where
     order-rule e = ruled e
 
     -- an `adapt` has eight arguments
-    whole : {back : Bool} → d .act ≡ Adapts back → take (d .n) (d .args) ≡ d .args
-    unfolding able isAdapt
-    whole e =
-        let eight = eqb-true (length l) 8 (and-left (eqb (length l) 8) _ (ruled e)) in
-        take-all (d .n) (d .args) (omega (arith, long))
-
-    pub adapt-rule : {back : Bool} → d .act ≡ Adapts back → isAdapt (d .args) ≡ true
+    whole : {mode : Mode} {back : Bool} → d .act ≡ Adapts mode back → take (d .n) (d .args) ≡ d .args
     unfolding able
-    adapt-rule e = subst (λ (z : List ℤ). isAdapt z ≡ true) (whole e) (ruled e)
+    whole {mode} e = take-all (d .n) (d .args) (omega (arith, long, eight-in mode l (ruled e)))
+
+    pub adapt-rule : {mode : Mode} {back : Bool} → d .act ≡ Adapts mode back → isAdaptIn mode (d .args) ≡ true
+    unfolding able
+    adapt-rule {mode} e = subst (λ (z : List ℤ). isAdaptIn mode z ≡ true) (whole e) (ruled e)
 
     module _ (depth : ℕ) (xs s : List Float) where
       pub drop-acted : d .act ≡ Drops → Acted (doing d) depth xs s xs s
@@ -78,10 +85,10 @@ module _ (d : Doing) where
       order-acted {back} xs′ e len did =
           found e (tuples-so (rules.orders back l) depth xs s (map (swapped back l)) xs′ (enough-so (rules.orders back l) depth xs s (omega arith)) len did)
 
-      pub adapt-acted : {back : Bool} (xs′ : List Float) → d .act ≡ Adapts back → length xs′ ≡ length xs → tuples xs′ ≡ map (adapted back (d .args)) (tuples xs)
-          → Acted (doing d) depth xs s xs′ s
+      pub adapt-acted : {mode : Mode} {back : Bool} (xs′ : List Float) → d .act ≡ Adapts mode back → length xs′ ≡ length xs
+          → tuples xs′ ≡ map (adaptedIn mode back (d .args)) (tuples xs) → Acted (doing d) depth xs s xs′ s
       unfolding does moved takes held
-      adapt-acted {back} xs′ e len did =
+      adapt-acted {mode} {back} xs′ e len did =
           found e
-          (tuples-so (rules.adapts back l) depth xs s (map (adapted back l)) xs′ (enough-so (rules.adapts back l) depth xs s (omega arith)) len
-          (did ∙ ap (λ (z : List ℤ). map (adapted back z) (tuples xs)) (sym (whole e))))
+          (tuples-so (rules.adapts mode back l) depth xs s (map (adaptedIn mode back l)) xs′ (enough-so (rules.adapts mode back l) depth xs s (omega arith)) len
+          (did ∙ ap (λ (z : List ℤ). map (adaptedIn mode back z) (tuples xs)) (sym (whole e))))

@@ -53,7 +53,7 @@ fn run_act(tuples: &mut [f64], columns: &mut [f64], depth: usize, d: Doing)
         Act::Swaps => swap(tuples, columns, depth),
         Act::Drops => {}
         Act::Orders { back } => axisswap(tuples, back, &args[..n]),
-        Act::Adapts { back } => adapt(tuples, back, args),
+        Act::Adapts { mode, back } => adapt(tuples, mode, back, args),
     }
 }
 

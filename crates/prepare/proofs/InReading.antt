@@ -11,8 +11,9 @@ use lib.Seq.{take-at, drop-at}
 use Rattle.rules.specs.Text.Bytes.{Bytes, inDomain}
 use Rattle.rules.specs.Text.Refusal.{Reply, answers, refuses, andThen, tested, lent, prepared}
 use Rattle.rules.specs.Pipeline.Record.{inReading}
-use Rattle.rules.specs.Pipeline.Prepare.{prepare, prepareAs}
+use Rattle.rules.specs.Pipeline.Prepare.{prepareIn, prepareAs}
 use Rattle.rules.specs.declared.Reading.{Reading}
+use Rattle.rules.specs.declared.Mode.{Mode}
 use Rattle.rules.specs.declared.Prepared.{Prepared}
 use Rattle.rules.specs.declared.Prepared.the-variants as prepared-is
 use Rattle.rules.specs.declared.Step.{Step}
@@ -43,11 +44,11 @@ module _ (r : Reading) where
   abbrev named : Reply (List Step) → Reply (List Step)
   named o = andThen o (λ l. answers (map (inReading r) l))
 
-  tested-named : (t : Bytes) → tested (prepareAs r) t ≡ named (tested prepare t)
+  tested-named : (mode : Mode) (t : Bytes) → tested (prepareAs r mode) t ≡ named (tested (prepareIn mode) t)
   unfolding tested prepareAs
-  tested-named t = go (ltb 4096 (length t)) (not (inDomain t))
+  tested-named mode t = go (ltb 4096 (length t)) (not (inDomain t))
     where
-      go : (a b : Bool) → cond a (refuses 1 0) (cond b (refuses 2 0) (named (prepare t))) ≡ named (cond a (refuses 1 0) (cond b (refuses 2 0) (prepare t)))
+      go : (a b : Bool) → cond a (refuses 1 0) (cond b (refuses 2 0) (named (prepareIn mode t))) ≡ named (cond a (refuses 1 0) (cond b (refuses 2 0) (prepareIn mode t)))
       go true b = unfold andThen in refl
       go false true = unfold andThen in refl
       go false false = refl
@@ -72,9 +73,10 @@ module _ (r : Reading) where
           unfold answerNamed in rw (e, length-map l (inReading r))
           (ap (λ (steps : List Step). record { answer = prepared-is.Steps (length l); table = record { steps = steps; n = t .n } }) (sym (front-named l (drop (length l) (row t)) (drop (t .n) (t .steps)))))
 
-as-named : (r : Reading) (text : Bytes) (t : Table) → preparingAs r text t ≡ answerNamed r (preparing text t .answer) (preparing text t .table)
+as-named : (r : Reading) (mode : Mode) (text : Bytes) (t : Table)
+    → preparingAs r mode text t ≡ answerNamed r (preparing mode text t .answer) (preparing mode text t .table)
 unfolding preparing preparingAs
-as-named r text t = ap (λ (o : Reply (List Step)). lentTo o t) (tested-named r text) ∙ lent-named r (tested prepare text) t
+as-named r mode text t = ap (λ (o : Reply (List Step)). lentTo o t) (tested-named r mode text) ∙ lent-named r (tested (prepareIn mode) text) t
 
 -- the records that an answer counts are there
 there : (o : Reply (List Step)) (t : Table) {n : ℕ} → lentTo o t .answer ≡ prepared-is.Steps n → n ≤ length (lentTo o t .table .steps)
@@ -93,19 +95,19 @@ there (answers l) t {n} h = go (ltb (length (row t)) (length l)) h
 
 -- ---- what the code answers
 
-module _ (r : Reading) (text : Bytes) (t : Table) {p : Preparing} (e : p ≡ preparing text t) where
-  by-answer : answerNamed r (p .answer) (p .table) ≡ preparingAs r text t
-  by-answer = ap (λ (q : Preparing). answerNamed r (q .answer) (q .table)) e ∙ sym (as-named r text t)
+module _ (r : Reading) (mode : Mode) (text : Bytes) (t : Table) {p : Preparing} (e : p ≡ preparing mode text t) where
+  by-answer : answerNamed r (p .answer) (p .table) ≡ preparingAs r mode text t
+  by-answer = ap (λ (q : Preparing). answerNamed r (q .answer) (q .table)) e ∙ sym (as-named r mode text t)
 
   pub answers-named : {n : ℕ} {steps : List Step} → p .answer ≡ prepared-is.Steps n → steps ≡ firstNamed r n (p .table .steps)
-      → _≡_ {A = Preparing} (record { answer = prepared-is.Steps n; table = record { steps = steps; n = p .table .n } }) (preparingAs r text t)
+      → _≡_ {A = Preparing} (record { answer = prepared-is.Steps n; table = record { steps = steps; n = p .table .n } }) (preparingAs r mode text t)
   unfolding answerNamed
   answers-named {n} {steps} a h = (λ i. record { answer = prepared-is.Steps n; table = record { steps = h i; n = p .table .n } }) ∙ sym (ap (λ (w : Prepared). answerNamed r w (p .table)) a) ∙ by-answer
 
-  pub refuses-named : {number place : ℕ} → p .answer ≡ prepared-is.Refused number place → refusing number place (p .table) ≡ preparingAs r text t
+  pub refuses-named : {number place : ℕ} → p .answer ≡ prepared-is.Refused number place → refusing number place (p .table) ≡ preparingAs r mode text t
   unfolding answerNamed
   refuses-named {number} {place} a = sym (ap (λ (w : Prepared). answerNamed r w (p .table)) a) ∙ by-answer
 
   pub counts-records : {n : ℕ} → p .answer ≡ prepared-is.Steps n → n ≤ length (p .table .steps)
   unfolding preparing
-  counts-records {n} a = rw e (there (tested prepare text) t (sym (ap (λ (q : Preparing). q .answer) e) ∙ a))
+  counts-records {n} a = rw e (there (tested (prepareIn mode) text) t (sym (ap (λ (q : Preparing). q .answer) e) ∙ a))

@@ -17,6 +17,7 @@ use Rattle.rules.specs.Operators.Arguments.{valueOf}
 use Rattle.rules.specs.Operators.Table.{nameOf}
 use Rattle.rules.specs.Pipeline.Keys.{kindOf, unknown, misspelt, tooLong}
 use Rattle.rules.specs.Pipeline.Prepare.{ownRule, judged14, judged11, named, judged10, judged}
+use Rattle.rules.specs.declared.Mode.{Mode}
 use Rattle.rules.specs.declared.Name.{Name}
 use Rattle.rules.specs.declared.Named.the-variants as named-is
 use Rattle.rules.specs.declared.Step.{Step}
@@ -58,27 +59,27 @@ module _ (n : Name) (ps : List Parameter) where
   lowest-most = by-most lacking wrong long
 
   module _ {number : ℕ} (e : number ≡ lowestOf n ps) where
-    by-lowest : judged11 n ps ≡ cond (ltb number 14) (refuses number 0) (judged14 (ownRule n ps))
+    by-lowest : (mode : Mode) → judged11 mode n ps ≡ cond (ltb number 14) (refuses number 0) (judged14 (ownRule mode n ps))
     unfolding judged11 lowestOf
-    by-lowest = rw e (go lacking wrong long)
+    by-lowest mode = rw e (go lacking wrong long)
       where
-        go : (a b c : Bool) → cond a (refuses 11 0) (cond b (refuses 12 0) (cond c (refuses 13 0) (judged14 (ownRule n ps))))
-            ≡ cond (ltb (by a b c) 14) (refuses (by a b c) 0) (judged14 (ownRule n ps))
+        go : (a b c : Bool) → cond a (refuses 11 0) (cond b (refuses 12 0) (cond c (refuses 13 0) (judged14 (ownRule mode n ps))))
+            ≡ cond (ltb (by a b c) 14) (refuses (by a b c) 0) (judged14 (ownRule mode n ps))
         go true b c = refl
         go false true c = refl
         go false false true = refl
         go false false false = refl
 
-    pub judged-low : {x : Reply Step} → number < 14 → x ≡ refuses number 0 → x ≡ judged11 n ps
-    judged-low f h = h ∙ sym (by-lowest ∙ rw (lt-ltb number 14 f))
+    pub judged-low : (mode : Mode) {x : Reply Step} → number < 14 → x ≡ refuses number 0 → x ≡ judged11 mode n ps
+    judged-low mode f h = h ∙ sym (by-lowest mode ∙ rw (lt-ltb number 14 f))
 
-    pub judged-own : {x : Reply Step} → 14 ≤ number → x ≡ judged14 (ownRule n ps) → x ≡ judged11 n ps
-    judged-own f h = h ∙ sym (by-lowest ∙ rw (le-ltb number 14 f))
+    pub judged-own : (mode : Mode) {x : Reply Step} → 14 ≤ number → x ≡ judged14 (ownRule mode n ps) → x ≡ judged11 mode n ps
+    judged-own mode f h = h ∙ sym (by-lowest mode ∙ rw (le-ltb number 14 f))
 
 -- ---- the name
 
-module _ {s : Bytes} {ps : List Parameter} {v : Value} (m : Looks s ps (ascii "_name") v) where
-  pub judged-unnamed : {x : Reply Step} → v .given ≡ false → x ≡ refuses 10 0 → x ≡ judged ps
+module _ (mode : Mode) {s : Bytes} {ps : List Parameter} {v : Value} (m : Looks s ps (ascii "_name") v) where
+  pub judged-unnamed : {x : Reply Step} → v .given ≡ false → x ≡ refuses 10 0 → x ≡ judged mode ps
   unfolding judged named judged10
   judged-unnamed n h = h ∙ sym (rw (value-not m n))
 
@@ -87,10 +88,10 @@ module _ {s : Bytes} {ps : List Parameter} {v : Value} (m : Looks s ps (ascii "_
     unfolding named
     name-there = rw (value-there m g)
 
-    pub judged-other : {x : Reply Step} → nameOf (part (v .from) (v .to) s) ≡ named-is.Not → x ≡ refuses 10 0 → x ≡ judged ps
+    pub judged-other : {x : Reply Step} → nameOf (part (v .from) (v .to) s) ≡ named-is.Not → x ≡ refuses 10 0 → x ≡ judged mode ps
     unfolding judged judged10
     judged-other e h = h ∙ sym (rw (name-there, e))
 
-    pub judged-named : {n : Name} {x : Reply Step} → nameOf (part (v .from) (v .to) s) ≡ named-is.Is n → x ≡ judged11 n ps → x ≡ judged ps
+    pub judged-named : {n : Name} {x : Reply Step} → nameOf (part (v .from) (v .to) s) ≡ named-is.Is n → x ≡ judged11 mode n ps → x ≡ judged mode ps
     unfolding judged judged10
     judged-named e h = h ∙ sym (rw (name-there, e))

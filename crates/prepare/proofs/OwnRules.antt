@@ -1,4 +1,4 @@
--- Each operator's own rule: what each function returns is what the rule's definition names.
+-- Each operator's own rule in a mode: what each function returns is what the rule's definition names.
 use mathlib.Core.Path.{_≡_, refl, sym, ap, _∙_}
 use Prim.Native.Nat.{ℕ, zero, suc, _+_, _≤_, _<_}
 use mathlib.Core.Bool.{true, false, false≢true}
@@ -7,7 +7,7 @@ use mathlib.Core.List.{List, []}
 use native.Mathlib.Decide.{decLt}
 use native.Mathlib.Omega.{arith}
 use lib.Dec.{lit≤}
-use lib.ListN.{length, take}
+use lib.ListN.{length, take, drop-of-length-le}
 use lib.Seq.{take-all}
 use lib.IntN.{ℤ}
 use Rattle.rules.specs.Text.Ascii.{ascii}
@@ -17,15 +17,18 @@ use Rattle.rules.specs.Text.Refusal.{Reply, answers, refuses}
 use Rattle.rules.specs.Text.Parameters.{Parameter}
 use Rattle.rules.specs.Text.Reader.{part}
 use Rattle.rules.specs.Operators.Arguments.{valueOf, wholes, isOrder}
-use Rattle.rules.specs.Operators.Descriptions.{Push, Pop, Axisswap, Adapt, choose}
+use Rattle.rules.specs.Operators.Descriptions.{Push, Pop, Axisswap, choose}
 use Rattle.rules.specs.Operators.Keys.{flag, numbered, worded, kindIn}
 use Rattle.rules.specs.Operators.PushPop.{axes}
 use Rattle.rules.specs.Operators.Stack.{isNothing, actionKeys, actions}
 use Rattle.rules.specs.Operators.Axisswap.{order}
 use Rattle.rules.specs.Operators.Adapt as rules
+use Rattle.rules.specs.Operators.Documented.{combinedByAxis, adaptIn, combinedIn}
 use Rattle.rules.specs.Operators.Table.{numberOf, operatorOf, isArgs}
 use Rattle.rules.specs.Pipeline.Keys.{everyKey, ownKeys}
 use Rattle.rules.specs.Pipeline.Prepare.{recorded, ownRule, judged14}
+use Rattle.rules.specs.declared.Mode.{Mode}
+use Rattle.rules.specs.declared.Mode.the-variants as mode-is
 use Rattle.rules.specs.declared.Step.{Step}
 use Rattle.rules.specs.declared.Name.the-variants as name
 use Rattle.laws_lists.specs.Tests.{never}
@@ -112,12 +115,12 @@ action-nothing =
     (λ h. absurd (never (omega arith))) (λ h. absurd (never (omega arith))) (λ h. absurd (never (omega arith))) (λ h. absurd (never (omega arith)))
     (λ h. absurd (never (omega arith))) (λ h. refl) (λ h. refl)
 
-module _ (ps : List Parameter) {x : Reply Step} where
-  pub stack-none : Chosen ps 7 None → x ≡ refuses 14 0 → x ≡ judged14 (ownRule name.Stack ps)
+module _ (mode : Mode) (ps : List Parameter) {x : Reply Step} where
+  pub stack-none : Chosen ps 7 None → x ≡ refuses 14 0 → x ≡ judged14 (ownRule mode name.Stack ps)
   unfolding ownRule recorded judged14
   stack-none m h = h ∙ sym (rw (none-chosen ps m))
 
-  pub stack-more : Chosen ps 7 More → x ≡ refuses 14 0 → x ≡ judged14 (ownRule name.Stack ps)
+  pub stack-more : Chosen ps 7 More → x ≡ refuses 14 0 → x ≡ judged14 (ownRule mode name.Stack ps)
   unfolding ownRule recorded judged14
   stack-more m h = h ∙ sym (rw (more-chosen ps m))
 
@@ -160,9 +163,9 @@ module _ {ps : List Parameter} {operator : ℕ} (m : OneAction ps 7 operator) {l
   its-arguments : actionAt (m .place) .arguments (m .value) ≡ keptBy operator (low .numbers)
   its-arguments = elim (decLt (m .place) 5) [ yes h ↦ by-series h | no h ↦ by-nothing (omega arith) ]
 
-  pub stack-one : {x : Reply Step} → x ≡ judged14 (recordedAt operator ps (keptBy operator (low .numbers))) → x ≡ judged14 (ownRule name.Stack ps)
+  pub stack-one : (mode : Mode) {x : Reply Step} → x ≡ judged14 (recordedAt operator ps (keptBy operator (low .numbers))) → x ≡ judged14 (ownRule mode name.Stack ps)
   unfolding ownRule
-  stack-one h =
+  stack-one mode h =
       h
       ∙ ap judged14
       (ap (λ (k : ℕ). recordedAt k ps (keptBy operator (low .numbers))) (sym its-number)
@@ -176,9 +179,9 @@ module _ {ps : List Parameter} {low : Lowest} (l : Lowers name.Axisswap ps low) 
   the-order : firstSeries name.Axisswap ps ≡ valueOf (ascii "order") ps
   the-order = first-only name.Axisswap (ascii "order") order-takes ps (λ k t n. absurd (n (order-key k t)))
 
-  own-order : {r : Option (List ℤ)} → order (valueOf (ascii "order") ps) ≡ r → judged14 (recordedAt 9 ps r) ≡ judged14 (ownRule name.Axisswap ps)
+  own-order : (mode : Mode) {r : Option (List ℤ)} → order (valueOf (ascii "order") ps) ≡ r → judged14 (recordedAt 9 ps r) ≡ judged14 (ownRule mode name.Axisswap ps)
   unfolding ownRule numberOf
-  own-order {r} o = ap judged14 (recorded-of Axisswap ps r ∙ ap (λ (q : Option (List ℤ)). recorded ps (choose Axisswap q)) (sym o))
+  own-order mode {r} o = ap judged14 (recorded-of Axisswap ps r ∙ ap (λ (q : Option (List ℤ)). recorded ps (choose Axisswap q)) (sym o))
 
   order-kept : {v : Bytes} → firstSeries name.Axisswap ps ≡ some v → order (valueOf (ascii "order") ps) ≡ keptBy 9 (low .numbers)
   unfolding order isArgs operatorOf
@@ -188,21 +191,21 @@ module _ {ps : List Parameter} {low : Lowest} (l : Lowers name.Axisswap ps low) 
   unfolding order
   order-not f = let z : valueOf (ascii "order") ps ≡ none = sym the-order ∙ f in rw z
 
-  pub order-there : {x : Reply Step} → low .found ≡ true → x ≡ judged14 (recordedAt 9 ps (keptBy 9 (low .numbers))) → x ≡ judged14 (ownRule name.Axisswap ps)
-  order-there {x} g h = go (firstSeries name.Axisswap ps) refl
+  pub order-there : (mode : Mode) {x : Reply Step} → low .found ≡ true → x ≡ judged14 (recordedAt 9 ps (keptBy 9 (low .numbers))) → x ≡ judged14 (ownRule mode name.Axisswap ps)
+  order-there mode {x} g h = go (firstSeries name.Axisswap ps) refl
     where
-      go : (o : Option Bytes) → firstSeries name.Axisswap ps ≡ o → x ≡ judged14 (ownRule name.Axisswap ps)
+      go : (o : Option Bytes) → firstSeries name.Axisswap ps ≡ o → x ≡ judged14 (ownRule mode name.Axisswap ps)
       go none f = absurd (false≢true (sym (not-found l e f) ∙ g))
-      go (some v) f = h ∙ own-order (order-kept f)
+      go (some v) f = h ∙ own-order mode (order-kept f)
 
-  pub order-default : {x : Reply Step} {a : Args} → low .found ≡ false → Axes fourAxes a → x ≡ answers (recordAt 9 ps (argsOf a)) → x ≡ judged14 (ownRule name.Axisswap ps)
-  order-default {x} {a} g m h = go (firstSeries name.Axisswap ps) refl
+  pub order-default : (mode : Mode) {x : Reply Step} {a : Args} → low .found ≡ false → Axes fourAxes a → x ≡ answers (recordAt 9 ps (argsOf a)) → x ≡ judged14 (ownRule mode name.Axisswap ps)
+  order-default mode {x} {a} g m h = go (firstSeries name.Axisswap ps) refl
     where
       answered : x ≡ judged14 (recordedAt 9 ps (some fourAxes))
       answered = unfold judged14 recordedAt in rw (m .are) at h
 
-      go : (o : Option Bytes) → firstSeries name.Axisswap ps ≡ o → x ≡ judged14 (ownRule name.Axisswap ps)
-      go none f = answered ∙ own-order (order-not f)
+      go : (o : Option Bytes) → firstSeries name.Axisswap ps ≡ o → x ≡ judged14 (ownRule mode name.Axisswap ps)
+      go none f = answered ∙ own-order mode (order-not f)
       go (some v) f = absurd (false≢true (sym g ∙ kept-found l e f))
 
 -- ---- adapt
@@ -224,52 +227,59 @@ is-some : {target : Option rules.Word} {w : Word} → IsRead target w → w .is 
 unfolding wordIs
 is-some m e = sym (m .is) ∙ rw e
 
-module _ (ps : List Parameter) {from to : Word} (f : IsRead (rules.wordGiven (valueOf (ascii "from") ps)) from) (t : IsRead (rules.wordGiven (valueOf (ascii "to") ps)) to) where
+-- the arguments that two words make are eight
+makes-eight : (mode : Mode) (from to : rules.Word) → length (combinedIn mode from to) ≡ 8
+unfolding combinedIn rules.combined combinedByAxis
+makes-eight mode-is.Crate from to = refl
+makes-eight mode-is.Documented from to = refl
+
+module _ (mode : Mode) (ps : List Parameter) {from to : Word} (f : IsRead (rules.wordGiven (valueOf (ascii "from") ps)) from)
+    (t : IsRead (rules.wordGiven (valueOf (ascii "to") ps)) to) where
   -- what the two words make
   abbrev made : Option (List ℤ)
-  made = rules.between (rules.wordGiven (valueOf (ascii "from") ps)) (rules.wordGiven (valueOf (ascii "to") ps))
+  made = rules.between (combinedIn mode) (rules.wordGiven (valueOf (ascii "from") ps)) (rules.wordGiven (valueOf (ascii "to") ps))
 
-  adapt-none : made ≡ none → {x : Reply Step} → x ≡ refuses 14 0 → x ≡ judged14 (ownRule name.Adapt ps)
+  adapt-none : made ≡ none → {x : Reply Step} → x ≡ refuses 14 0 → x ≡ judged14 (ownRule mode name.Adapt ps)
   unfolding ownRule judged14 recorded choose
   adapt-none e h = h ∙ sym (rw e)
 
-  pub adapt-from : {x : Reply Step} → from .is ≡ false → x ≡ refuses 14 0 → x ≡ judged14 (ownRule name.Adapt ps)
+  pub adapt-from : {x : Reply Step} → from .is ≡ false → x ≡ refuses 14 0 → x ≡ judged14 (ownRule mode name.Adapt ps)
   unfolding rules.between
   adapt-from e h = adapt-none (rw (is-none f e)) h
 
-  pub adapt-to : {x : Reply Step} → from .is ≡ true → to .is ≡ false → x ≡ refuses 14 0 → x ≡ judged14 (ownRule name.Adapt ps)
+  pub adapt-to : {x : Reply Step} → from .is ≡ true → to .is ≡ false → x ≡ refuses 14 0 → x ≡ judged14 (ownRule mode name.Adapt ps)
   unfolding rules.between
   adapt-to d e h = adapt-none (rw (is-some f d, is-none t e)) h
 
-  module _ (d : from .is ≡ true) (e : to .is ≡ true) {l : List ℤ} (m : l ≡ rules.combined (wordAs from) (wordAs to)) where
+  module _ (d : from .is ≡ true) (e : to .is ≡ true) {l : List ℤ} (m : l ≡ combinedIn mode (wordAs from) (wordAs to)) where
     eight : length l ≡ 8
-    unfolding rules.combined
-    eight = rw m
+    eight = rw m (makes-eight mode (wordAs from) (wordAs to))
 
     pub adapt-good : Good (record { list = l; n = 8 })
-    unfolding rules.combined
-    adapt-good = record { fits = lit≤ tt; size = eight; zeros = rw m }
+    adapt-good = let few : length l ≤ 8 = omega (arith, eight) in record { fits = lit≤ tt; size = eight; zeros = drop-of-length-le l few }
 
-    all-eight : take 8 l ≡ rules.combined (wordAs from) (wordAs to)
+    all-eight : take 8 l ≡ combinedIn mode (wordAs from) (wordAs to)
     all-eight = take-all 8 l (omega (arith, eight)) ∙ m
 
-    both : made ≡ some (rules.combined (wordAs from) (wordAs to))
+    both : made ≡ some (combinedIn mode (wordAs from) (wordAs to))
     unfolding rules.between
     both = rw (is-some f d, is-some t e)
 
-    pub adapt-so : {x : Reply Step} → x ≡ answers (recordAt 10 ps (argsOf (record { list = l; n = 8 }))) → x ≡ judged14 (ownRule name.Adapt ps)
-    unfolding ownRule numberOf judged14 recordedAt
-    adapt-so {x} h =
-        let a : x ≡ answers (recordAt 10 ps (rules.combined (wordAs from) (wordAs to))) = rw all-eight at h in
-        a ∙ ap judged14 (recorded-of Adapt ps (some (rules.combined (wordAs from) (wordAs to))) ∙ ap (λ (r : Option (List ℤ)). recorded ps (choose Adapt r)) (sym both))
+    pub adapt-so : {operator : ℕ} → operator ≡ numberOf (adaptIn mode) → {x : Reply Step} → x ≡ answers (recordAt operator ps (argsOf (record { list = l; n = 8 })))
+        → x ≡ judged14 (ownRule mode name.Adapt ps)
+    unfolding ownRule judged14 recordedAt
+    adapt-so k {x} h =
+        let l′ = combinedIn mode (wordAs from) (wordAs to) in
+        let a : x ≡ answers (recordAt (numberOf (adaptIn mode)) ps l′) = rw (all-eight, k) at h in
+        a ∙ ap judged14 (recorded-of (adaptIn mode) ps (some l′) ∙ ap (λ (r : Option (List ℤ)). recorded ps (choose (adaptIn mode) r)) (sym both))
 
 -- ---- push and pop
 
-module _ (ps : List Parameter) {x : Reply Step} {a : Args} (m : Axes (axes ps) a) where
-  pub own-push : x ≡ answers (recordAt 0 ps (argsOf a)) → x ≡ judged14 (ownRule name.Push ps)
+module _ (mode : Mode) (ps : List Parameter) {x : Reply Step} {a : Args} (m : Axes (axes ps) a) where
+  pub own-push : x ≡ answers (recordAt 0 ps (argsOf a)) → x ≡ judged14 (ownRule mode name.Push ps)
   unfolding ownRule judged14 recordedAt numberOf
   own-push h = h ∙ rw (m .are) (ap judged14 (recorded-of Push ps (some (axes ps))))
 
-  pub own-pop : x ≡ answers (recordAt 1 ps (argsOf a)) → x ≡ judged14 (ownRule name.Pop ps)
+  pub own-pop : x ≡ answers (recordAt 1 ps (argsOf a)) → x ≡ judged14 (ownRule mode name.Pop ps)
   unfolding ownRule judged14 recordedAt numberOf
   own-pop h = h ∙ rw (m .are) (ap judged14 (recorded-of Pop ps (some (axes ps))))

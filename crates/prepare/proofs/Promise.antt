@@ -1,4 +1,4 @@
--- What the contract of `prepare` says of the records lent is the promise of `rules`; those past them, and how many are lent, stay.
+-- What the contract of `prepare_as` says of the records lent is the promise of `rules`; those past them, and how many are lent, stay.
 use mathlib.Core.Path.{_≡_, refl, ap, _∙_}
 use Prim.Native.Nat.{ℕ, _≤_, _<_}
 use mathlib.Core.Bool.{Bool, true, false, cond}
@@ -11,11 +11,13 @@ use lib.Seq.{length-take-le, take-at, drop-at, take-all}
 use lib.Dec.{ltb}
 use Rattle.rules.specs.Text.Bytes.{Bytes}
 use Rattle.rules.specs.Text.Refusal.{Reply, answers, refuses, lent, outcome, tested, prepared}
-use Rattle.rules.specs.Pipeline.Prepare.{prepare, Prepares}
+use Rattle.rules.specs.Pipeline.Prepare.{prepareAs, PreparesAs}
+use Rattle.rules.specs.declared.Mode.{Mode}
 use Rattle.rules.specs.declared.Prepared.{Prepared}
+use Rattle.rules.specs.declared.Reading.{Reading}
 use Rattle.rules.specs.declared.Step.{Step}
 use Rattle.rules.specs.declared.Table.{Table}
-use Rattle.prepare.specs.Lent.{row, withRow, lentTo, preparing}
+use Rattle.prepare.specs.Lent.{row, withRow, lentTo, preparingAs}
 
 -- a reply brought into a row keeps its length
 lent-length : (reply : Reply (List Step)) (l : List Step) → length (lent prepared reply l .1) ≡ length l
@@ -52,17 +54,17 @@ module _ (l new : List Step) (n : ℕ) (e : length new ≡ length (take n l)) wh
           let j : length new ≤ n = omega arith in
           rw (drop-of-length-le l k, append-nil new) (drop-of-length-le new j)
 
--- what a caller learns of `r ≡ preparing text t`
-pub record Keeps (text : Bytes) (t : Table) (answer : Prepared) (t′ : Table) : Type 0 where
-  pub promised : Prepares text (row t) answer (row t′)
+-- what a caller learns of `x ≡ preparingAs r mode text t`
+pub record Keeps (r : Reading) (mode : Mode) (text : Bytes) (t : Table) (answer : Prepared) (t′ : Table) : Type 0 where
+  pub promised : PreparesAs r mode text (row t) answer (row t′)
   pub past : drop (t .n) (t′ .steps) ≡ drop (t .n) (t .steps)
   pub many : t′ .n ≡ t .n
 
-pub preparing-keeps : (text : Bytes) (t : Table) → Keeps text t (preparing text t .answer) (preparing text t .table)
-unfolding preparing lentTo withRow outcome
-preparing-keeps text t =
-    let x = lent prepared (tested prepare text) (row t) in
-    let e : length (x .1) ≡ length (row t) = lent-length (tested prepare text) (row t) in
+pub preparing-keeps : (r : Reading) (mode : Mode) (text : Bytes) (t : Table) → Keeps r mode text t (preparingAs r mode text t .answer) (preparingAs r mode text t .table)
+unfolding preparingAs lentTo withRow outcome
+preparing-keeps r mode text t =
+    let x = lent prepared (tested (prepareAs r mode) text) (row t) in
+    let e : length (x .1) ≡ length (row t) = lent-length (tested (prepareAs r mode) text) (row t) in
     record {
       promised = record { exactly = rw (row-is (t .steps) (x .1) (t .n) e) };
       past = past-is (t .steps) (x .1) (t .n) e;

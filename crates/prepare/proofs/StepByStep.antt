@@ -18,6 +18,7 @@ use Rattle.rules.specs.Text.Reader.{next, part}
 use Rattle.rules.specs.Pipeline.Prepare.{atStep, prepareStep, prepareSteps}
 use Rattle.rules.specs.declared.Cursor.{Cursor}
 use Rattle.rules.specs.declared.Found.the-variants as found
+use Rattle.rules.specs.declared.Mode.{Mode}
 use Rattle.rules.specs.declared.Step.{Step}
 use Rattle.rules.specs.declared.Table.{Table}
 use Rattle.laws_text.specs.Sizes.{weight}
@@ -64,9 +65,9 @@ answer-is : (r : Judged) → r .number ≡ 0 → replyIs r ≡ answers (r .step)
 unfolding replyIs
 answer-is r e = rw (eq-eqb (r .number) 0 e)
 
-step-at : (place : ℕ) (t : Bytes) → prepareStep place t ≡ atStep place (stepReply t)
+step-at : (mode : Mode) (place : ℕ) (t : Bytes) → prepareStep mode place t ≡ atStep place (stepReply mode t)
 unfolding prepareStep stepReply
-step-at place t = refl
+step-at mode place t = refl
 
 -- ---- records in front of others
 
@@ -87,15 +88,15 @@ prefixed-more done s (refuses number place) = refl
 -- ---- the invariant
 
 -- the n steps before `at` have their records in front of the table's
-pub record Made (normalised : Bytes) (t : Table) (records : List Step) (at n : ℕ) : Type 0 where
+pub record Made (mode : Mode) (normalised : Bytes) (t : Table) (records : List Step) (at n : ℕ) : Type 0 where
   pub done : List Step
   pub count : length done ≡ n
   pub stored : records ≡ done ++ drop n (t .steps)
-  pub same : stepsReply normalised ≡ prefixed done (prepareSteps (suc n) (map stepText (stepsOf (drop at normalised))))
+  pub same : stepsReply mode normalised ≡ prefixed done (prepareSteps mode (suc n) (map stepText (stepsOf (drop at normalised))))
 
 -- Of a normalised text, n steps stand before `at`. As long as none of them is refused and they are not too many, their records are made; once one is
 -- refused, that is the reply. The buffers are as long as ever.
-pub record Reaches (normalised : Bytes) (t : Table) (a₀ b₀ c₀ a b c : Bytes) (records : List Step) (at n number place : ℕ) : Type 0 where
+pub record Reaches (mode : Mode) (normalised : Bytes) (t : Table) (a₀ b₀ c₀ a b c : Bytes) (records : List Step) (at n number place : ℕ) : Type 0 where
   pub bare : Bare normalised
   pub full : length (t .steps) ≡ 64
   pub roomy : Roomy (length normalised) (length a₀) (length b₀)
@@ -104,12 +105,12 @@ pub record Reaches (normalised : Bytes) (t : Table) (a₀ b₀ c₀ a b c : Byte
   pub room-b : length b ≡ length b₀
   pub room-c : length c ≡ length c₀
   pub walked : Passed normalised at n
-  pub made : number ≡ 0 → n ≤ 64 → Made normalised t records at n
-  pub refused : (number ≡ 0 → ⊥) → stepsReply normalised ≡ refuses number place
+  pub made : number ≡ 0 → n ≤ 64 → Made mode normalised t records at n
+  pub refused : (number ≡ 0 → ⊥) → stepsReply mode normalised ≡ refuses number place
 
-pub reaches-none : (normalised : Bytes) (t : Table) (a b c : Bytes) → Bare normalised → length (t .steps) ≡ 64 → Roomy (length normalised) (length a) (length b)
-    → length normalised < length c → Reaches normalised t a b c a b c (t .steps) 0 0 0 0
-reaches-none normalised t a b c h f r k = record {
+pub reaches-none : (mode : Mode) (normalised : Bytes) (t : Table) (a b c : Bytes) → Bare normalised → length (t .steps) ≡ 64 → Roomy (length normalised) (length a) (length b)
+    → length normalised < length c → Reaches mode normalised t a b c a b c (t .steps) 0 0 0 0
+reaches-none mode normalised t a b c h f r k = record {
   bare = h;
   full = f;
   roomy = r;
@@ -118,31 +119,31 @@ reaches-none normalised t a b c h f r k = record {
   room-b = refl;
   room-c = refl;
   walked = passed-none normalised;
-  made = λ z few. record { done = []; count = refl; stored = refl; same = unfold stepsReply in prefixed-none (prepareSteps 1 (map stepText (stepsOf normalised))) };
+  made = λ z few. record { done = []; count = refl; stored = refl; same = unfold stepsReply in prefixed-none (prepareSteps mode 1 (map stepText (stepsOf normalised))) };
   refused = λ n. absurd (n refl);
 }
 
-module _ {normalised : Bytes} {t : Table} {a₀ b₀ c₀ a b c : Bytes} {records : List Step} {at n number place : ℕ}
-    (m : Reaches normalised t a₀ b₀ c₀ a b c records at n number place) where
+module _ {mode : Mode} {normalised : Bytes} {t : Table} {a₀ b₀ c₀ a b c : Bytes} {records : List Step} {at n number place : ℕ}
+    (m : Reaches mode normalised t a₀ b₀ c₀ a b c records at n number place) where
   -- ---- the end
 
   module _ (f : next normalised at ≡ found.End) where
-    too-many : 64 < n → normalReply normalised ≡ refuses 8 0
+    too-many : 64 < n → normalReply mode normalised ≡ refuses 8 0
     unfolding normalReply andThen
     too-many h = rw (passed-many (m .walked) f h)
 
-    by-steps : n ≤ 64 → normalReply normalised ≡ stepsReply normalised
+    by-steps : n ≤ 64 → normalReply mode normalised ≡ stepsReply mode normalised
     unfolding normalReply stepsReply andThen
     by-steps h = rw (passed-well (m .walked) f h)
 
-    all-made : (k : Made normalised t records at n) → stepsReply normalised ≡ answers (k .done)
+    all-made : (k : Made mode normalised t records at n) → stepsReply mode normalised ≡ answers (k .done)
     unfolding prepareSteps prefixed
     all-made k = k .same ∙ rw (walk-end normalised at f) (ap answers (append-nil (k .done)))
 
-    pub reaches-end : {r : Preparing} → r ≡ answered t records n number place → r ≡ lentTo (normalReply normalised) t
+    pub reaches-end : {r : Preparing} → r ≡ answered t records n number place → r ≡ lentTo (normalReply mode normalised) t
     reaches-end e = e ∙ go (ltb 64 n) refl (eqb number 0) refl
       where
-        go : (many : Bool) → ltb 64 n ≡ many → (none : Bool) → eqb number 0 ≡ none → answered t records n number place ≡ lentTo (normalReply normalised) t
+        go : (many : Bool) → ltb 64 n ≡ many → (none : Bool) → eqb number 0 ≡ none → answered t records n number place ≡ lentTo (normalReply mode normalised) t
         go true h none z = answered-many t records n number place (ltb-true 64 n h) ∙ lent-refused t (too-many (ltb-true 64 n h))
         go false h false z =
             let few = ltb-false 64 n h in
@@ -166,7 +167,7 @@ module _ {normalised : Bytes} {t : Table} {a₀ b₀ c₀ a b c : Bytes} {record
 
     module _ (r : Line) (c′ : Bytes) (w : IsLine here c 0 r c′) where
       -- it is modifiers alone
-      pub reaches-only : {p : Preparing} → r ≡ line-is.Modifiers → p ≡ refusing 6 (n + 1) t → p ≡ lentTo (normalReply normalised) t
+      pub reaches-only : {p : Preparing} → r ≡ line-is.Modifiers → p ≡ refusing 6 (n + 1) t → p ≡ lentTo (normalReply mode normalised) t
       unfolding normalReply andThen
       reaches-only e h = h ∙ lent-refused t (rw (passed-only (m .walked) f (rw e at w)))
 
@@ -180,7 +181,7 @@ module _ {normalised : Bytes} {t : Table} {a₀ b₀ c₀ a b c : Bytes} {record
 
       -- an earlier step is refused, or there are too many: it is passed over
       module _ (kc : length c′ ≡ length c) where
-        pub reaches-refused : (number ≡ 0 → ⊥) → Reaches normalised t a₀ b₀ c₀ a b c′ records (then .at) (n + 1) number place
+        pub reaches-refused : (number ≡ 0 → ⊥) → Reaches mode normalised t a₀ b₀ c₀ a b c′ records (then .at) (n + 1) number place
         reaches-refused z = record {
           bare = m .bare;
           full = m .full;
@@ -194,7 +195,7 @@ module _ {normalised : Bytes} {t : Table} {a₀ b₀ c₀ a b c : Bytes} {record
           refused = m .refused;
         }
 
-        pub reaches-many : 64 < n + 1 → Reaches normalised t a₀ b₀ c₀ a b c′ records (then .at) (n + 1) number place
+        pub reaches-many : 64 < n + 1 → Reaches mode normalised t a₀ b₀ c₀ a b c′ records (then .at) (n + 1) number place
         reaches-many h = record {
           bare = m .bare;
           full = m .full;
@@ -219,21 +220,21 @@ module _ {normalised : Bytes} {t : Table} {a₀ b₀ c₀ a b c : Bytes} {record
           text-length : length (stepText here) ≤ length normalised
           text-length = unfold line ascii in omega (arith, line-length normalised at from to then f, length-append (stepText here) (10 ∷ []))
 
-      module _ (z : number ≡ 0) (few : n + 1 ≤ 64) (j : Judged) (g : replyIs j ≡ stepReply (take (end - 1) c′)) where
-        abbrev so-far : Made normalised t records at n
+      module _ (z : number ≡ 0) (few : n + 1 ≤ 64) (j : Judged) (g : replyIs j ≡ stepReply mode (take (end - 1) c′)) where
+        abbrev so-far : Made mode normalised t records at n
         so-far = m .made z (omega arith)
 
         abbrev rest : Reply (List Step)
-        rest = prepareSteps (suc (suc n)) (map stepText (stepsOf (drop (then .at) normalised)))
+        rest = prepareSteps mode (suc (suc n)) (map stepText (stepsOf (drop (then .at) normalised)))
 
-        judged-is : replyIs j ≡ stepReply (stepText here)
-        judged-is = g ∙ ap stepReply (line-front (stepText here) (l .wrote))
+        judged-is : replyIs j ≡ stepReply mode (stepText here)
+        judged-is = g ∙ ap (stepReply mode) (line-front (stepText here) (l .wrote))
 
-        next-reply : stepsReply normalised ≡ prefixed (so-far .done) (andThen (atStep (suc n) (replyIs j)) (λ s. andThen rest (λ l. answers (s ∷ l))))
+        next-reply : stepsReply mode normalised ≡ prefixed (so-far .done) (andThen (atStep (suc n) (replyIs j)) (λ s. andThen rest (λ l. answers (s ∷ l))))
         unfolding prepareSteps
-        next-reply = so-far .same ∙ rw (walk-step normalised at from to then f, step-at (suc n) (stepText here), ← judged-is)
+        next-reply = so-far .same ∙ rw (walk-step normalised at from to then f, step-at mode (suc n) (stepText here), ← judged-is)
 
-        now-refused : (j .number ≡ 0 → ⊥) → stepsReply normalised ≡ refuses (j .number) (n + 1)
+        now-refused : (j .number ≡ 0 → ⊥) → stepsReply mode normalised ≡ refuses (j .number) (n + 1)
         now-refused h = next-reply ∙ rw (refusal-is j h) (unfold atStep andThen prefixed in ap (λ (k : ℕ). refuses (j .number) k) (sym (add-one n)))
 
         more-reply : prefixed (so-far .done) (andThen (atStep (suc n) (answers (j .step))) (λ s. andThen rest (λ l. answers (s ∷ l))))
@@ -241,7 +242,7 @@ module _ {normalised : Bytes} {t : Table} {a₀ b₀ c₀ a b c : Bytes} {record
         unfolding atStep andThen
         more-reply = prefixed-more (so-far .done) (j .step) rest
 
-        now-made : j .number ≡ 0 → Made normalised t (set records n (j .step)) (then .at) (n + 1)
+        now-made : j .number ≡ 0 → Made mode normalised t (set records n (j .step)) (then .at) (n + 1)
         now-made h =
             let x = m .full in
             let y = so-far .count in
@@ -257,7 +258,7 @@ module _ {normalised : Bytes} {t : Table} {a₀ b₀ c₀ a b c : Bytes} {record
             }
 
         pub reaches-more : {a′ b′ : Bytes} → length a′ ≡ length a → length b′ ≡ length b → length c′ ≡ length c
-            → Reaches normalised t a₀ b₀ c₀ a′ b′ c′ (set records n (j .step)) (then .at) (n + 1) (j .number) (n + 1)
+            → Reaches mode normalised t a₀ b₀ c₀ a′ b′ c′ (set records n (j .step)) (then .at) (n + 1) (j .number) (n + 1)
         reaches-more ka kb kc = record {
           bare = m .bare;
           full = m .full;

@@ -18,6 +18,7 @@ use Rattle.rules.specs.Text.Parameters.{name, elements, enteredAll, tableOf, st
 use Rattle.rules.specs.Operators.Table.{wordingOf, names, nameIn, nameOf}
 use Rattle.rules.specs.Operators.Arguments.{valueOf}
 use Rattle.rules.specs.Pipeline.Prepare.{named, judged10, judged}
+use Rattle.rules.specs.declared.Mode.{Mode}
 use Rattle.rules.specs.declared.Name.{Name}
 use Rattle.rules.specs.declared.Named.the-variants.{Not}
 use Rattle.rules.specs.declared.Step.{Step}
@@ -59,37 +60,37 @@ no-name : (u : Bytes) → anyOf (is "|") u ≡ true → nameOf u ≡ Not
 unfolding nameOf
 no-name u e = no-name-in u e names (unfold anyOf separated names ascii in refl)
 
-unnamed : (u : Bytes) → nameOf u ≡ Not → judged (name u ∷ []) ≡ refuses 10 0
+unnamed : (mode : Mode) (u : Bytes) → nameOf u ≡ Not → judged mode (name u ∷ []) ≡ refuses 10 0
 unfolding judged judged10 named valueOf name same ascii
-unnamed u e = rw e
+unnamed mode u e = rw e
 
-nothing-named : judged [] ≡ refuses 10 0
+nothing-named : (mode : Mode) → judged mode [] ≡ refuses 10 0
 unfolding judged judged10 named valueOf
-nothing-named = refl
+nothing-named mode = refl
 
 -- ---- a normalised text, the first n bytes of s
 
-module _ {s : Bytes} {n : ℕ} (z : Spelt s n) {e : ℕ} (r : Run (other (is "|")) (take n s) 0 e) where
+module _ (mode : Mode) {s : Bytes} {n : ℕ} (z : Spelt s n) {e : ℕ} (r : Run (other (is "|")) (take n s) 0 e) where
   size : length (take n s) ≡ n
   size = length-take-le n s (spelt-fits z)
 
-  pub text-parted : {x : Reply Step} → e < n → x ≡ refuses 10 0 → x ≡ andThen (textTable (take n s)) judged
+  pub text-parted : {x : Reply Step} → e < n → x ≡ refuses 10 0 → x ≡ andThen (textTable (take n s)) (judged mode)
   unfolding textTable andThen
   text-parted h f =
       let a : anyOf (is "|") (take n s) ≡ true = run-any (is "|") r (omega (arith, size)) in
-      f ∙ sym (rw a (unnamed (take n s) (no-name (take n s) a)))
+      f ∙ sym (rw a (unnamed mode (take n s) (no-name (take n s) a)))
 
   module _ (h : n ≤ e) where
     one-step : textTable (take n s) ≡ stepTable (words (take n s))
     unfolding textTable
     one-step = let a : anyOf (is "|") (take n s) ≡ false = run-none (is "|") r (omega (arith, size)) in rw a
 
-    pub text-blank : {x : Reply Step} → allOf white (take n s) ≡ true → x ≡ refuses 10 0 → x ≡ andThen (textTable (take n s)) judged
+    pub text-blank : {x : Reply Step} → allOf white (take n s) ≡ true → x ≡ refuses 10 0 → x ≡ andThen (textTable (take n s)) (judged mode)
     unfolding andThen stepTable tableOf turned following leading elements enteredAll onlyModifiers nonEmpty
-    text-blank w f = f ∙ sym (rw (one-step, words-none (take n s) w) nothing-named)
+    text-blank w f = f ∙ sym (rw (one-step, words-none (take n s) w) (nothing-named mode))
 
     module _ (w : allOf white (take n s) ≡ false) where
-      pub text-modifiers : {x : Reply Step} → allOf modifier (words (take n s)) ≡ true → x ≡ refuses 6 0 → x ≡ andThen (textTable (take n s)) judged
+      pub text-modifiers : {x : Reply Step} → allOf modifier (words (take n s)) ≡ true → x ≡ refuses 6 0 → x ≡ andThen (textTable (take n s)) (judged mode)
       unfolding andThen stepTable onlyModifiers
       text-modifiers m f = f ∙ sym (rw (one-step, words-blank (take n s), w, m))
 
@@ -98,11 +99,11 @@ module _ {s : Bytes} {n : ℕ} (z : Spelt s n) {e : ℕ} (r : Run (other (is "|"
         unfolding onlyModifiers
         other-step = rw m (and-false (nonEmpty (words (take n s))))
 
-        pub text-full : {x : Reply Step} → 32 < length (tableOf (words (take n s))) → x ≡ refuses 9 0 → x ≡ andThen (textTable (take n s)) judged
+        pub text-full : {x : Reply Step} → 32 < length (tableOf (words (take n s))) → x ≡ refuses 9 0 → x ≡ andThen (textTable (take n s)) (judged mode)
         unfolding andThen stepTable
         text-full h f = f ∙ sym (rw (one-step, other-step, lt-ltb 32 (length (tableOf (words (take n s)))) h))
 
-        pub text-table : {t : Entered} {x : Reply Step} → Tabled s (words (take n s)) t → t .full ≡ false → x ≡ judged (listed s (t .table)) → x ≡ andThen (textTable (take n s)) judged
+        pub text-table : {t : Entered} {x : Reply Step} → Tabled s (words (take n s)) t → t .full ≡ false → x ≡ judged mode (listed s (t .table)) → x ≡ andThen (textTable (take n s)) (judged mode)
         unfolding andThen stepTable
         text-table {t} k g f =
             let l : length (tableOf (words (take n s))) ≤ 32 = rw (← k .table g) (omega (arith, length-map (held (t .table)) (partOf s), held-length (k .good g), k .good g .fits)) in
@@ -121,24 +122,24 @@ module _ (t : Bytes) {n : ℕ} {a₁ : Bytes} (w : Holds (normal t) n a₁) wher
   pub words-room : {x y : ℕ} → weight t + 9 ≤ x → y ≡ x → n + 9 ≤ y
   words-room h e = omega (arith, w .count, normal-fits t)
 
-  pub text-so : {m : ℕ} {a₂ : Bytes} {x : Reply Step} → Wrote (take n a₁ ++ spelled) a₁ m a₂ → x ≡ andThen (textTable (take n (take m a₂))) judged
-      → x ≡ andThen (parametersOf t) judged
+  pub text-so : (mode : Mode) {m : ℕ} {a₂ : Bytes} {x : Reply Step} → Wrote (take n a₁ ++ spelled) a₁ m a₂
+      → x ≡ andThen (textTable (take n (take m a₂))) (judged mode) → x ≡ andThen (parametersOf t) (judged mode)
   unfolding parametersOf
-  text-so {m} {a₂} v f =
+  text-so mode {m} {a₂} v f =
       let whole : take m a₂ ≡ normal t ++ spelled = wrote-front v ∙ ap (λ (u : Bytes). u ++ spelled) (wrote-front w) in
       let g : take n (take m a₂) ≡ normal t = ap (take n) whole ∙ take-at (normal t) spelled n (sym (w .count)) in
-      f ∙ ap (λ (u : Bytes). andThen (textTable u) judged) g
+      f ∙ ap (λ (u : Bytes). andThen (textTable u) (judged mode)) g
 
 -- ---- a step's text of any length
 
 module _ (t : Bytes) where
-  pub step-long : {x : Reply Step} → 4096 < length t → x ≡ refuses 1 0 → x ≡ stepReply t
+  pub step-long : (mode : Mode) {x : Reply Step} → 4096 < length t → x ≡ refuses 1 0 → x ≡ stepReply mode t
   unfolding stepReply
-  step-long h f = f ∙ sym (rw (lt-ltb 4096 (length t) h))
+  step-long mode h f = f ∙ sym (rw (lt-ltb 4096 (length t) h))
 
-  pub step-so : {x : Reply Step} → length t ≤ 4096 → x ≡ andThen (parametersOf t) judged → x ≡ stepReply t
+  pub step-so : (mode : Mode) {x : Reply Step} → length t ≤ 4096 → x ≡ andThen (parametersOf t) (judged mode) → x ≡ stepReply mode t
   unfolding stepReply
-  step-so h f = f ∙ sym (rw (le-ltb 4096 (length t) h))
+  step-so mode h f = f ∙ sym (rw (le-ltb 4096 (length t) h))
 
   -- its weight is its length, so its normal form has room
   pub step-room : {a b : ℕ} → weight t ≤ length t → length t ≤ 4096 → Roomy (length t) a b → (weight t + 9 ≤ a) × (weight t ≤ b)

@@ -12,7 +12,8 @@ use Rattle.rules.specs.Text.Refusal.{refuses, tested}
 use Rattle.rules.specs.Text.Normal.{normal}
 use Rattle.rules.specs.Text.Comments.{stripped}
 use Rattle.rules.specs.Text.Split.{steps}
-use Rattle.rules.specs.Pipeline.Prepare.{prepare}
+use Rattle.rules.specs.Pipeline.Prepare.{prepareIn}
+use Rattle.rules.specs.declared.Mode.{Mode}
 use Rattle.rules.specs.declared.Table.{Table}
 use Rattle.laws_text.specs.Entry.{RefusedFirst, firstRefusal}
 use Rattle.laws_text.specs.Sizes.{steps-length}
@@ -24,24 +25,24 @@ use Rattle.prepare.specs.declared.Preparing.{Preparing}
 use Rattle.prepare.proofs.LentTable.{lent-refused}
 use Rattle.prepare.proofs.StepWeight.{normal-bare, roomy-for}
 
-is-prepare : (t : Bytes) → prepare t ≡ normalReply (normal (stripped t))
-unfolding prepare steps normalReply
-is-prepare t = refl
+is-prepare : (mode : Mode) (t : Bytes) → prepareIn mode t ≡ normalReply mode (normal (stripped t))
+unfolding prepareIn steps normalReply
+is-prepare mode t = refl
 
 module _ (text : Bytes) (t : Table) where
   -- 1 and 2
-  first-is : {number : ℕ} → RefusedFirst text number → (number ≡ 0 → ⊥) → tested prepare text ≡ refuses number 0
+  first-is : (mode : Mode) {number : ℕ} → RefusedFirst text number → (number ≡ 0 → ⊥) → tested (prepareIn mode) text ≡ refuses number 0
   unfolding tested firstRefusal
-  first-is {number} f n = go (ltb 4096 (length text)) (inDomain text) (f .exactly)
+  first-is mode {number} f n = go (ltb 4096 (length text)) (inDomain text) (f .exactly)
     where
-      go : (long fine : Bool) → number ≡ cond long 1 (cond (not fine) 2 0) → cond long (refuses 1 0) (cond (not fine) (refuses 2 0) (prepare text)) ≡ refuses number 0
+      go : (long fine : Bool) → number ≡ cond long 1 (cond (not fine) 2 0) → cond long (refuses 1 0) (cond (not fine) (refuses 2 0) (prepareIn mode text)) ≡ refuses number 0
       go true fine e = rw e
       go false true e = absurd (n e)
       go false false e = rw e
 
-  pub prepare-first : {number : ℕ} {r : Preparing} → RefusedFirst text number → (number ≡ 0 → ⊥) → r ≡ refusing number 0 t → r ≡ preparing text t
+  pub prepare-first : (mode : Mode) {number : ℕ} {r : Preparing} → RefusedFirst text number → (number ≡ 0 → ⊥) → r ≡ refusing number 0 t → r ≡ preparing mode text t
   unfolding preparing
-  prepare-first f n h = h ∙ lent-refused t (first-is f n)
+  prepare-first mode f n h = h ∙ lent-refused t (first-is mode f n)
 
   module _ {n : ℕ} {a : Bytes} (w : Holds (normal (stripped text)) n a) where
     pub normal-there : Bare (take n a)
@@ -57,9 +58,10 @@ module _ (text : Bytes) (t : Table) where
     normal-roomy {x} {y} h l e =
         roomy-for (length (take n a)) normal-short refl e (record { first = h; second = omega (arith, l, min-le-left (10 * length text) 4096) })
 
-    pub prepare-so : {r : Preparing} → length text ≤ 4096 → inDomain text ≡ true → r ≡ lentTo (normalReply (take n a)) t → r ≡ preparing text t
+    pub prepare-so : (mode : Mode) {r : Preparing} → length text ≤ 4096 → inDomain text ≡ true → r ≡ lentTo (normalReply mode (take n a)) t
+        → r ≡ preparing mode text t
     unfolding preparing tested
-    prepare-so h d f = f ∙ rw (wrote-front w) (sym (rw (le-ltb 4096 (length text) h, d, is-prepare text)))
+    prepare-so mode h d f = f ∙ rw (wrote-front w) (sym (rw (le-ltb 4096 (length text) h, d, is-prepare mode text)))
 
 -- nine bytes more than a tenfold text, or than 4,096
 pub nine-more : (t : Bytes) {x y : ℕ} → min (10 * length t) 4096 + 9 ≤ x → x ≡ y → min (10 * length t) 4096 + 9 ≤ y

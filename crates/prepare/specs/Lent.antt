@@ -1,4 +1,4 @@
--- The lent step table, before and after; and preparing a text and a normalised text.
+-- The lent step table, before and after; and preparing a text and a normalised text in a mode.
 use Prim.Native.Nat.{ℕ}
 use mathlib.Core.Bool.{cond, not}
 use mathlib.Core.List.{List, _++_, map}
@@ -8,7 +8,8 @@ use Rattle.rules.specs.Text.Bytes.{Bytes}
 use Rattle.rules.specs.Text.Refusal.{Reply, andThen, tested, lent, prepared}
 use Rattle.rules.specs.Text.Split.{stepsOf, splitSteps, stepText}
 use Rattle.rules.specs.Pipeline.Record.{inReading}
-use Rattle.rules.specs.Pipeline.Prepare.{prepareSteps, prepare, prepareAs}
+use Rattle.rules.specs.Pipeline.Prepare.{prepareSteps, prepareIn, prepareAs}
+use Rattle.rules.specs.declared.Mode.{Mode}
 use Rattle.rules.specs.declared.Prepared.{Prepared}
 use Rattle.rules.specs.declared.Prepared.the-variants as prepared-is
 use Rattle.rules.specs.declared.Reading.{Reading}
@@ -30,13 +31,13 @@ withRow t x = record { answer = x .0; table = record { steps = x .1 ++ drop (t .
 unfoldable pub lentTo : Reply (List Step) → Table → Preparing
 lentTo reply t = withRow t (lent prepared reply (row t))
 
--- The call `prepare`, by the promise of `rules` on the records lent.
-unfoldable pub preparing : Bytes → Table → Preparing
-preparing text t = lentTo (tested prepare text) t
+-- Preparing in a mode and in the crate's reading, by the promise of `rules` on the records lent.
+unfoldable pub preparing : Mode → Bytes → Table → Preparing
+preparing mode text t = lentTo (tested (prepareIn mode) text) t
 
 -- The call `prepare_as`, alike.
-unfoldable pub preparingAs : Reading → Bytes → Table → Preparing
-preparingAs r text t = lentTo (tested (prepareAs r) text) t
+unfoldable pub preparingAs : Reading → Mode → Bytes → Table → Preparing
+preparingAs r mode text t = lentTo (tested (prepareAs r mode) text) t
 
 -- ---- in a reading
 
@@ -52,11 +53,11 @@ answerNamed r (prepared-is.Refused number place) t = record { answer = prepared-
 -- ---- a normalised text
 
 -- of the texts of its steps, and of the whole, which is split first
-unfoldable pub stepsReply : Bytes → Reply (List Step)
-stepsReply normalised = prepareSteps 1 (map stepText (stepsOf normalised))
+unfoldable pub stepsReply : Mode → Bytes → Reply (List Step)
+stepsReply mode normalised = prepareSteps mode 1 (map stepText (stepsOf normalised))
 
-unfoldable pub normalReply : Bytes → Reply (List Step)
-normalReply normalised = andThen (splitSteps (stepsOf normalised)) (prepareSteps 1)
+unfoldable pub normalReply : Mode → Bytes → Reply (List Step)
+normalReply mode normalised = andThen (splitSteps (stepsOf normalised)) (prepareSteps mode 1)
 
 -- ---- as the code has them
 

@@ -10,6 +10,7 @@ use Rattle.rules.specs.Text.Bytes.{Bytes}
 use Rattle.rules.specs.Text.Refusal.{Reply, refuses, andThen}
 use Rattle.rules.specs.Text.Parameters.{parametersOf}
 use Rattle.rules.specs.Pipeline.Prepare.{judged}
+use Rattle.rules.specs.declared.Mode.{Mode}
 use Rattle.rules.specs.declared.Step.{Step}
 
 -- a text without the separators that normalising takes away
@@ -23,6 +24,6 @@ pub record Roomy (n a b : ℕ) : Type 0 where
   pub first : min n 4096 + 9 ≤ a
   pub second : min n 4096 ≤ b
 
--- 1, then what its parameters give
-unfoldable pub stepReply : Bytes → Reply Step
-stepReply t = cond (ltb 4096 (length t)) (refuses 1 0) (andThen (parametersOf t) judged)
+-- 1, then what its parameters give in a mode
+unfoldable pub stepReply : Mode → Bytes → Reply Step
+stepReply mode t = cond (ltb 4096 (length t)) (refuses 1 0) (andThen (parametersOf t) (judged mode))

@@ -12,6 +12,7 @@ use normalise::clean_into;
 use reader::next_from;
 use record::in_reading;
 use rules::Found;
+use rules::Mode;
 use rules::Prepared;
 use rules::Reading;
 use rules::Step;
@@ -78,12 +79,19 @@ fn answer_of(table: Table, steps: [Step; 64], n: usize, number: u8, place: usize
 
 // Prepares all steps of a normalised text in one walk over it. "Preparing splits first": a step that is modifiers alone is refused 6 at once. The
 // first refusal of a step is kept until the end is reached, since 6 and 8 come before it. a, b and c are room to work in.
-fn prepare_steps(normal: &[u8], table: Table, a: &mut [u8], b: &mut [u8], c: &mut [u8]) -> Preparing
+fn prepare_steps(
+    normal: &[u8],
+    mode: Mode,
+    table: Table,
+    a: &mut [u8],
+    b: &mut [u8],
+    c: &mut [u8],
+) -> Preparing
     requires { ⌜ Bare (now normal) ⌝ }
     requires { ⌜ length (table .steps) ≡ 64 ⌝ }
     requires { ⌜ Roomy (length (now normal)) (length (now a)) (length (now b)) ⌝ }
     requires { ⌜ length (now normal) < length (now c) ⌝ }
-    ensures { λ r. ⌜ r ≡ lentTo (normalReply (now (normal .entry))) table ⌝ }
+    ensures { λ r. ⌜ r ≡ lentTo (normalReply mode (now (normal .entry))) table ⌝ }
 {
     let mut steps = table.steps;
     let mut at = 0;
@@ -108,7 +116,7 @@ fn prepare_steps(normal: &[u8], table: Table, a: &mut [u8], b: &mut [u8], c: &mu
         if 64 < n {
             continue;
         }
-        let judged = prepare_step(&c[..end - 1], a, b);
+        let judged = prepare_step(&c[..end - 1], mode, a, b);
         let step = judged.step;
         steps[i] = step;
         number = judged.number;
@@ -120,6 +128,7 @@ fn prepare_steps(normal: &[u8], table: Table, a: &mut [u8], b: &mut [u8], c: &mu
 // The answer for a text that is neither too long nor outside the domain; a, b, c and d are room to work in.
 fn answer(
     text: &[u8],
+    mode: Mode,
     table: Table,
     a: &mut [u8],
     b: &mut [u8],
@@ -133,84 +142,84 @@ fn answer(
     requires { ⌜ 10 * length (now text) ≤ length (now b) ⌝ }
     requires { ⌜ 10 * length (now text) < length (now c) ⌝ }
     requires { ⌜ min (10 * length (now text)) 4096 + 9 ≤ length (now d) ⌝ }
-    ensures { λ r. ⌜ r ≡ preparing (now (text .entry)) table ⌝ }
+    ensures { λ r. ⌜ r ≡ preparing mode (now (text .entry)) table ⌝ }
 {
     let n = clean_into(text, a, b, c);
-    prepare_steps(&a[..n], table, d, b, c)
+    prepare_steps(&a[..n], mode, table, d, b, c)
 }
 
 // The same over buffers of its own, for a text of a few steps, for a short one, for a longer one and for any.
-fn brief(text: &[u8], table: Table) -> Preparing
+fn brief(text: &[u8], mode: Mode, table: Table) -> Preparing
     requires { ⌜ length (now text) ≤ 102 ⌝ }
     requires { ⌜ inDomain (now text) ≡ true ⌝ }
     requires { ⌜ length (table .steps) ≡ 64 ⌝ }
-    ensures { λ r. ⌜ r ≡ preparing (now (text .entry)) table ⌝ }
+    ensures { λ r. ⌜ r ≡ preparing mode (now (text .entry)) table ⌝ }
 {
     let mut a = [0u8; 1024];
     let mut b = [0u8; 1024];
     let mut c = [0u8; 1024];
     let mut d = [0u8; 1033];
-    answer(text, table, &mut a, &mut b, &mut c, &mut d)
+    answer(text, mode, table, &mut a, &mut b, &mut c, &mut d)
 }
 
-fn short(text: &[u8], table: Table) -> Preparing
+fn short(text: &[u8], mode: Mode, table: Table) -> Preparing
     requires { ⌜ length (now text) ≤ 409 ⌝ }
     requires { ⌜ inDomain (now text) ≡ true ⌝ }
     requires { ⌜ length (table .steps) ≡ 64 ⌝ }
-    ensures { λ r. ⌜ r ≡ preparing (now (text .entry)) table ⌝ }
+    ensures { λ r. ⌜ r ≡ preparing mode (now (text .entry)) table ⌝ }
 {
     let mut a = [0u8; 4096];
     let mut b = [0u8; 4096];
     let mut c = [0u8; 4096];
     let mut d = [0u8; 4105];
-    answer(text, table, &mut a, &mut b, &mut c, &mut d)
+    answer(text, mode, table, &mut a, &mut b, &mut c, &mut d)
 }
 
-fn longer(text: &[u8], table: Table) -> Preparing
+fn longer(text: &[u8], mode: Mode, table: Table) -> Preparing
     requires { ⌜ length (now text) ≤ 1638 ⌝ }
     requires { ⌜ inDomain (now text) ≡ true ⌝ }
     requires { ⌜ length (table .steps) ≡ 64 ⌝ }
-    ensures { λ r. ⌜ r ≡ preparing (now (text .entry)) table ⌝ }
+    ensures { λ r. ⌜ r ≡ preparing mode (now (text .entry)) table ⌝ }
 {
     let mut a = [0u8; 16384];
     let mut b = [0u8; 16384];
     let mut c = [0u8; 16384];
     let mut d = [0u8; 4105];
-    answer(text, table, &mut a, &mut b, &mut c, &mut d)
+    answer(text, mode, table, &mut a, &mut b, &mut c, &mut d)
 }
 
-fn long(text: &[u8], table: Table) -> Preparing
+fn long(text: &[u8], mode: Mode, table: Table) -> Preparing
     requires { ⌜ length (now text) ≤ 4096 ⌝ }
     requires { ⌜ inDomain (now text) ≡ true ⌝ }
     requires { ⌜ length (table .steps) ≡ 64 ⌝ }
-    ensures { λ r. ⌜ r ≡ preparing (now (text .entry)) table ⌝ }
+    ensures { λ r. ⌜ r ≡ preparing mode (now (text .entry)) table ⌝ }
 {
     let mut a = [0u8; 40960];
     let mut b = [0u8; 40960];
     let mut c = [0u8; 40961];
     let mut d = [0u8; 4105];
-    answer(text, table, &mut a, &mut b, &mut c, &mut d)
+    answer(text, mode, table, &mut a, &mut b, &mut c, &mut d)
 }
 
-// Prepares text into the table's records from the first on, in the crate's reading. It refuses 1, 2, 6 and 8 as splitting does, then the first faulty
-// step by its lowest number of 1, 6, 9 to 14, then 7; and then the table is as it was.
-pub fn prepare(text: &[u8], table: Table) -> Preparing
-    ensures { λ r. ⌜ r ≡ preparing (now (text .entry)) table ⌝ }
+// Prepares text into the table's records from the first on, in a mode and in the crate's reading. It refuses 1, 2, 6 and 8 as splitting does, then
+// the first faulty step by its lowest number of 1, 6, 9 to 14, then 7; and then the table is as it was.
+fn prepare_in(text: &[u8], mode: Mode, table: Table) -> Preparing
+    ensures { λ r. ⌜ r ≡ preparing mode (now (text .entry)) table ⌝ }
 {
     let number = first_refusal(text);
     if number != 0 {
         return refusing(number, 0, table);
     }
     if text.len() <= FEW {
-        return brief(text, table);
+        return brief(text, mode, table);
     }
     if text.len() <= SOME {
-        return short(text, table);
+        return short(text, mode, table);
     }
     if text.len() <= MORE {
-        return longer(text, table);
+        return longer(text, mode, table);
     }
-    long(text, table)
+    long(text, mode, table)
 }
 
 // The first n of 64 records in a reading, and the others as they are.
@@ -228,11 +237,11 @@ fn named(steps: [Step; 64], n: usize, reading: Reading) -> [Step; 64]
     l
 }
 
-// The same in a reading: the records of an answer name it.
-pub fn prepare_as(text: &[u8], reading: Reading, table: Table) -> Preparing
-    ensures { λ r. ⌜ r ≡ preparingAs reading (now (text .entry)) table ⌝ }
+// The same in a reading and a mode: the records of an answer name the reading.
+pub fn prepare_as(text: &[u8], reading: Reading, mode: Mode, table: Table) -> Preparing
+    ensures { λ r. ⌜ r ≡ preparingAs reading mode (now (text .entry)) table ⌝ }
 {
-    let p = prepare(text, table);
+    let p = prepare_in(text, mode, table);
     let answer = p.answer;
     let made = p.table;
     match answer {

@@ -6,12 +6,13 @@ use crate::values::is_given;
 use crate::values::value_of;
 use adapt::Word;
 use adapt::between;
+use adapt::operator_in;
 use adapt::word_of;
 use record::blank;
 use record::is_args;
 use record::step_of;
-use rules::ADAPT;
 use rules::AXISSWAP;
+use rules::Mode;
 use rules::Name;
 use rules::POP;
 use rules::PUSH;
@@ -31,6 +32,7 @@ ghost use Rattle.rules.specs.Operators.Adapt.{wordGiven};
 ghost use Rattle.rules.specs.Operators.Arguments.{valueOf};
 ghost use Rattle.rules.specs.Operators.PushPop.{axes};
 ghost use Rattle.rules.specs.Pipeline.Prepare.{ownRule, judged14};
+ghost use Rattle.rules.specs.declared.Mode.{Mode};
 ghost use Rattle.rules.specs.declared.Name.the-variants as name;
 ghost use Rattle.adapt.specs.Words.{IsRead};
 ghost use Rattle.prepare.specs.Lookup.{IsTable, paramsIn, given};
@@ -186,12 +188,12 @@ fn action_of(s: &[u8], row: &[usize; 128], n: usize) -> Choice
     with_action(s, row, n, f, b"drop", STACK_DROP)
 }
 
-// "exactly one action": the series is its own; swap and drop have none.
+// "exactly one action": the series is its own; swap and drop have none. The same in every mode.
 fn own_stack(s: &[u8], row: &[usize; 128], n: usize, low: Lowest) -> Judged
     requires { ⌜ IsTable (now s) (now row) n ⌝ }
     requires { ⌜ Lowers name.Stack (paramsIn (now s) (now row) n) low ⌝ }
     requires { ⌜ low .number ≡ 14 ⌝ }
-    ensures { λ r. ⌜ replyIs r ≡ judged14 (ownRule name.Stack (paramsIn (now (s .entry)) (now (row .entry)) n)) ⌝ }
+    ensures { λ r. ⌜ ((m : Mode) → replyIs r ≡ judged14 (ownRule m name.Stack (paramsIn (now (s .entry)) (now (row .entry)) n))) ⌝ }
 {
     let numbers = low.numbers;
     let choice = action_of(s, row, n);
@@ -214,12 +216,12 @@ fn all_axes() -> Args
     }
 }
 
-// Its order is the one series that it can have.
+// Its order is the one series that it can have. The same in every mode.
 fn own_order(s: &[u8], row: &[usize; 128], n: usize, low: Lowest) -> Judged
     requires { ⌜ IsTable (now s) (now row) n ⌝ }
     requires { ⌜ Lowers name.Axisswap (paramsIn (now s) (now row) n) low ⌝ }
     requires { ⌜ low .number ≡ 14 ⌝ }
-    ensures { λ r. ⌜ replyIs r ≡ judged14 (ownRule name.Axisswap (paramsIn (now (s .entry)) (now (row .entry)) n)) ⌝ }
+    ensures { λ r. ⌜ ((m : Mode) → replyIs r ≡ judged14 (ownRule m name.Axisswap (paramsIn (now (s .entry)) (now (row .entry)) n))) ⌝ }
 {
     if low.found {
         let numbers = low.numbers;
@@ -244,9 +246,10 @@ fn word_given(s: &[u8], row: &[usize; 128], n: usize, key: &[u8]) -> Word
     word_of(b"enuf")
 }
 
-fn own_adapt(s: &[u8], row: &[usize; 128], n: usize) -> Judged
+// The operator, and what the two words make between them, are those of the mode.
+fn own_adapt(s: &[u8], row: &[usize; 128], n: usize, mode: Mode) -> Judged
     requires { ⌜ IsTable (now s) (now row) n ⌝ }
-    ensures { λ r. ⌜ replyIs r ≡ judged14 (ownRule name.Adapt (paramsIn (now (s .entry)) (now (row .entry)) n)) ⌝ }
+    ensures { λ r. ⌜ replyIs r ≡ judged14 (ownRule mode name.Adapt (paramsIn (now (s .entry)) (now (row .entry)) n)) ⌝ }
 {
     let from = word_given(s, row, n, b"from");
     let to = word_given(s, row, n, b"to");
@@ -256,23 +259,30 @@ fn own_adapt(s: &[u8], row: &[usize; 128], n: usize) -> Judged
     if !to.is {
         return refused(14);
     }
-    let list = between(from, to);
-    recorded(s, row, n, ADAPT, Args { list: list, n: 8 })
+    let list = between(from, to, mode);
+    recorded(s, row, n, operator_in(mode), Args { list: list, n: 8 })
 }
 
 // ---- any of them
 
-pub fn own_rule(s: &[u8], row: &[usize; 128], n: usize, name: Name, low: Lowest) -> Judged
+pub fn own_rule(
+    s: &[u8],
+    row: &[usize; 128],
+    n: usize,
+    name: Name,
+    mode: Mode,
+    low: Lowest,
+) -> Judged
     requires { ⌜ IsTable (now s) (now row) n ⌝ }
     requires { ⌜ Lowers name (paramsIn (now s) (now row) n) low ⌝ }
     requires { ⌜ low .number ≡ 14 ⌝ }
-    ensures { λ r. ⌜ replyIs r ≡ judged14 (ownRule name (paramsIn (now (s .entry)) (now (row .entry)) n)) ⌝ }
+    ensures { λ r. ⌜ replyIs r ≡ judged14 (ownRule mode name (paramsIn (now (s .entry)) (now (row .entry)) n)) ⌝ }
 {
     match name {
         Name::Push => recorded(s, row, n, PUSH, axes_of(s, row, n)),
         Name::Pop => recorded(s, row, n, POP, axes_of(s, row, n)),
         Name::Stack => own_stack(s, row, n, low),
         Name::Axisswap => own_order(s, row, n, low),
-        Name::Adapt => own_adapt(s, row, n),
+        Name::Adapt => own_adapt(s, row, n, mode),
     }
 }

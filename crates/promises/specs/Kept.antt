@@ -1,19 +1,23 @@
 -- Every promise of specs/Promises.antt is kept: a line for each, which cites where it is proved. Of a call's code that is the theorem that the prover
 -- has of the function itself.
-use mathlib.Core.Path.{_≡_, refl, sym, ap, _∙_}
-use Prim.Native.Nat.{ℕ, _*_, _/_, _%_, _≤_}
+use mathlib.Core.Path.{_≡_, refl, sym, ap, _∙_, subst}
+use Prim.Native.Nat.{ℕ, _*_, _/_, _%_, _≤_, _<_}
 use mathlib.Core.Bool.{Bool, true, false}
-use mathlib.Core.List.{List, []}
+use mathlib.Core.List.{List, [], _∷_}
 use lib.Dec.{T}
 use lib.ListN.{length}
 use lib.Ieee.{Float, binary64, neg, mul, fits}
+use lib.Ieee.Bits.{ofBits-fits}
 use borrow.Fn.World.{World}
 use Rattle.rules.specs.Operators.Numbers.{turn}
 use Rattle.rules.specs.Operators.Adapt.{one}
 use Rattle.rules.specs.Pipeline.Run.{Outcome, runs, Runs}
-use Rattle.rules.specs.Pipeline.Running.{running}
+use Rattle.rules.specs.Pipeline.Record.{args}
+use Rattle.rules.specs.Pipeline.Running.{opposite, running}
+use Rattle.rules.specs.Face.Demands.{numberAt, Bits, Alike, EachUnit}
 use Rattle.rules.specs.Pipeline.Check.{anyAdapt, check, Checks}
 use Rattle.rules.specs.ExamplesHold.{examples-hold}
+use Rattle.rules.specs.declared.Mode.the-variants as mode-is
 use Rattle.rules.specs.declared.Reading.the-variants.{Crate}
 use Rattle.rules.specs.declared.Step.{Step}
 use Rattle.rules.specs.declared.Direction.{Direction}
@@ -26,7 +30,10 @@ use Rattle.laws_text.specs.Once.{once, lends-once, check-once, run-once, plain-
 use Rattle.laws_records.specs.Readings.{inv-turns}
 use Rattle.laws_records.specs.Made.{prepare-as-made, table-prepared, check-never-18, run-never-18}
 use Rattle.laws_records.specs.Exact.{prepare-is-crates, crates-prepare, made-exactly}
-use Rattle.laws_records.specs.ReadBack.{written-returns, not-18-exactly}
+use Rattle.laws_records.specs.ReadBack.{written-returns, not-18-exactly, not-18-each}
+use Rattle.laws_records.specs.Modes.{same-refusal}
+use Rattle.laws_records.specs.Operators.Adapt.Restores.{RunsBothWays, restores}
+use Rattle.laws_records.specs.Operators.Adapt.FactorsByAxis.{same-axis, forward-in-words, inverse-in-words}
 use Rattle.laws_records.specs.Ieee.{turn-mul}
 use Rattle.laws_steps.specs.Foretold.{told-exactly, foretells}
 use Rattle.laws_steps.specs.Exactly.{passes-exactly, few-exactly, many-exactly, refused-exactly}
@@ -38,7 +45,7 @@ use Rattle.laws_steps.specs.Exported.{behind-normalise, behind-split, behind-pa
 use Rattle.sakondreno.proofs as code
 use Rattle.reader.proofs as reading
 use Rattle.show.proofs as program
-use Rattle.promises.specs.Promises.{Calls, Demand1, Demand2, AsForetold, FromThePlacesNamed, Demand3, Readings, Exports, Promises}
+use Rattle.promises.specs.Promises.{Calls, Demand1, Demand2, AsForetold, FromThePlacesNamed, Demand3, Readings, Modes, Exports, Promises}
 
 pub calls : (w : World) → Calls w
 calls w = record {
@@ -100,7 +107,7 @@ turned false x h = turn-mul binary64 false x h
 pub demand2 : Demand2
 demand2 = record {
   text-answer = λ p. answers-so p .answer;
-  records-answer = λ p. sym (prepare-is-crates _) ∙ table-prepared Crate (crates-prepare .1 p);
+  records-answer = λ p. sym (prepare-is-crates _) ∙ table-prepared Crate mode-is.Crate (crates-prepare .1 p);
   run-answer = λ ran. let a = answered _ _ _ _ _ _ (ran-answer ran) in (ran-list ran ∙ a .list-after, a .counted, a .columns-left);
   sign-is-product = turned;
   examples-hold = examples-hold;
@@ -140,8 +147,8 @@ module _ {d : Direction} {t : List Step} {f : Foretold} (checks : Checks d t f) 
 
 pub demand3 : Demand3
 demand3 = record {
-  check-takes-what-is-prepared = λ how k p checks h. check-never-18 how _ _ (table-prepared how p) _ 18 k (rw (checks .exactly) at h);
-  run-takes-what-is-prepared = λ how k p ran. run-never-18 how _ _ (table-prepared how p) _ _ _ k (ran-answer ran);
+  check-takes-what-is-prepared = λ how mode k p checks h. check-never-18 how mode _ _ (table-prepared how mode p) _ 18 k (rw (checks .exactly) at h);
+  run-takes-what-is-prepared = λ how mode k p ran. run-never-18 how mode _ _ (table-prepared how mode p) _ _ _ k (ran-answer ran);
   passes-exactly-when = λ checks xs. rw (checks .exactly) (passes-exactly _ _ xs);
   too-few-exactly-when = λ checks xs k. rw (checks .exactly) (few-exactly _ _ xs k);
   too-many-exactly-when = λ checks xs k. rw (checks .exactly) (many-exactly _ _ xs k);
@@ -155,11 +162,42 @@ demand3 = record {
 pub readings : Readings
 readings = record {
   prepare-is-the-crates = crates-prepare;
-  records-answer-as = λ how p. let e = table-prepared how p in (e, prepare-as-made how _ _ e .2);
+  records-answer-as = λ how mode p. let e = table-prepared how mode p in (e, prepare-as-made how mode _ _ e .2);
   inv-turns-every-operator = inv-turns;
   refused-18-unless-prepared = not-18-exactly;
+  refused-18-unless-each = not-18-each;
   made-exactly = made-exactly;
   written-returns = written-returns;
+}
+
+-- a sign that is kept
+unturned : (x : Float) → turn false x ≡ x
+unfolding turn
+unturned x = refl
+
+-- of a number and of what comes back for it: every pattern reads as an f64
+module _ {s : Step} (r : RunsBothWays s) (u : EachUnit (args s)) (d : Direction) {xs store : List Float} {c n : ℕ} {xs′ store′ : List Float}
+    (there : Runs d (s ∷ []) xs store (Done c n) xs′ store′) {store₂ : List Float} {c₂ n₂ : ℕ} {xs″ store₂′ : List Float}
+    (home : Runs (opposite d) (s ∷ []) xs′ store₂ (Done c₂ n₂) xs″ store₂′) where
+  returned : (i : ℕ) → i < length xs / 4 → (j : ℕ) → 1 ≤ j → j ≤ 4 → (p q : ℕ) → Bits p (numberAt xs i j) → Bits q (numberAt xs″ i j) → Alike false p q
+  returned i h j a b p q P Q =
+      let fit : T (fits binary64 (numberAt xs i j)) = subst (λ (x : Float). T (fits binary64 x)) (P .reads) (ofBits-fits binary64 p) in
+      let left : xs′ ≡ runs d (s ∷ []) xs store .list = ran-list there in
+      let done : runs (opposite d) (s ∷ []) (runs d (s ∷ []) xs store .list) store₂ .answer ≡ Done c₂ n₂ =
+      ap (λ (l : List Float). runs (opposite d) (s ∷ []) l store₂ .answer) (sym left) ∙ ran-answer home in
+      let same : numberAt xs″ i j ≡ numberAt xs i j =
+      ap (λ (l : List Float). numberAt l i j) (ran-list home ∙ ap (λ (l : List Float). runs (opposite d) (s ∷ []) l store₂ .list) left)
+      ∙ restores s r u d xs store c n (ran-answer there) store₂ c₂ n₂ done i h j a b fit in
+      alike false P Q (same ∙ sym (unturned (numberAt xs i j)))
+
+pub modes : Modes
+modes = record {
+  records-of-the-mode = λ how mode p. prepare-as-made how mode _ _ (table-prepared how mode p) .3;
+  refuses-the-same = same-refusal;
+  same-axis = same-axis;
+  forward-in-words = forward-in-words;
+  inverse-in-words = inverse-in-words;
+  restores = λ s m o f b u. returned (record { is-made = m; is-documented = o; forward-too = f; inverse-too = b }) u;
 }
 
 pub exports : Exports
@@ -179,4 +217,4 @@ exports = record {
 }
 
 pub kept : (w : World) → Promises w
-kept w = record { calls = calls w; demand1 = demand1; demand2 = demand2; demand3 = demand3; readings = readings; exports = exports }
+kept w = record { calls = calls w; demand1 = demand1; demand2 = demand2; demand3 = demand3; readings = readings; modes = modes; exports = exports }

@@ -9,31 +9,38 @@ use mathlib.Core.List.{List, [], _∷_, _++_}
 use lib.Dec.{T}
 use lib.ListN.{length, take, drop}
 use lib.IntN.{ℤ}
-use lib.Ieee.{Float, binary64, mul, fits, toBits}
+use lib.Ieee.{Float, binary64, mul, div, fits, toBits}
 use borrow.Fn.World.{World}
 use denote.Ref.{now}
 use Rattle.rules.specs.Text.Bytes.{Bytes}
-use Rattle.rules.specs.Text.Refusal.{Reply, answers, Promised, Writes, Lends, Wrote}
+use Rattle.rules.specs.Text.Lists.{allOf}
+use Rattle.rules.specs.Text.Refusal.{Reply, answers, refuses, Promised, Writes, Lends, Wrote}
 use Rattle.rules.specs.Text.Normal.{normalise}
 use Rattle.rules.specs.Text.Split.{split}
 use Rattle.rules.specs.Text.Parameters.{parameters}
 use Rattle.rules.specs.Proj.Translate.{translate}
 use Rattle.rules.specs.Text.Reader.{next}
 use Rattle.rules.specs.Pipeline.Prepare.{prepare, prepareAs, Prepares, PreparesAs}
-use Rattle.rules.specs.Pipeline.Record.{readingNumber, readingOf, stepWith, inReading, made, tableReading, refusal18, listed}
+use Rattle.rules.specs.Pipeline.Record.{readingNumber, readingOf, stepWith, inReading, operator, args, isSet, ofMode, made, tableReading, refusal18, listed}
 use Rattle.rules.specs.Pipeline.Running.{opposite, act, running}
-use Rattle.rules.specs.Operators.Numbers.{turn}
-use Rattle.rules.specs.Operators.Adapt.{one}
+use Rattle.rules.specs.Operators.Arguments.{size, arg}
+use Rattle.rules.specs.Operators.Descriptions.{Documented}
+use Rattle.rules.specs.Operators.Numbers.{number, turn}
+use Rattle.rules.specs.Operators.Adapt.{Word, one}
+use Rattle.rules.specs.Operators.Documented.{inputAt, combinedByAxis, adaptedByAxis}
 use Rattle.rules.specs.Pipeline.Columns.{after, depths, deepest}
 use Rattle.rules.specs.Pipeline.Tuples.{numbers, acted}
 use Rattle.rules.specs.Pipeline.Run.{start, count, Runs}
 use Rattle.rules.specs.Pipeline.Check.{place, anyAdapt, Checks}
 use Rattle.rules.specs.Pipeline.Write.{write}
-use Rattle.rules.specs.Face.Plain.{plainPrepared, replied, recordCount, plainFound, directionOf, plainCheck, PlainChecks, plainRan, PlainRuns}
-use Rattle.rules.specs.Examples.{examples, also, printed, rewritten, readings, demanded, AllHold}
+use Rattle.rules.specs.Face.Plain.{plainPrepared, replied, recordCount, plainFound, modeOf, directionOf, plainCheck, PlainChecks, plainRan, PlainRuns}
+use Rattle.rules.specs.Examples.{examples, also, printed, rewritten, readings, modes, demanded, AllHold}
+use Rattle.rules.specs.declared.Mode.{Mode}
+use Rattle.rules.specs.declared.Mode.the-variants as mode-is
 use Rattle.rules.specs.declared.Reading.{Reading}
 use Rattle.rules.specs.declared.Reading.the-variants.{Crate, Proj}
 use Rattle.rules.specs.declared.Step.{Step}
+use Rattle.rules.specs.declared.Coord.{Coord}
 use Rattle.rules.specs.declared.Direction.{Direction}
 use Rattle.rules.specs.declared.Written.{Written}
 use Rattle.rules.specs.declared.Written.the-variants as written-is
@@ -55,10 +62,12 @@ use Rattle.laws_lists.specs.Lists.{Every}
 use Rattle.laws_records.specs.Readings.{InIt}
 use Rattle.laws_records.specs.Faithful.{Slots}
 use Rattle.laws_records.specs.Exact.{Texted}
+use Rattle.laws_records.specs.ReadBack.{TextedAlone}
+use Rattle.laws_records.specs.Operators.Adapt.Words.{IsWord}
 use Rattle.sakondreno.proofs as calls
 use Rattle.reader.proofs as reading
 use Rattle.show.proofs as program
-use Rattle.rules.specs.Face.Demands.{Ends, RunEnds, CheckEnds, NextEnds, ExportsText, EachWell, Few, Many, FirstAtFault, numberAt, Bits, Alike}
+use Rattle.rules.specs.Face.Demands.{Ends, RunEnds, CheckEnds, NextEnds, ExportsText, EachWell, Few, Many, FirstAtFault, numberAt, Bits, Alike, signAngle, EachUnit}
 
 -- ==== The public calls. "Every entry point ends on every text, step table and list .. No caller is asked to have looked first": each call's own code,
 -- whatever it is given, returns; its contract asks nothing; and what it says is one equation with the written rule, of the result and of all that was lent.
@@ -76,7 +85,7 @@ pub record Calls (w : World) : Type 1 where
   pub prepare-keeps : Keeps w calls.prepare.ended calls.prepare.Symbol.routine
       (λ l before r after. Prepares (now (before .0)) (now (before .1 .0)) r (now (after .1 .0)))
   pub prepare-as-keeps : Keeps w calls.prepare_as.ended calls.prepare_as.Symbol.routine
-      (λ l before r after. PreparesAs (before .1 .0) (now (before .0)) (now (before .1 .1 .0)) r (now (after .1 .1 .0)))
+      (λ l before r after. PreparesAs (before .1 .0) (before .1 .1 .0) (now (before .0)) (now (before .1 .1 .1 .0)) r (now (after .1 .1 .1 .0)))
   pub check-keeps : Keeps w calls.check.ended calls.check.Symbol.routine
       (λ l before r after. Checks (before .1 .0) (now (before .0)) r)
   pub run-keeps : Keeps w calls.run.ended calls.run.Symbol.routine
@@ -103,16 +112,16 @@ pub record Calls (w : World) : Type 1 where
   pub sakondreno-prepare-keeps : Keeps w calls.sakondreno_prepare.ended calls.sakondreno_prepare.Symbol.routine
       (λ l before r after. Promised recordCount prepare (now (before .0)) (now (before .1 .0)) r (now (after .1 .0)))
   pub sakondreno-prepare-as-keeps : Keeps w calls.sakondreno_prepare_as.ended calls.sakondreno_prepare_as.Symbol.routine
-      (λ l before r after. Promised recordCount (prepareAs (readingOf (before .1 .0))) (now (before .0)) (now (before .1 .1 .0)) r (now (after .1 .1 .0)))
+      (λ l before r after. Promised recordCount (prepareAs (readingOf (before .1 .0)) (modeOf (before .1 .1 .0))) (now (before .0)) (now (before .1 .1 .1 .0)) r (now (after .1 .1 .1 .0)))
   pub sakondreno-check-keeps : Keeps w calls.sakondreno_check.ended calls.sakondreno_check.Symbol.routine
       (λ l before r after. PlainChecks (before .1 .0) (now (before .0)) r)
   pub sakondreno-run-keeps : Keeps w calls.sakondreno_run.ended calls.sakondreno_run.Symbol.routine
       (λ l before r after. PlainRuns (before .1 .0) (now (before .0)) (now (before .1 .1 .0)) (now (before .1 .1 .1 .0)) r (now (after .1 .1 .0)) (now (after .1 .1 .1 .0)))
-  -- The program `steps` prints `shown reading text` of what it reads, in the reading that it is asked for: this is the function that it prints by, lent
-  -- buffers of these lengths.
+  -- The program `steps` prints `shown reading mode text` of what it reads, in the reading and mode that it is asked for: this is the function that it
+  -- prints by, lent buffers of these lengths.
   pub steps-prints : KeepsIf w program.show.ended program.show.Symbol.routine
-      (λ l before. (length (now (before .1 .1 .0)) ≡ 65536) ∷ (length (now (before .1 .1 .1 .0)) ≡ 65536) ∷ (139264 ≤ length (now (before .1 .1 .1 .1 .0))) ∷ [])
-      (λ l before r after. Wrote (shown (before .1 .0) (now (before .0))) (now (before .1 .1 .1 .1 .0)) r (now (after .1 .1 .1 .1 .0)))
+      (λ l before. (length (now (before .1 .1 .1 .0)) ≡ 65536) ∷ (length (now (before .1 .1 .1 .1 .0)) ≡ 65536) ∷ (139264 ≤ length (now (before .1 .1 .1 .1 .1 .0))) ∷ [])
+      (λ l before r after. Wrote (shown (before .1 .0) (before .1 .1 .0) (now (before .0))) (now (before .1 .1 .1 .1 .1 .0)) r (now (after .1 .1 .1 .1 .1 .0)))
 
 -- ==== Demand 1. "It answers, or refuses with a number from the documents' tables, and a refused call alters nothing it was lent."
 
@@ -131,7 +140,7 @@ pub record Demand1 : Type 1 where
   -- the calls on step tables, and the reader
   pub prepare-ends : {text : Bytes} {table : List Step} {r : Prepared} {table′ : List Step} → Prepares text table r table′
       → Ends prepared-is.Steps prepared-is.Refused (1 ∷ 2 ∷ 6 ∷ 7 ∷ 8 ∷ 9 ∷ 10 ∷ 11 ∷ 12 ∷ 13 ∷ 14 ∷ []) table r table′
-  pub prepare-as-ends : (how : Reading) {text : Bytes} {table : List Step} {r : Prepared} {table′ : List Step} → PreparesAs how text table r table′
+  pub prepare-as-ends : (how : Reading) (mode : Mode) {text : Bytes} {table : List Step} {r : Prepared} {table′ : List Step} → PreparesAs how mode text table r table′
       → Ends prepared-is.Steps prepared-is.Refused (1 ∷ 2 ∷ 6 ∷ 7 ∷ 8 ∷ 9 ∷ 10 ∷ 11 ∷ 12 ∷ 13 ∷ 14 ∷ []) table r table′
   pub check-ends : {d : Direction} {t : List Step} {f : Foretold} → Checks d t f → CheckEnds f
   pub run-ends : {d : Direction} {t : List Step} {xs store : List Float} {r : Ran} {xs′ store′ : List Float} → Runs d t xs store r xs′ store′
@@ -149,7 +158,7 @@ pub record Demand1 : Type 1 where
 
 -- ==== Demand 2. "Within document 01's domain, normalised text, steps, parameters, PROJ translation, transformed tuples and success count equal the
 -- Rust's, bit for bit .. Each is also proved against definitions". What is proved: a call's answer is the written rule's, and by demand 1 no other. That
--- the written rules are the Rust's is tested, on ten million inputs: docs/DIFFERENCES.md. This is a statement about the crate's reading.
+-- the written rules are the Rust's is tested, on ten million inputs: docs/DIFFERENCES.md. This is a statement about the crate's reading and the crate's mode.
 
 pub record Demand2 : Type 0 where
   -- the bytes that a text call answers, and the records that preparing answers, are those of its rule
@@ -161,7 +170,7 @@ pub record Demand2 : Type 0 where
   -- a sign that is turned or kept is the Rust's product with -1 or 1, for every f64 (IEEE 754 as the kit defines it)
   pub sign-is-product : (minus : Bool) (x : Float) → T (fits binary64 x) → turn minus x ≡ mul binary64 x (turn minus one)
   -- and the documents' examples are so
-  pub examples-hold : AllHold examples × AllHold also × AllHold printed × AllHold rewritten × AllHold readings × AllHold demanded
+  pub examples-hold : AllHold examples × AllHold also × AllHold printed × AllHold rewritten × AllHold readings × AllHold modes × AllHold demanded
 
 -- ==== Demand 3. "A check reads a prepared pipeline and a direction, never the data."
 
@@ -180,13 +189,14 @@ pub record FromThePlacesNamed (f : Foretold) (xs xs′ : List Float) : Type 0 wh
   pub bit-for-bit : (j : ℕ) → 1 ≤ j → j ≤ 4 → (i : ℕ) → i < length xs / 4
       → (p q : ℕ) → Bits p (numberAt xs i (place j (f .places) .axis)) → Bits q (numberAt xs′ i j) → Alike (place j (f .places) .minus) p q
 
--- (A record names its reading, and a step does what it does in that reading: so each of these speaks of tables of either, `running d t` of both.)
+-- (A record names its reading, and by its operator its mode, and a step does what it does in these: so each of these speaks of tables of either, and of
+-- mixed modes. `adapt` is the one operator or the other: `anyAdapt` looks for both.)
 pub record Demand3 : Type 0 where
-  -- Whatever preparing leaves, in either reading, is never refused 18, by a check or by a run.
-  pub check-takes-what-is-prepared : (how : Reading) {text : Bytes} {table table′ : List Step} {n : ℕ} {d : Direction} {f : Foretold} (k : ℕ)
-      → PreparesAs how text table (prepared-is.Steps n) table′ → Checks d (take n table′) f → f .verdict ≡ Refused 18 k → ⊥
-  pub run-takes-what-is-prepared : (how : Reading) {text : Bytes} {table table′ : List Step} {n : ℕ} {d : Direction} {xs store xs′ store′ : List Float} (k : ℕ)
-      → PreparesAs how text table (prepared-is.Steps n) table′ → Runs d (take n table′) xs store (ran-is.Refused 18 k) xs′ store′ → ⊥
+  -- Whatever preparing leaves, in either reading and mode, is never refused 18, by a check or by a run.
+  pub check-takes-what-is-prepared : (how : Reading) (mode : Mode) {text : Bytes} {table table′ : List Step} {n : ℕ} {d : Direction} {f : Foretold} (k : ℕ)
+      → PreparesAs how mode text table (prepared-is.Steps n) table′ → Checks d (take n table′) f → f .verdict ≡ Refused 18 k → ⊥
+  pub run-takes-what-is-prepared : (how : Reading) (mode : Mode) {text : Bytes} {table table′ : List Step} {n : ℕ} {d : Direction} {xs store xs′ store′ : List Float} (k : ℕ)
+      → PreparesAs how mode text table (prepared-is.Steps n) table′ → Runs d (take n table′) xs store (ran-is.Refused 18 k) xs′ store′ → ⊥
   -- "It passes exactly when no step finds fewer columns than it takes and the depth never exceeds 64": no record is bad, and so it is of every step that
   -- runs, on any one list or on all;
   pub passes-exactly-when : {d : Direction} {t : List Step} {f : Foretold} → Checks d t f → (xs : List Float)
@@ -214,22 +224,51 @@ pub record Demand3 : Type 0 where
 -- ==== Document 02, request 1. "Give preparation a second reading, named PROJ, beside the crate's: in it `inv` also turns `push`, `pop` and `stack`."
 
 pub record Readings : Type 0 where
-  -- `prepare` is the case of `prepare_as` for the crate's reading
-  pub prepare-is-the-crates : {text : Bytes} {table : List Step} {r : Prepared} {table′ : List Step} → PreparesAs Crate text table r table′ ↔ Prepares text table r table′
-  -- the records that preparing answers are those of its rule, in either reading, and "Records name their reading."
-  pub records-answer-as : (how : Reading) {text : Bytes} {table : List Step} {n : ℕ} {table′ : List Step} → PreparesAs how text table (prepared-is.Steps n) table′
-      → (prepareAs how text ≡ answers (take n table′)) × Every (InIt (readingNumber how)) (take n table′)
+  -- `prepare` is the case of `prepare_as` for the crate's reading and the crate's mode
+  pub prepare-is-the-crates : {text : Bytes} {table : List Step} {r : Prepared} {table′ : List Step}
+      → PreparesAs Crate mode-is.Crate text table r table′ ↔ Prepares text table r table′
+  -- the records that preparing answers are those of its rule, in either reading and mode, and "Records name their reading."
+  pub records-answer-as : (how : Reading) (mode : Mode) {text : Bytes} {table : List Step} {n : ℕ} {table′ : List Step}
+      → PreparesAs how mode text table (prepared-is.Steps n) table′ → (prepareAs how mode text ≡ answers (take n table′)) × Every (InIt (readingNumber how)) (take n table′)
   -- "`inv` also turns `push`, `pop` and `stack`": whatever the operator, a step with `inv` does what the step without it does in the other direction
   pub inv-turns-every-operator : (d : Direction) (number : ℕ) (l : List ℤ) (fwd back : ℕ)
       → act d (inReading Proj (stepWith number l 1 fwd back)) ≡ act (opposite d) (inReading Proj (stepWith number l 0 fwd back))
-  -- "18 at a record whose reading is not the first's": a table (of records with eight slots, as all are) is not refused 18 exactly when some text prepares to it
-  pub refused-18-unless-prepared : (t : List Step) → Every Slots t → (refusal18 t ≡ none) ↔ ((how : Reading) × Texted how t)
-  -- a record alone, in its own reading
-  pub made-exactly : (s : Step) → Slots s → (made s ≡ true) ↔ Texted (readingOf (s .reading)) (s ∷ [])
-  -- what `write` answered of a table gives the table back, prepared in its reading
-  pub written-returns : (t : List Step) → Every Slots t → {out : Bytes} {n : ℕ} {out′ : Bytes} → Lends (write t) out (written-is.Wrote n) out′
-      → (table : List Step) → length t ≤ length table → {r : Prepared} {table′ : List Step} → PreparesAs (readingOf (tableReading t)) (take n out′) table r table′
-      → (r ≡ prepared-is.Steps (length t)) × (table′ ≡ t ++ drop (length t) table)
+  -- "18 at a record whose reading is not the first's": a table of one mode (of records with eight slots, as all are) is not refused 18 exactly when some text
+  -- prepares to it in that mode
+  pub refused-18-unless-prepared : (mode : Mode) (t : List Step) → Every Slots t → allOf (ofMode mode) t ≡ true → (refusal18 t ≡ none) ↔ ((how : Reading) × Texted how mode t)
+  -- and any table, exactly when it has 64 records at most, all of its first one's reading, and each alone has a text, in some mode
+  pub refused-18-unless-each : (t : List Step) → Every Slots t → (refusal18 t ≡ none) ↔ ((length t ≤ 64) × Every (InIt (tableReading t)) t × Every TextedAlone t)
+  -- a record alone, in its own reading: it is made, and of a mode, exactly when some text prepares to it in that mode
+  pub made-exactly : (mode : Mode) (s : Step) → Slots s → ((made s ≡ true) × (ofMode mode s ≡ true)) ↔ Texted (readingOf (s .reading)) mode (s ∷ [])
+  -- what `write` answered of a table of one mode gives the table back, prepared in its reading and that mode
+  pub written-returns : (mode : Mode) (t : List Step) → Every Slots t → allOf (ofMode mode) t ≡ true → {out : Bytes} {n : ℕ} {out′ : Bytes}
+      → Lends (write t) out (written-is.Wrote n) out′ → (table : List Step) → length t ≤ length table → {r : Prepared} {table′ : List Step}
+      → PreparesAs (readingOf (tableReading t)) mode (take n out′) table r table′ → (r ≡ prepared-is.Steps (length t)) × (table′ ≡ t ++ drop (length t) table)
+
+-- ==== Document 02, request 2. "Add a documented mode, chosen for a whole preparation".
+
+pub record Modes : Type 0 where
+  -- the records that a preparation in a mode answers are of that mode: none is the other mode's `adapt`
+  pub records-of-the-mode : (how : Reading) (mode : Mode) {text : Bytes} {table : List Step} {n : ℕ} {table′ : List Step}
+      → PreparesAs how mode text table (prepared-is.Steps n) table′ → allOf (ofMode mode) (take n table′) ≡ true
+  -- "Refusals: none new.": what one mode refuses, the other refuses, with the same number at the same place
+  pub refuses-the-same : (mode other : Mode) (how : Reading) (text : Bytes) (number place : ℕ)
+      → prepareAs how mode text ≡ refuses number place → prepareAs how other text ≡ refuses number place
+  -- "each output place takes the input place of the same axis", for any two words v and w that `from` and `to` can be
+  pub same-axis : (v w : Word) → IsWord v → IsWord w → (i : ℕ) → 1 ≤ i → i ≤ 4 → size (arg (inputAt v w i) (v .axes)) ≡ size (arg i (w .axes))
+  -- "times the input's sign and angle factor over the output's"
+  pub forward-in-words : (v w : Word) → IsWord v → IsWord w → (i : ℕ) → 1 ≤ i → i ≤ 4 → (t : Coord)
+      → number i (adaptedByAxis false (combinedByAxis v w) t) ≡ mul binary64 (number (inputAt v w i) t) (div binary64 (signAngle v (inputAt v w i)) (signAngle w i))
+  -- "The inverse sends each number back to the place it came from, times one over the same factor."
+  pub inverse-in-words : (v w : Word) → IsWord v → IsWord w → (i : ℕ) → 1 ≤ i → i ≤ 4 → (t : Coord)
+      → number (inputAt v w i) (adaptedByAxis true (combinedByAxis v w) t)
+      ≡ mul binary64 (number i t) (div binary64 one (div binary64 (signAngle v (inputAt v w i)) (signAngle w i)))
+  -- "Where every factor is plus or minus one, inverse after forward restores all numbers that are not NaN, bit for bit", and so does forward after inverse: a
+  -- step of this mode that no mark leaves out, a run of it, and a run of it the other way on the list that the first one left
+  pub restores : (s : Step) → made s ≡ true → operator s ≡ Documented → isSet (s .«omit_fwd») ≡ false → isSet (s .«omit_inv») ≡ false → EachUnit (args s)
+      → (d : Direction) {xs store : List Float} {c n : ℕ} {xs′ store′ : List Float} → Runs d (s ∷ []) xs store (ran-is.Done c n) xs′ store′
+      → {store₂ : List Float} {c₂ n₂ : ℕ} {xs″ store₂′ : List Float} → Runs (opposite d) (s ∷ []) xs′ store₂ (ran-is.Done c₂ n₂) xs″ store₂′
+      → (i : ℕ) → i < length xs / 4 → (j : ℕ) → 1 ≤ j → j ≤ 4 → (p q : ℕ) → Bits p (numberAt xs i j) → Bits q (numberAt xs″ i j) → Alike false p q
 
 -- ==== From C and from Rust: behind each answer of an export there is one of the call that it exports, with the same storage afterwards, so all of the above
 -- holds there too. Number 0 is an answer, a pass, or a run that is done; and a reader that finds nothing is at the end.
@@ -243,8 +282,8 @@ pub record Exports : Type 0 where
       → (f : Found) × (f ≡ next text at) × (r ≡ plainFound f) × (r .found ≡ 0 → f ≡ End)
   pub prepare-export : {text : Bytes} {table : List Step} {r : Answer} {table′ : List Step} → Promised recordCount prepare text table r table′
       → (w : Prepared) × Prepares text table w table′ × (r ≡ plainPrepared w) × (r .number ≡ 0 → w ≡ prepared-is.Steps (r .length))
-  pub prepare-as-export : (how : Reading) {text : Bytes} {table : List Step} {r : Answer} {table′ : List Step} → Promised recordCount (prepareAs how) text table r table′
-      → (w : Prepared) × PreparesAs how text table w table′ × (r ≡ plainPrepared w) × (r .number ≡ 0 → w ≡ prepared-is.Steps (r .length))
+  pub prepare-as-export : (how : Reading) (mode : Mode) {text : Bytes} {table : List Step} {r : Answer} {table′ : List Step}
+      → Promised recordCount (prepareAs how mode) text table r table′ → (w : Prepared) × PreparesAs how mode text table w table′ × (r ≡ plainPrepared w) × (r .number ≡ 0 → w ≡ prepared-is.Steps (r .length))
   pub check-export : {inverse : ℕ} {t : List Step} {r : Checked} → PlainChecks inverse t r
       → (f : Foretold) × Checks (directionOf inverse) t f × (r ≡ plainCheck f) × (r .said .number ≡ 0 → f .verdict ≡ Passes)
   pub run-export : {inverse : ℕ} {t : List Step} {xs store : List Float} {r : plain-run.Done} {xs′ store′ : List Float} → PlainRuns inverse t xs store r xs′ store′
@@ -263,4 +302,5 @@ pub record Promises (w : World) : Type 1 where
   pub demand2 : Demand2
   pub demand3 : Demand3
   pub readings : Readings
+  pub modes : Modes
   pub exports : Exports

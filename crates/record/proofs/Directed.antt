@@ -5,14 +5,16 @@ use mathlib.Core.Bool.{Bool, true, false, cond, _&&_}
 use native.Mathlib.Omega.{arith}
 use borrow.Author.Tests.{ltb-true, ltb-false, eqb-true, eq-eqb}
 use lib.Dec.{ltb, eqb}
-use Rattle.rules.specs.Operators.Adapt.{isAdapt}
 use Rattle.rules.specs.Operators.Arguments.{isOrder}
-use Rattle.rules.specs.Operators.Descriptions.{Operator, Axisswap, Adapt}
+use Rattle.rules.specs.Operators.Descriptions.{Operator, Axisswap, Documented}
+use Rattle.rules.specs.Operators.Documented.{adaptIn, isAdaptIn}
 use Rattle.rules.specs.Operators.PushPop.{isRising}
 use Rattle.rules.specs.Operators.Table.{describe, operatorOf, isArgs}
 use Rattle.rules.specs.Pipeline.Record.{readingOf, made, operator, args, isSet}
 use Rattle.rules.specs.Pipeline.Running.{opposite, turns, directed, actOf, act}
 use Rattle.rules.specs.declared.Direction.{Direction}
+use Rattle.rules.specs.declared.Mode.{Mode}
+use Rattle.rules.specs.declared.Mode.the-variants as mode-is
 use Rattle.rules.specs.declared.Step.{Step}
 use Rattle.laws_lists.specs.Tests.{never}
 use Rattle.laws_records.specs.MadeSo.{made-so}
@@ -23,6 +25,11 @@ use Rattle.record.proofs.OperatorRules.{args-flags, args-order, the-las
 pub the-order : {k : ℕ} → k ≡ 9 → operatorOf k ≡ Axisswap
 unfolding operatorOf
 the-order e = rw e refl
+
+-- and 11
+pub the-documented : {k : ℕ} → k ≡ 11 → operatorOf k ≡ Documented
+unfolding operatorOf
+the-documented e = rw e refl
 
 -- ---- what each operator asks of its arguments
 
@@ -39,9 +46,13 @@ module _ (s : Step) (m : made s ≡ true) where
   unfolding operator
   order-rule e = args-order (args s) e ∙ made-so s m .rule
 
-  pub adapt-rule : operatorOf (s .operator) ≡ Adapt → isAdapt (args s) ≡ true
-  unfolding operator isArgs
-  adapt-rule e = sym (ap (λ (o : Operator). isArgs o (args s)) e) ∙ made-so s m .rule
+  pub adapt-rule : (mode : Mode) → operatorOf (s .operator) ≡ adaptIn mode → isAdaptIn mode (args s) ≡ true
+  unfolding operator
+  adapt-rule mode e = go mode (sym (ap (λ (o : Operator). isArgs o (args s)) e) ∙ made-so s m .rule)
+    where
+      go : (mode : Mode) → isArgs (adaptIn mode) (args s) ≡ true → isAdaptIn mode (args s) ≡ true
+      go mode-is.Crate h = unfold isArgs adaptIn isAdaptIn in h
+      go mode-is.Documented h = unfold isArgs adaptIn isAdaptIn in h
 
 -- ---- what it does
 
@@ -61,12 +72,13 @@ turned-behind k = go (ltb 8 k) refl
     upTo (suc (suc (suc (suc (suc (suc (suc (suc zero)))))))) h = unfold operatorOf in refl
     upTo (suc (suc (suc (suc (suc (suc (suc (suc (suc k))))))))) h = absurd (omega (arith, h))
 
-    behind : (k : ℕ) (b : Bool) → eqb k 9 ≡ b → 8 < k → describe (operatorOf k) .turned ≡ true
-    behind k true e h = rw (the-order (eqb-true k 9 e)) refl
-    behind k false e h = rw (the-last k h (λ f. never (cc (e, eq-eqb k 9 f)))) refl
+    behind : (k : ℕ) (a b : Bool) → eqb k 9 ≡ a → eqb k 11 ≡ b → 8 < k → describe (operatorOf k) .turned ≡ true
+    behind k true b e f h = rw (the-order (eqb-true k 9 e)) refl
+    behind k false true e f h = rw (the-documented (eqb-true k 11 f)) refl
+    behind k false false e f h = rw (the-last k h (λ g. never (cc (e, eq-eqb k 9 g))) (λ g. never (cc (f, eq-eqb k 11 g)))) refl
 
     go : (b : Bool) → ltb 8 k ≡ b → describe (operatorOf k) .turned ≡ b
-    go true e = behind k (eqb k 9) refl (ltb-true 8 k e)
+    go true e = behind k (eqb k 9) (eqb k 11) refl refl (ltb-true 8 k e)
     go false e = upTo k (ltb-false 8 k e)
 
 module _ (d : Direction) (s : Step) where

@@ -10,6 +10,7 @@ use lib.IntN.{ℤ}
 use Rattle.rules.specs.Operators.PushPop.{isRising}
 use Rattle.rules.specs.Operators.Arguments.{isOrder}
 use Rattle.rules.specs.Operators.Adapt.{isAdapt}
+use Rattle.rules.specs.Operators.Documented.{isDocumented}
 use Rattle.rules.specs.Operators.Descriptions.{Adapt}
 use Rattle.rules.specs.Operators.Table.{isArgs, operatorOf}
 
@@ -23,10 +24,14 @@ pub args-order : {k : ℕ} (l : List ℤ) → k ≡ 9 → isOrder l ≡ isArgs (
 unfolding isArgs operatorOf
 args-order l e = rw e refl
 
--- the last of the operators, by what its number is not
-pub the-last : (k : ℕ) → 8 < k → (k ≡ 9 → ⊥) → operatorOf k ≡ Adapt
+pub args-documented : {k : ℕ} (l : List ℤ) → k ≡ 11 → isDocumented l ≡ isArgs (operatorOf k) l
+unfolding isArgs operatorOf
+args-documented l e = rw e refl
+
+-- the operator of the last arm, by what its number is not
+pub the-last : (k : ℕ) → 8 < k → (k ≡ 9 → ⊥) → (k ≡ 11 → ⊥) → operatorOf k ≡ Adapt
 unfolding operatorOf
-the-last k g n =
+the-last k g n o =
     rw (
       ne-eqb k 0 (λ e. omega (arith, e, g)),
       ne-eqb k 1 (λ e. omega (arith, e, g)),
@@ -38,12 +43,13 @@ the-last k g n =
       ne-eqb k 7 (λ e. omega (arith, e, g)),
       ne-eqb k 8 (λ e. omega (arith, e, g)),
       ne-eqb k 9 n,
+      ne-eqb k 11 o,
     ) (either (eqb k 10))
   where
     either : (b : Bool) → cond b Adapt Adapt ≡ Adapt
     either true = refl
     either false = refl
 
-pub args-adapt : (k : ℕ) (l : List ℤ) → 8 < k → (k ≡ 9 → ⊥) → isAdapt l ≡ isArgs (operatorOf k) l
+pub args-adapt : (k : ℕ) (l : List ℤ) → 8 < k → (k ≡ 9 → ⊥) → (k ≡ 11 → ⊥) → isAdapt l ≡ isArgs (operatorOf k) l
 unfolding isArgs
-args-adapt k l g n = rw (the-last k g n) refl
+args-adapt k l g n o = rw (the-last k g n o) refl

@@ -2,7 +2,9 @@
 use columns::Doing;
 use rules::AXISSWAP;
 use rules::CRATE;
+use rules::DOCUMENTED;
 use rules::Direction;
+use rules::Mode;
 use rules::POP;
 use rules::PUSH;
 use rules::STACK_DROP;
@@ -60,7 +62,8 @@ pub fn act_of(step: Step, direction: Direction) -> Doing
         PUSH | POP => pushpop::act_of(operator, args, n, own),
         STACK_PUSH..=STACK_DROP => stack::act_of(operator, args, n, own),
         AXISSWAP => axisswap::act_of(args, n, own),
-        _ => adapt::act_of(args, n, own),
+        DOCUMENTED => adapt::act_of(args, n, own, Mode::Documented),
+        _ => adapt::act_of(args, n, own, Mode::Crate),
     }
 }
 

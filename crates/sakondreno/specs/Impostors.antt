@@ -20,9 +20,11 @@ use Rattle.rules.specs.Pipeline.Prepare.{prepare, prepareAs}
 use Rattle.rules.specs.Text.Reader.{next}
 use Rattle.rules.specs.Pipeline.Check.{check}
 use Rattle.rules.specs.Pipeline.Run.{runs}
-use Rattle.rules.specs.Pipeline.Record.{readingOf, blank}
+use Rattle.rules.specs.Pipeline.Record.{readingOf, stepWith, blank}
 use Rattle.rules.specs.Examples.{on, records, oneToFour}
 use Rattle.rules.specs.Opened.{opened}
+use Rattle.rules.specs.declared.Mode.{Mode}
+use Rattle.rules.specs.declared.Mode.the-variants as mode-is
 use Rattle.rules.specs.declared.Reading.{Reading}
 use Rattle.rules.specs.declared.Reading.the-variants.{Crate, Proj}
 use Rattle.rules.specs.declared.Step.{Step}
@@ -30,7 +32,7 @@ use Rattle.rules.specs.declared.Answer.{Answer}
 use Rattle.rules.specs.declared.Part.{Part}
 use Rattle.rules.specs.declared.Checked.{Checked}
 use Rattle.rules.specs.declared.Done.{Done}
-use Rattle.rules.specs.Face.Plain.{plainWritten, replied, plainFound, plainPrepared, recordCount, directionOf, plainVerdict, plainCheck, PlainChecks, plainRan, PlainOutcome, plainOutcome, PlainRuns}
+use Rattle.rules.specs.Face.Plain.{plainWritten, replied, plainFound, plainPrepared, recordCount, modeOf, directionOf, plainVerdict, plainCheck, PlainChecks, plainRan, PlainOutcome, plainOutcome, PlainRuns}
 
 no : {k : ℕ} → 0 ≡ suc k → ⊥
 no z = omega arith
@@ -114,24 +116,55 @@ tells-prepare =
       altered = λ e. no (ap operatorOfFirst e);
     }
 
--- of preparing in a reading, likewise
-pub tells-prepare-as : (how : Reading) → Telling recordCount (prepareAs how)
+-- of preparing in a reading and a mode, likewise
+module _ (how : Reading) (mode : Mode) where
+  abbrev own : Bytes → Reply (List Step)
+  own = prepareAs how mode
+
+  tells-pop : _≡_ {A = Answer × List Step} (outcome recordCount own [] []) (record { number = 0; place = 0; length = 0 }, [])
+      → _≡_ {A = Answer × List Step} (outcome recordCount own (ascii "pop") (blank ∷ [])) (record { number = 0; place = 0; length = 1 }, records (on own "pop"))
+      → operatorOfFirst (records (on own "pop")) ≡ 1 → Telling recordCount own
+  unfolding operatorOfFirst blank stepWith
+  tells-pop e f g =
+      record {
+        nothing = e;
+        text = ascii "pop";
+        storage = blank ∷ [];
+        more = 0;
+        after = records (on own "pop");
+        something = f;
+        altered = λ h. no (ap operatorOfFirst h ∙ g);
+      }
+
+pub tells-prepare-as : (how : Reading) (mode : Mode) → Telling recordCount (prepareAs how mode)
 unfolding opened plainPrepared operatorOfFirst
-tells-prepare-as Crate =
-    record { nothing = refl; text = ascii "pop"; storage = blank ∷ []; more = 0; after = records (on (prepareAs Crate) "pop"); something = refl; altered = λ e. no (ap operatorOfFirst e) }
-tells-prepare-as Proj =
-    record { nothing = refl; text = ascii "pop"; storage = blank ∷ []; more = 0; after = records (on (prepareAs Proj) "pop"); something = refl; altered = λ e. no (ap operatorOfFirst e) }
+tells-prepare-as Crate mode-is.Crate = tells-pop Crate mode-is.Crate refl refl refl
+tells-prepare-as Crate mode-is.Documented = tells-pop Crate mode-is.Documented refl refl refl
+tells-prepare-as Proj mode-is.Crate = tells-pop Proj mode-is.Crate refl refl refl
+tells-prepare-as Proj mode-is.Documented = tells-pop Proj mode-is.Documented refl refl refl
 
 -- The reading forgotten: the same records whatever is asked
 readingOfFirst : List Step → ℕ
 readingOfFirst [] = 0
 readingOfFirst (s ∷ l) = s .reading
 
-pub reading-forgotten : (program : Bytes → List Step → Answer × List Step) → ((reading : ℕ) → Meets recordCount (prepareAs (readingOf reading)) program) → ⊥
+pub reading-forgotten : (program : ℕ → Bytes → List Step → Answer × List Step)
+    → ((reading mode : ℕ) → Meets recordCount (prepareAs (readingOf reading) (modeOf mode)) (program mode)) → ⊥
 unfolding opened plainPrepared readingOfFirst
 reading-forgotten program meets =
-    no (sym (ap (λ (x : Answer × List Step). readingOfFirst (x .1)) (meets 0 (ascii "push") (blank ∷ []) .exactly))
-    ∙ ap (λ (x : Answer × List Step). readingOfFirst (x .1)) (meets 1 (ascii "push") (blank ∷ []) .exactly))
+    no (sym (ap (λ (x : Answer × List Step). readingOfFirst (x .1)) (meets 0 0 (ascii "push") (blank ∷ []) .exactly))
+    ∙ ap (λ (x : Answer × List Step). readingOfFirst (x .1)) (meets 1 0 (ascii "push") (blank ∷ []) .exactly))
+
+-- The mode forgotten: likewise
+pub mode-forgotten : (program : ℕ → Bytes → List Step → Answer × List Step)
+    → ((reading mode : ℕ) → Meets recordCount (prepareAs (readingOf reading) (modeOf mode)) (program reading)) → ⊥
+unfolding opened plainPrepared operatorOfFirst
+mode-forgotten program meets =
+    ten-eleven (sym (ap (λ (x : Answer × List Step). operatorOfFirst (x .1)) (meets 0 0 (ascii "adapt") (blank ∷ []) .exactly))
+    ∙ ap (λ (x : Answer × List Step). operatorOfFirst (x .1)) (meets 0 1 (ascii "adapt") (blank ∷ []) .exactly))
+  where
+    ten-eleven : _≡_ {A = ℕ} 10 11 → ⊥
+    ten-eleven z = omega arith
 
 -- ---- the walk over the steps
 

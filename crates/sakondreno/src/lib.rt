@@ -19,6 +19,7 @@ pub use rules::Direction;
 pub use rules::Done;
 pub use rules::Foretold;
 pub use rules::Found;
+pub use rules::Mode;
 pub use rules::Part;
 pub use rules::Place;
 pub use rules::Prepared;
@@ -41,7 +42,7 @@ ghost use Rattle.rules.specs.Proj.Translate.{translate};
 ghost use Rattle.rules.specs.Pipeline.Record.{readingOf};
 ghost use Rattle.rules.specs.Pipeline.Prepare.{prepare, prepareAs};
 ghost use Rattle.rules.specs.Text.Reader.{next};
-ghost use Rattle.rules.specs.Face.Plain.{replied, plainFound, recordCount, PlainChecks, PlainRuns};
+ghost use Rattle.rules.specs.Face.Plain.{replied, plainFound, recordCount, modeOf, PlainChecks, PlainRuns};
 
 // Brings a definition into its normal form.
 #[no_mangle]
@@ -97,13 +98,19 @@ pub extern "C" fn sakondreno_prepare(text: &[u8], table: &mut [Step]) -> Answer
     plain::counted(p)
 }
 
-// The same in a reading: 0 is the crate's, any other number PROJ's.
+// The same in a reading and a mode: 0 is the crate's, any other number PROJ's reading or the documented mode.
 #[no_mangle]
-pub extern "C" fn sakondreno_prepare_as(text: &[u8], reading: u8, table: &mut [Step]) -> Answer
-    ensures { λ r. ⌜ Promised recordCount (prepareAs (readingOf reading)) (now (text .entry)) (now (table .entry)) r (now (table .exit)) ⌝ }
+pub extern "C" fn sakondreno_prepare_as(
+    text: &[u8],
+    reading: u8,
+    mode: u8,
+    table: &mut [Step],
+) -> Answer
+    ensures { λ r. ⌜ Promised recordCount (prepareAs (readingOf reading) (modeOf mode)) (now (text .entry)) (now (table .entry)) r (now (table .exit)) ⌝ }
 {
     let how = plain::reading_of(reading);
-    let p = entry::prepare_as(text, how, table);
+    let page = plain::mode_of(mode);
+    let p = entry::prepare_as(text, how, page, table);
     plain::counted(p)
 }
 

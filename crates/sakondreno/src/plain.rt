@@ -7,6 +7,7 @@ use rules::Direction;
 use rules::Done;
 use rules::Foretold;
 use rules::Found;
+use rules::Mode;
 use rules::Part;
 use rules::Prepared;
 use rules::Ran;
@@ -16,7 +17,7 @@ use rules::Verdict;
 use rules::Written;
 ghost use mathlib.Core.Path.{_≡_};
 ghost use Rattle.rules.specs.Pipeline.Record.{readingOf};
-ghost use Rattle.rules.specs.Face.Plain.{plainWritten, plainFound, plainPrepared, directionOf, plainVerdict, plainCheck, plainRan};
+ghost use Rattle.rules.specs.Face.Plain.{plainWritten, plainFound, plainPrepared, modeOf, directionOf, plainVerdict, plainCheck, plainRan};
 
 pub fn answered(w: Written) -> Answer
     ensures { λ r. ⌜ r ≡ plainWritten w ⌝ }
@@ -83,6 +84,16 @@ pub fn reading_of(number: u8) -> Reading
         return Reading::Crate;
     }
     Reading::Proj
+}
+
+// 0 is the crate's mode, any other number the documented.
+pub fn mode_of(number: u8) -> Mode
+    ensures { λ r. ⌜ r ≡ modeOf number ⌝ }
+{
+    if number == 0 {
+        return Mode::Crate;
+    }
+    Mode::Documented
 }
 
 // 0 is forward, any other number inverse.

@@ -14,6 +14,7 @@ use Rattle.rules.specs.Text.Split.{line, split}
 use Rattle.rules.specs.Proj.Translate.{translate}
 use Rattle.rules.specs.Pipeline.Prepare.{prepareAs}
 use Rattle.laws_lists.specs.Tests.{never}
+use Rattle.rules.specs.declared.Mode.{Mode}
 use Rattle.rules.specs.declared.Reading.{Reading}
 use Rattle.rules.specs.declared.Step.{Step}
 use Rattle.rules.specs.declared.Written.{Written}
@@ -88,27 +89,27 @@ called-refused {own} {t} {buf} {r} {buf′} {n} {place} e w l =
 
 -- ---- what is printed then
 
-module _ (r : Reading) (t : Bytes) where
-  pub steps-refused : {n place : ℕ} → called split t ≡ refuses n place → shownSteps r t ≡ line (refusalText n place)
+module _ (r : Reading) (mode : Mode) (t : Bytes) where
+  pub steps-refused : {n place : ℕ} → called split t ≡ refuses n place → shownSteps r mode t ≡ line (refusalText n place)
   unfolding shownSteps orRefused
   steps-refused e = rw e
 
-  pub steps-wrote : {lines : Bytes} → called split t ≡ answers lines → shownSteps r t ≡ headed 1 false lines ++ shownChecks r t
+  pub steps-wrote : {lines : Bytes} → called split t ≡ answers lines → shownSteps r mode t ≡ headed 1 false lines ++ shownChecks r mode t
   unfolding shownSteps orRefused
   steps-wrote e = rw e
 
-  pub text-refused : {n place : ℕ} → called translate t ≡ refuses n place → shown r t ≡ line (refusalText n place)
+  pub text-refused : {n place : ℕ} → called translate t ≡ refuses n place → shown r mode t ≡ line (refusalText n place)
   unfolding shown orRefused
   text-refused e = rw e
 
-  pub text-wrote : {u : Bytes} → called translate t ≡ answers u → shown r t ≡ translatedLine u ++ shownSteps r u
+  pub text-wrote : {u : Bytes} → called translate t ≡ answers u → shown r mode t ≡ translatedLine u ++ shownSteps r mode u
   unfolding shown orRefused
   text-wrote e = rw e
 
-  pub checks-refused : {n place : ℕ} → tested (prepareAs r) t ≡ refuses n place → shownChecks r t ≡ line (refusalText n place)
+  pub checks-refused : {n place : ℕ} → tested (prepareAs r mode) t ≡ refuses n place → shownChecks r mode t ≡ line (refusalText n place)
   unfolding shownChecks orRefused
   checks-refused e = rw e
 
-  pub checks-told : {ss : List Step} → tested (prepareAs r) t ≡ answers ss → shownChecks r t ≡ bothChecks ss
+  pub checks-told : {ss : List Step} → tested (prepareAs r mode) t ≡ answers ss → shownChecks r mode t ≡ bothChecks ss
   unfolding shownChecks orRefused
   checks-told e = rw e

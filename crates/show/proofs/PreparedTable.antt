@@ -1,4 +1,4 @@
--- What preparing in a reading leaves in a table of 64 blank records.
+-- What preparing in a reading and a mode leaves in a table of 64 blank records.
 use mathlib.Core.Path.{_≡_, refl, sym, ap, _∙_, subst}
 use Prim.Native.Nat.{ℕ, _-_, _≤_}
 use mathlib.Core.List.{List, _++_, append-assoc, append-nil}
@@ -11,6 +11,7 @@ use Rattle.rules.specs.Text.Refusal.{Reply, answers, refuses, tested, lent, pre
 use Rattle.rules.specs.Pipeline.Prepare.{prepareAs}
 use Rattle.rules.specs.Pipeline.Record.{listed}
 use Rattle.laws_lists.specs.Tests.{never}
+use Rattle.rules.specs.declared.Mode.{Mode}
 use Rattle.rules.specs.declared.Reading.{Reading}
 use Rattle.rules.specs.declared.Step.{Step}
 use Rattle.rules.specs.declared.Table.{Table}
@@ -51,13 +52,13 @@ told (answers xs) few =
     room : length xs ≤ length (take 64 blanks)
     room = unfold blanks in few
 
-module _ (r : Reading) (t : Bytes) {e : Table} {q : Preparing} (f : e ≡ emptied 64) (g : q ≡ preparingAs r t e) where
-  all-told : Told (tested (prepareAs r) t) q
+module _ (r : Reading) (mode : Mode) (t : Bytes) {e : Table} {q : Preparing} (f : e ≡ emptied 64) (g : q ≡ preparingAs r mode t e) where
+  all-told : Told (tested (prepareAs r mode) t) q
   unfolding preparingAs
-  all-told = subst (Told (tested (prepareAs r) t)) (sym (g ∙ ap (preparingAs r t) f)) (told (tested (prepareAs r) t) (prepared-few r t))
+  all-told = subst (Told (tested (prepareAs r mode) t)) (sym (g ∙ ap (preparingAs r mode t) f)) (told (tested (prepareAs r mode) t) (prepared-few r mode t))
 
-  pub prepare-refused : {n place : ℕ} → q .answer ≡ variant.Refused n place → tested (prepareAs r) t ≡ refuses n place
+  pub prepare-refused : {n place : ℕ} → q .answer ≡ variant.Refused n place → tested (prepareAs r mode) t ≡ refuses n place
   prepare-refused {n} {place} h = all-told .refusal n place h
 
-  pub prepare-steps : {n : ℕ} {u : Table} → q .answer ≡ variant.Steps n → u ≡ tabled (q .table .steps) n → tested (prepareAs r) t ≡ answers (listed u)
+  pub prepare-steps : {n : ℕ} {u : Table} → q .answer ≡ variant.Steps n → u ≡ tabled (q .table .steps) n → tested (prepareAs r mode) t ≡ answers (listed u)
   prepare-steps {n} {u} h k = all-told .records n h ∙ ap (λ (x : Table). answers (listed x)) (sym k)

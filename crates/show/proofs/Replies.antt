@@ -12,6 +12,7 @@ use Rattle.rules.specs.Text.Refusal.{Reply, answers, refuses, andThen, tested}
 use Rattle.rules.specs.Text.Split.{onlyModifiers, stepText, splitSteps}
 use Rattle.rules.specs.Pipeline.Prepare.{prepareAs}
 use Rattle.laws_records.specs.Made.{prepare-as-made}
+use Rattle.rules.specs.declared.Mode.{Mode}
 use Rattle.rules.specs.declared.Reading.{Reading}
 use Rattle.rules.specs.declared.Step.{Step}
 
@@ -59,9 +60,9 @@ split-made ss = go (anyOf onlyModifiers ss) (ltb 64 (length ss)) refl
     go false true e = zero-le
     go false false e = record { are = refl; few = rw (length-map ss stepText) (ltb-false 64 (length ss) e) }
 
--- and so many records at most, in either reading
+-- and so many records at most, in either reading and either mode
 abbrev pub AtMost : ℕ → List Step → Type 0
 AtMost n l = length l ≤ n
 
-pub prepared-few : (r : Reading) (t : Bytes) → Of (AtMost 64) (tested (prepareAs r) t)
-prepared-few r t = of-tested (AtMost 64) (prepareAs r) t (of-answers (AtMost 64) (prepareAs r t) (λ l e. prepare-as-made r t l e .1))
+pub prepared-few : (r : Reading) (mode : Mode) (t : Bytes) → Of (AtMost 64) (tested (prepareAs r mode) t)
+prepared-few r mode t = of-tested (AtMost 64) (prepareAs r mode) t (of-answers (AtMost 64) (prepareAs r mode t) (λ l e. prepare-as-made r mode t l e .1))

@@ -14,8 +14,9 @@ use Rattle.rules.specs.Text.Normal.{normal}
 use Rattle.rules.specs.Text.Comments.{stripped}
 use Rattle.rules.specs.Text.Split.{line, steps, splitSteps, split}
 use Rattle.rules.specs.Proj.Translate.{translate}
-use Rattle.rules.specs.Pipeline.Prepare.{prepare, prepareAs}
+use Rattle.rules.specs.Pipeline.Prepare.{prepareIn, prepareAs}
 use Rattle.rules.specs.Pipeline.Check.{nth, check}
+use Rattle.rules.specs.declared.Mode.{Mode}
 use Rattle.rules.specs.declared.Reading.{Reading}
 use Rattle.rules.specs.declared.Step.{Step}
 use Rattle.rules.specs.declared.Place.{Place}
@@ -98,10 +99,10 @@ step-length : (k : ℕ) (w : Bytes) → Small k → length (counted (ascii "step
 unfolding ascii
 step-length k w h = omega (arith, length-append (counted (ascii "step ") k) w, counted-length (ascii "step ") k h)
 
--- of a table that was prepared in a reading
-module _ (r : Reading) (t : Bytes) (ss : List Step) (e : prepareAs r t ≡ answers ss) where
+-- of a table that was prepared in a reading and a mode
+module _ (r : Reading) (mode : Mode) (t : Bytes) (ss : List Step) (e : prepareAs r mode t ≡ answers ss) where
   step-small : (k : ℕ) → k ≤ length ss → Small k
-  step-small k h = omega (arith, prepare-as-made r t ss e .1)
+  step-small k h = omega (arith, prepare-as-made r mode t ss e .1)
 
   judged-length : (d : Direction) (v : Verdict) → check d ss .verdict ≡ v → length (verdictText v (check d ss)) ≤ 59
   unfolding verdictText ascii
@@ -110,7 +111,7 @@ module _ (r : Reading) (t : Bytes) (ss : List Step) (e : prepareAs r t ≡ answe
       passed-length (check d ss) (omega arith) (omega arith) (foretells d ss [] h .named)
   judged-length d (TooFew k) h = omega (arith, step-length k (ascii " too few") (step-small k (few-within d ss k h)))
   judged-length d (TooMany k) h = omega (arith, step-length k (ascii " too many") (step-small k (many-within d ss k h)))
-  judged-length d (Refused n k) h = absurd (check-never-18 r t ss e d n k h)
+  judged-length d (Refused n k) h = absurd (check-never-18 r mode t ss e d n k h)
 
   verdict-length : (w : Bytes) (d : Direction) → length (verdictLine w (check d ss)) ≤ length w + 60
   unfolding verdictLine
@@ -210,26 +211,27 @@ of-a-step k s =
       own = (omega arith, s);
     }
 
--- either reading refuses what `prepare` refuses, by the same number at the same place
-prepare-small : (r : Reading) (t : Bytes) → length t ≤ 4096 → Refusing BothSmall (prepareAs r t)
+-- either reading refuses what preparing in the mode refuses, by the same number at the same place
+prepare-small : (r : Reading) (mode : Mode) (t : Bytes) → length t ≤ 4096 → Refusing BothSmall (prepareAs r mode t)
 unfolding prepareAs Refusing
-prepare-small r t l =
-    then-refuses BothSmall (prepare t) _ (prepare-refuses BothSmall t (λ k h. of-a-step k (omega (arith, steps-few t))) (omega arith)) (λ ss e. tt)
+prepare-small r mode t l =
+    then-refuses BothSmall (prepareIn mode t) _ (prepare-refuses BothSmall mode t (λ k h. of-a-step k (omega (arith, steps-few t))) (omega arith)) (λ ss e. tt)
 
-shown-checks-length : (r : Reading) (t : Bytes) → length (shownChecks r t) ≤ 138
+shown-checks-length : (r : Reading) (mode : Mode) (t : Bytes) → length (shownChecks r mode t) ≤ 138
 unfolding shownChecks
-shown-checks-length r t =
-    let reply = tested (prepareAs r) t in
+shown-checks-length r mode t =
+    let reply = tested (prepareAs r mode) t in
     let Is : List Step → Type 0 = λ ss. reply ≡ answers ss in
-    printed Is reply bothChecks 138 (omega arith) (tested-refuses BothSmall (prepareAs r) t (omega arith) (omega arith) (prepare-small r t)) (of-answers Is reply (λ ss e. e))
-    (λ ss e. checks-length r t ss (tested-answers (prepareAs r) t ss e))
+    printed Is reply bothChecks 138 (omega arith) (tested-refuses BothSmall (prepareAs r mode) t (omega arith) (omega arith) (prepare-small r mode t))
+    (of-answers Is reply (λ ss e. e))
+    (λ ss e. checks-length r mode t ss (tested-answers (prepareAs r mode) t ss e))
 
-shown-steps-length : (r : Reading) (t : Bytes) → length (shownSteps r t) ≤ 66442
+shown-steps-length : (r : Reading) (mode : Mode) (t : Bytes) → length (shownSteps r mode t) ≤ 66442
 unfolding shownSteps
-shown-steps-length r t =
-    printed (Fits Lines) (called split t) (λ lines. headed 1 false lines ++ shownChecks r t) 66442 (omega arith) (called-small split t (split-small t))
+shown-steps-length r mode t =
+    printed (Fits Lines) (called split t) (λ lines. headed 1 false lines ++ shownChecks r mode t) 66442 (omega arith) (called-small split t (split-small t))
     (called-fits Lines split t (split-lines t))
-    (λ lines m. omega (arith, length-append (headed 1 false lines) (shownChecks r t), m .size, m .holds .fits, shown-checks-length r t))
+    (λ lines m. omega (arith, length-append (headed 1 false lines) (shownChecks r mode t), m .size, m .holds .fits, shown-checks-length r mode t))
 
 -- any text
 any-text : (r : Reply Bytes) → Of (λ t. 0 ≤ length t) r
@@ -241,13 +243,13 @@ translation-length : (t : Bytes) → length (translatedLine t) ≡ length t + 13
 unfolding translatedLine ascii
 translation-length t = omega (arith, line-length (ascii "translated: " ++ t), length-append (ascii "translated: ") t)
 
-pub shown-length : (r : Reading) (text : Bytes) → length (shown r text) ≤ 139264
+pub shown-length : (r : Reading) (mode : Mode) (text : Bytes) → length (shown r mode text) ≤ 139264
 unfolding shown
-shown-length r text =
-    printed (Fits (λ t. 0 ≤ length t)) (called translate text) (λ t. translatedLine t ++ shownSteps r t) 139264 (omega arith)
+shown-length r mode text =
+    printed (Fits (λ t. 0 ≤ length t)) (called translate text) (λ t. translatedLine t ++ shownSteps r mode t) 139264 (omega arith)
     (called-small translate text (translate-small text))
     (called-fits (λ t. 0 ≤ length t) translate text (any-text (translate text)))
-    (λ t m. omega (arith, length-append (translatedLine t) (shownSteps r t), translation-length t, m .size, shown-steps-length r t))
+    (λ t m. omega (arith, length-append (translatedLine t) (shownSteps r mode t), translation-length t, m .size, shown-steps-length r mode t))
 
-pub shown-room : (r : Reading) (text d : Bytes) → 139264 ≤ length d → 0 + length (shown r text) ≤ length d
-shown-room r text d h = omega (arith, shown-length r text)
+pub shown-room : (r : Reading) (mode : Mode) (text d : Bytes) → 139264 ≤ length d → 0 + length (shown r mode text) ≤ length d
+shown-room r mode text d h = omega (arith, shown-length r mode text)

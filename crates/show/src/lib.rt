@@ -9,6 +9,7 @@ use pieces::say_refusal;
 use pieces::say_steps;
 use prepare::prepare_as;
 use proj::translate;
+use rules::Mode;
 use rules::Prepared;
 use rules::Reading;
 use rules::Table;
@@ -33,11 +34,11 @@ fn first_of(table: Table, n: usize) -> Table
 }
 
 // "prepares, then checks"
-fn show_checks(text: &[u8], reading: Reading, out: &mut [u8], at: usize) -> usize
-    requires { ⌜ at + length (shownChecks reading (now text)) ≤ length (now out) ⌝ }
-    ensures { λ r. ⌜ WroteAt (shownChecks reading (now (text .entry))) (now (out .entry)) at r (now (out .exit)) ⌝ }
+fn show_checks(text: &[u8], reading: Reading, mode: Mode, out: &mut [u8], at: usize) -> usize
+    requires { ⌜ at + length (shownChecks reading mode (now text)) ≤ length (now out) ⌝ }
+    ensures { λ r. ⌜ WroteAt (shownChecks reading mode (now (text .entry))) (now (out .entry)) at r (now (out .exit)) ⌝ }
 {
-    let p = prepare_as(text, reading, rows::empty(64));
+    let p = prepare_as(text, reading, mode, rows::empty(64));
     let answer = p.answer;
     match answer {
         Prepared::Steps(n) => {
@@ -50,23 +51,37 @@ fn show_checks(text: &[u8], reading: Reading, out: &mut [u8], at: usize) -> usiz
 }
 
 // What is said of the lines that splitting wrote, and the checks behind it.
-fn show_lines(lines: &[u8], text: &[u8], reading: Reading, out: &mut [u8], at: usize) -> usize
-    requires { ⌜ at + length (headed 1 false (now lines) ++ shownChecks reading (now text)) ≤ length (now out) ⌝ }
-    ensures { λ r. ⌜ WroteAt (headed 1 false (now (lines .entry)) ++ shownChecks reading (now (text .entry))) (now (out .entry)) at r (now (out .exit)) ⌝ }
+fn show_lines(
+    lines: &[u8],
+    text: &[u8],
+    reading: Reading,
+    mode: Mode,
+    out: &mut [u8],
+    at: usize,
+) -> usize
+    requires { ⌜ at + length (headed 1 false (now lines) ++ shownChecks reading mode (now text)) ≤ length (now out) ⌝ }
+    ensures { λ r. ⌜ WroteAt (headed 1 false (now (lines .entry)) ++ shownChecks reading mode (now (text .entry))) (now (out .entry)) at r (now (out .exit)) ⌝ }
 {
     let o = say_steps(lines, out, at);
-    show_checks(text, reading, out, o)
+    show_checks(text, reading, mode, out, o)
 }
 
 // "splits", and what follows; b is lent to splitting.
-fn show_steps(text: &[u8], reading: Reading, b: &mut [u8], out: &mut [u8], at: usize) -> usize
+fn show_steps(
+    text: &[u8],
+    reading: Reading,
+    mode: Mode,
+    b: &mut [u8],
+    out: &mut [u8],
+    at: usize,
+) -> usize
     requires { ⌜ length (now b) ≡ 65536 ⌝ }
-    requires { ⌜ at + length (shownSteps reading (now text)) ≤ length (now out) ⌝ }
-    ensures { λ r. ⌜ WroteAt (shownSteps reading (now (text .entry))) (now (out .entry)) at r (now (out .exit)) ⌝ }
+    requires { ⌜ at + length (shownSteps reading mode (now text)) ≤ length (now out) ⌝ }
+    ensures { λ r. ⌜ WroteAt (shownSteps reading mode (now (text .entry))) (now (out .entry)) at r (now (out .exit)) ⌝ }
 {
     let written = split(text, b);
     match written {
-        Written::Wrote(n) => show_lines(&b[..n], text, reading, out, at),
+        Written::Wrote(n) => show_lines(&b[..n], text, reading, mode, out, at),
         Written::Refused { number, place } => say_refusal(number, place, out, at),
     }
 }
@@ -91,25 +106,39 @@ fn say_translation(text: &[u8], out: &mut [u8], at: usize) -> usize
 }
 
 // What is said of a translation, and what follows; b is lent to splitting.
-fn show_translation(text: &[u8], reading: Reading, b: &mut [u8], out: &mut [u8], at: usize) -> usize
+fn show_translation(
+    text: &[u8],
+    reading: Reading,
+    mode: Mode,
+    b: &mut [u8],
+    out: &mut [u8],
+    at: usize,
+) -> usize
     requires { ⌜ length (now b) ≡ 65536 ⌝ }
-    requires { ⌜ at + length (translatedLine (now text) ++ shownSteps reading (now text)) ≤ length (now out) ⌝ }
-    ensures { λ r. ⌜ WroteAt (translatedLine (now (text .entry)) ++ shownSteps reading (now (text .entry))) (now (out .entry)) at r (now (out .exit)) ⌝ }
+    requires { ⌜ at + length (translatedLine (now text) ++ shownSteps reading mode (now text)) ≤ length (now out) ⌝ }
+    ensures { λ r. ⌜ WroteAt (translatedLine (now (text .entry)) ++ shownSteps reading mode (now (text .entry))) (now (out .entry)) at r (now (out .exit)) ⌝ }
 {
     let o = say_translation(text, out, at);
-    show_steps(text, reading, b, out, o)
+    show_steps(text, reading, mode, b, out, o)
 }
 
-// All that is printed of a definition in a reading. a is lent to translating, b to splitting; out has room for the most that can be printed.
-pub fn show(text: &[u8], reading: Reading, a: &mut [u8], b: &mut [u8], out: &mut [u8]) -> usize
+// All that is printed of a definition in a reading and a mode. a is lent to translating, b to splitting; out has room for the most that can be printed.
+pub fn show(
+    text: &[u8],
+    reading: Reading,
+    mode: Mode,
+    a: &mut [u8],
+    b: &mut [u8],
+    out: &mut [u8],
+) -> usize
     requires { ⌜ length (now a) ≡ 65536 ⌝ }
     requires { ⌜ length (now b) ≡ 65536 ⌝ }
     requires { ⌜ 139264 ≤ length (now out) ⌝ }
-    ensures { λ r. ⌜ Wrote (shown reading (now (text .entry))) (now (out .entry)) r (now (out .exit)) ⌝ }
+    ensures { λ r. ⌜ Wrote (shown reading mode (now (text .entry))) (now (out .entry)) r (now (out .exit)) ⌝ }
 {
     let written = translate(text, a);
     match written {
-        Written::Wrote(n) => show_translation(&a[..n], reading, b, out, 0),
+        Written::Wrote(n) => show_translation(&a[..n], reading, mode, b, out, 0),
         Written::Refused { number, place } => say_refusal(number, place, out, 0),
     }
 }

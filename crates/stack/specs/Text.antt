@@ -1,7 +1,7 @@
 -- The text of an action before its arguments.
 use Rattle.rules.specs.Text.Ascii.{ascii}
 use Rattle.rules.specs.Text.Bytes.{Bytes}
-use Rattle.rules.specs.Operators.Descriptions.{Operator, Push, Pop, StackPush, StackPop, StackFlip, StackRoll, StackUnroll, StackSwap, StackDrop, Axisswap, Adapt}
+use Rattle.rules.specs.Operators.Descriptions.{Operator, Push, Pop, StackPush, StackPop, StackFlip, StackRoll, StackUnroll, StackSwap, StackDrop, Axisswap, Adapt, Documented}
 use mathlib.Core.List.{[]}
 
 unfoldable pub actionText : Operator → Bytes
@@ -16,3 +16,4 @@ actionText StackSwap = ascii "stack swap"
 actionText StackDrop = ascii "stack drop"
 actionText Axisswap = []
 actionText Adapt = []
+actionText Documented = []

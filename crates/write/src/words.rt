@@ -1,5 +1,6 @@
 // The text of one record: the operator's words, and the marks.
 use rules::AXISSWAP;
+use rules::DOCUMENTED;
 use rules::POP;
 use rules::PUSH;
 use rules::STACK_DROP;
@@ -26,6 +27,7 @@ fn words(operator: u8, l: &[i32], out: &mut [u8], o: usize) -> usize
         PUSH | POP => pushpop::write_words(operator, l, out, o),
         STACK_PUSH..=STACK_DROP => stack::write_words(operator, l, out, o),
         AXISSWAP => axisswap::write_words(l, out, o),
+        DOCUMENTED => adapt::write_documented(l, out, o),
         _ => adapt::write_words(l, out, o),
     }
 }

@@ -44,6 +44,7 @@ use Rattle.rules.proofs.Foretold as N
 use Rattle.rules.proofs.Foretold.Laws as N′
 use Rattle.byhand.proofs.Callee.{calls-known}
 use Rattle.byhand.proofs.Close.{here, closes}
+use Rattle.byhand.proofs.Enums.{Row-of, Is-of, val-of, vals-of, tells-of, makes-of, typed-of}
 use Rattle.rows.specs.Row.{loaded}
 use Rattle.rows.proofs.StepType.{R}
 use Rattle.rows.proofs.TableType.{Tab, tab-vals, tab-is, tab-has, tab-makes, tab-typed}
@@ -56,14 +57,14 @@ use Rattle.foretell.proofs.check.Symbol as table-def
 use Rattle.foretell.proofs.check.Symbol.{name as #foretell·check}
 use Rattle.foretell.proofs.check.Met as table-thm
 use Rattle.entry.specs.TableOfRow.{check-stands}
-use Rattle.entry.proofs.DirectionType.{Way, way-val, way-vals, way-tells, way-makes, way-typed}
+use Rattle.entry.proofs.Choices.{Way}
 use Rattle.entry.proofs.check.Key.{name as #entry·check}
 use Rattle.entry.proofs.check as check′
 use Rattle.entry.proofs.check.Statement as stated
 use Rattle.entry.proofs.check.Code as code
 
 abbrev stayed : Stays (check′.ended .signature .params) (check′.ended .kept)
-stayed = (stay-none-slice (0 ∷ []) tt (plain (λ _. R)) yes, (stay-none (λ _. Way) yes, tt))
+stayed = (stay-none-slice (0 ∷ []) tt (plain (λ _. R)) yes, (stay-none (λ _. Row-of Way) yes, tt))
 
 module _ {M : Type 1} (𝓤 : URA M) (H : Heap 𝓤) (A : Atoms 𝓤) (mem : Memory → SProp 𝓤) (run : Routine → Fun 𝓤) where
   -- the contracts that the proof cites
@@ -74,13 +75,13 @@ module _ {M : Type 1} (𝓤 : URA M) (H : Heap 𝓤) (A : Atoms 𝓤) (mem : Mem
   CheckTable = tripleOf 𝓤 H A table.signature (table.spec 𝓤 H A mem run)
 
 module _ {M : Type 1} (𝓤 : URA M) (H : Heap 𝓤) (A : Atoms 𝓤) (W : Given 𝓤 H A) (mem : Memory → SProp 𝓤) (run : Routine → Fun 𝓤) (κ : Lft) (q : Share) (s : RefT (List Step)) (way : Direction)
-    (room : Room R (length (now s))) (is-way : Is Way way (way-vals way)) where
+    (room : Room R (length (now s))) (is-way : Is-of Way way (vals-of Way way)) where
   -- the row's machine value
   abbrev v : Val
   v = sliceVal (s .ptr) (length (now s))
 
   abbrev at : Vals check′.signature (κ, tt)
-  at = (v ∷ [], (way-val way ∷ [], tt))
+  at = (v ∷ [], (val-of Way way ∷ [], tt))
 
   -- the table that stands for the row
   abbrev t : Table
@@ -99,7 +100,7 @@ module _ {M : Type 1} (𝓤 : URA M) (H : Heap 𝓤) (A : Atoms 𝓤) (W : Given
       says ! (record { exactly = e .exactly ∙ check-stands (now s) way }) $
       nothing ! $ move ! (2 ∷ 0 ∷ []) $ join ! $ frame ! $
       -- [the result; what the row owns]
-      nothing ! $ owned ! Way (Is Way) (way-makes 𝓤 H A) way _ is-way $ fjoin ! $ move ! (2 ∷ 0 ∷ []) $ fjoin ! $ frame ! $ done !
+      nothing ! $ owned ! (Row-of Way) (Is-of Way) (makes-of Way 𝓤 H A) way _ is-way $ fjoin ! $ move ! (2 ∷ 0 ∷ []) $ fjoin ! $ frame ! $ done !
 
   abbrev to-load : Load 𝓤 H A mem run .Ghost
   to-load = (((κ, tt), (q, tt), tt, (s, tt), (v ∷ [], tt)), tt)
@@ -108,19 +109,20 @@ module _ {M : Type 1} (𝓤 : URA M) (H : Heap 𝓤) (A : Atoms 𝓤) (W : Given
   goes-load = qed W (‵ (flft κ q) ∷ ‵ Row ∷ []) ∵ nothing ! $ move ! (2 ∷ 0 ∷ []) $ fjoin ! $ nothing ! $ move ! (2 ∷ 0 ∷ []) $ join ! $ join ! $ frame ! $ done !
 
   abbrev to-table : CheckTable 𝓤 H A mem run .Ghost
-  to-table = ((tt, tt, tt, (t, (way, tt)), (tab-vals t, (way-val way ∷ [], tt))), tt)
+  to-table = ((tt, tt, tt, (t, (way, tt)), (tab-vals t, (val-of Way way ∷ [], tt))), tt)
 
   goes-table : Is Tab t (tab-vals t) → ent 𝓤 (emp 𝓤) (CheckTable 𝓤 H A mem run .pre to-table)
   goes-table is =
-      qed W [] ∵ nothing ! $ owned ! Way (Is Way) (way-makes 𝓤 H A) way _ is-way $ fjoin ! $ owned ! Tab (Is Tab) (tab-makes 𝓤 H A) t _ is $ fjoin ! $
+      qed W [] ∵ nothing ! $ owned ! (Row-of Way) (Is-of Way) (makes-of Way 𝓤 H A) way _ is-way $ fjoin ! $ owned ! Tab (Is Tab) (tab-makes 𝓤 H A) t _ is $ fjoin ! $
       nothing ! $ join ! $ frame ! $ nothing ! $ done !
 
   module _ (𝓣 : Tables 𝓤 H) (known-load : Triple 𝓤 (𝓣 .C #rows·load) (Load 𝓤 H A mem run)) (known-table : Triple 𝓤 (𝓣 .C #foretell·check) (CheckTable 𝓤 H A mem run)) where
-    walk : ent 𝓤 (onEntry 𝓤 H A check′.signature (κ, tt) (q, tt) (s, (way, tt)) at) (WpFn 𝓤 H (𝓣 .C) (𝓣 .Λ) code.function (v ∷ way-val way ∷ []) Post)
+    walk : ent 𝓤 (onEntry 𝓤 H A check′.signature (κ, tt) (q, tt) (s, (way, tt)) at) (WpFn 𝓤 H (𝓣 .C) (𝓣 .Λ) code.function (v ∷ val-of Way way ∷ []) Post)
     walk =
-        qed W ((‵ (flft κ q) ⊛ ‵ ftrue) ∷ ‵ (owns (ShrSlice (named 0) κ R ∷ Way ∷ []) (s, (way, tt)) at) ∷ []) ∵ enter ! (𝓣 .C) (𝓣 .Λ) code.function (v ∷ way-val way ∷ []) _ $
+        qed W ((‵ (flft κ q) ⊛ ‵ ftrue) ∷ ‵ (owns (ShrSlice (named 0) κ R ∷ Row-of Way ∷ []) (s, (way, tt)) at) ∷ []) ∵
+        enter ! (𝓣 .C) (𝓣 .Λ) code.function (v ∷ val-of Way way ∷ []) _ $
         alloc1 ! (λ l₀. alloc1 ! (λ l₁. alloc1 ! (λ l₂. alloc1 ! (λ l₃. alloc0 ! $ params1 ! $
-        pass1 ! (init ! 4 refl (tt, (tt, (record { fits = room .0 }, tt)))) $ pass1 ! (init ! 2 refl (way-typed 𝓤 H A W way (way-val way) is-way)) $ pass0 ! $
+        pass1 ! (init ! 4 refl (tt, (tt, (record { fits = room .0 }, tt)))) $ pass1 ! (init ! 2 refl (typed-of Way 𝓤 H A W way (val-of Way way) is-way .0)) $ pass0 ! $
         -- [_3; …; _2 = direction; …; _1 = the row; …; room for _0; …; the token; what the parameters own]: a `&` is Copy, and one copy of what the row owns is kept for the exit
         move ! (9 ∷ []) $ fsplit ! $ move ! (1 ∷ []) $ drop ! $ use1 W (‵ Row ⊛ ‵ Row) (shr-slice-copy 𝓤 H A W (named 0) κ R .twice s (v ∷ [])) $ split ! $
         move ! (10 ∷ []) $ split ! $ move ! (1 ∷ []) $ drop ! $ use2 W (raw (Load 𝓤 H A mem run .pre to-load)) goes-load $
@@ -144,15 +146,17 @@ module _ {M : Type 1} (𝓤 : URA M) (H : Heap 𝓤) (A : Atoms 𝓤) (W : Given
     (known-load : Triple 𝓤 (𝓣 .C #rows·load) (Load 𝓤 H A mem run)) (known-table : Triple 𝓤 (𝓣 .C #foretell·check) (CheckTable 𝓤 H A mem run)) where
   check-walks : Walks 𝓤 H A check′.ended stayed (WpFn 𝓤 H (𝓣 .C) (𝓣 .Λ) code.function) (check′.clauses 𝓤 H A mem run)
   check-walks =
-      walked 𝓤 H A check′.ended stayed (check′.clauses 𝓤 H A mem run) (WpFn 𝓤 H (𝓣 .C) (𝓣 .Λ) code.function) (λ κs. (slice-vals, (way-vals, tt)))
-      (λ κs. (shr-slice-tells (named 0) (κs .0) R, (way-tells, tt)))
+      walked 𝓤 H A check′.ended stayed (check′.clauses 𝓤 H A mem run) (WpFn 𝓤 H (𝓣 .C) (𝓣 .Λ) code.function) (λ κs. (slice-vals, (vals-of Way, tt)))
+      (λ κs. (shr-slice-tells (named 0) (κs .0) R, (tells-of Way, tt)))
       (λ κs qs bounds a g are. via 𝓤 _ (fst∗ 𝓤 _ (emp 𝓤)) (walk 𝓤 H A W mem run (κs .0) (qs .0) (a .0) (a .1 .0) (are .0 .0 .1) (are .1 .0) 𝓣 known-load known-table))
 
 pub check-spec : {M : Type 1} → stated.statement M
 unfolding code.routine tablesOf
 check-spec 𝓤 H 𝓜 𝓖 𝓡 =
-    closes 𝓤 H 𝓜 𝓖 𝓡 check′.ended stayed (check′.clauses 𝓤 H (𝓖 .A) (𝓜 .mem) (𝓡 .run)) code.env #entry·check code.function (code.unfolded 𝓤 H 𝓜 𝓡)
-    (goes-none-slice 𝓤 H (𝓖 .A) (givenOf 𝓤 H 𝓜 𝓖) 1 (0 ∷ []) tt (plain (λ _. R)) yes, (goes-none 𝓤 H (𝓖 .A) (givenOf 𝓤 H 𝓜 𝓖) 1 (λ _. Way) yes (λ κs x f. refl), tt))
+    closes 𝓤 H 𝓜 𝓖 𝓡 check′.ended stayed (check′.clauses 𝓤 H (𝓖 .A) (𝓜 .mem) (𝓡 .run)) code.env #entry·check code.function (code.unfolded 𝓤 H 𝓜 𝓡) (
+      goes-none-slice 𝓤 H (𝓖 .A) (givenOf 𝓤 H 𝓜 𝓖) 1 (0 ∷ []) tt (plain (λ _. R)) yes,
+      (goes-none 𝓤 H (𝓖 .A) (givenOf 𝓤 H 𝓜 𝓖) 1 (λ _. Row-of Way) yes (λ κs x f. refl), tt),
+    )
     (check-walks 𝓤 H (𝓖 .A) (givenOf 𝓤 H 𝓜 𝓖) (𝓜 .mem) (𝓡 .run) (here 𝓤 H 𝓜 𝓖 𝓡 code.env)
     (cited 𝓤 H (Load 𝓤 H (𝓖 .A) (𝓜 .mem) (𝓡 .run)) 𝓜 𝓡 code.env #rows·load load-def.routine code.calls-rows·load (load-thm.met 𝓤 H 𝓜 𝓖 𝓡))
     (cited 𝓤 H (CheckTable 𝓤 H (𝓖 .A) (𝓜 .mem) (𝓡 .run)) 𝓜 𝓡 code.env #foretell·check table-def.routine code.calls-foretell·check (table-thm.met 𝓤 H 𝓜 𝓖 𝓡)))

@@ -14,7 +14,7 @@ count-of-requires : tie.Need-count-of-requires
 count-of-requires c κs = search needs
 
 returns : tie.Need-returns
-returns c = planned-by _ _ _ (c .before .before .before .before .empty .ensures) (c .before .before .before .prepare-as .ensures) (c .count-of .ensures)
+returns c = planned-by _ _ _ _ (c .before .before .before .before .empty .ensures) (c .before .before .before .prepare-as .ensures) (c .count-of .ensures)
 
 pub planned-spec : {M : Type 1} → statement M
 planned-spec = tie.close (tie.spec empty-requires prepare-as-requires count-of-requires returns)

@@ -1,5 +1,5 @@
 -- `entry::prepare` meets its contract: a walk of its MIR, by hand. It hands the row on to `prepare_as` at its own lifetime, with the crate's
--- reading, and answers what that answers. All that the proof knows of its callee is that it meets its contract.
+-- reading and mode, and answers what that answers. All that the proof knows of its callee is that it meets its contract.
 -- Assumes nothing.
 use mathlib.Core.Path.{_≡_, refl}
 use Prim.Native.Nat.{ℕ}
@@ -36,18 +36,18 @@ use denote.Triple.Table.{cited}
 use denote.Triple.Walked.{says, Stays, stay-none-slice, gave-slice, walkOf, goes-none-slice, goes-gave-slice, Walks, ends-at, walked}
 use denote.Exit.{yes}
 use Rattle.rules.specs.Pipeline.Prepare.{Prepares, PreparesAs}
-use Rattle.rules.specs.declared.Reading.the-variants.{Crate}
+use Rattle.rules.specs.declared.Mode.the-variants as mode
+use Rattle.rules.specs.declared.Reading.the-variants as reading
 use Rattle.rules.specs.declared.Step.{Step}
 use Rattle.rules.specs.declared.Prepared.{Prepared}
-use Rattle.rules.proofs.Reading as D
-use Rattle.rules.proofs.Reading.Laws as D′
 use Rattle.rules.proofs.Prepared as N
 use Rattle.rules.proofs.Prepared.Laws as N′
 use Rattle.laws_records.specs.Exact.{crates-prepare}
 use Rattle.byhand.proofs.Callee.{calls-lasts}
 use Rattle.byhand.proofs.Close.{here, closes}
+use Rattle.byhand.proofs.Enums.{Row-of, Is-of, val-of, vals-of, has-of, makes-of, typed-of}
 use Rattle.rows.proofs.StepType.{R}
-use Rattle.entry.proofs.ReadingType.{Read, read-val, read-vals, read-makes, read-typed}
+use Rattle.entry.proofs.Choices.{Read, Manner}
 use Rattle.entry.proofs.prepare_as as row-prepare
 use Rattle.entry.proofs.prepare_as.Symbol as row-def
 use Rattle.entry.proofs.prepare_as.Symbol.{name as #entry·prepared}
@@ -60,8 +60,11 @@ use Rattle.entry.proofs.prepare.Code as code
 abbrev stayed : Stays (call.ended .signature .params) (call.ended .kept)
 stayed = (stay-none-slice (0 ∷ []) tt (plain (λ _. u8)) yes, (gave-slice (1 ∷ []) tt (plain (λ _. R)), tt))
 
-is-crate : Is Read Crate (read-vals Crate)
-is-crate = EL.owes D.the-type D′.the-laws Crate tt
+is-crate : Is-of Read reading.Crate (vals-of Read reading.Crate)
+is-crate = has-of Read reading.Crate tt
+
+is-crates-mode : Is-of Manner mode.Crate (vals-of Manner mode.Crate)
+is-crates-mode = has-of Manner mode.Crate tt
 
 module _ {M : Type 1} (𝓤 : URA M) (H : Heap 𝓤) (A : Atoms 𝓤) (mem : Memory → SProp 𝓤) (run : Routine → Fun 𝓤) where
   -- the contract that the proof cites
@@ -99,41 +102,54 @@ module _ {M : Type 1} (𝓤 : URA M) (H : Heap 𝓤) (A : Atoms 𝓤) (W : Given
       -- [the result; the last row; what text owns]
       nothing ! $ move ! (2 ∷ 0 ∷ []) $ fjoin ! $ move ! (2 ∷ 0 ∷ []) $ fjoin ! $ frame ! $ done !
 
+  -- the machine values of text and table, and between them those of the crate's reading and mode
+  abbrev crates : Vals row-prepare.signature κs
+  crates = (of text ∷ [], (val-of Read reading.Crate ∷ [], (val-of Manner mode.Crate ∷ [], (of x ∷ [], tt))))
+
   -- what the callee is passed, and that it has what it asks
   abbrev to-row : RowPrepare 𝓤 H A mem run .Ghost
-  to-row = ((κs, (q, (q′, tt)), tt, (text, (Crate, (x, tt))), (of text ∷ [], (read-val Crate ∷ [], (of x ∷ [], tt)))), tt)
+  to-row = ((κs, (q, (q′, tt)), tt, (text, (reading.Crate, (mode.Crate, (x, tt)))), crates), tt)
 
   goes-row : ent 𝓤 (⋆ 𝓤 H A ((‵ (flft κ q) ⊛ ‵ (flft κ′ q′) ⊛ ‵ ftrue) ∷ ‵ Text ∷ ‵ (fsep Row ftrue) ∷ [])) (RowPrepare 𝓤 H A mem run .pre to-row)
   goes-row =
       qed W ((‵ (flft κ q) ⊛ ‵ (flft κ′ q′) ⊛ ‵ ftrue) ∷ ‵ Text ∷ ‵ (fsep Row ftrue) ∷ []) ∵
-      move ! (2 ∷ []) $ owned ! Read (Is Read) (read-makes 𝓤 H A) Crate _ is-crate $ fjoin ! $ move ! (2 ∷ 0 ∷ []) $ fjoin ! $ move ! (1 ∷ 0 ∷ []) $ join ! $ frame ! $ nothing ! $ done !
+      move ! (2 ∷ []) $ owned ! (Row-of Manner) (Is-of Manner) (makes-of Manner 𝓤 H A) mode.Crate _ is-crates-mode $ fjoin ! $
+      owned ! (Row-of Read) (Is-of Read) (makes-of Read 𝓤 H A) reading.Crate _ is-crate $ fjoin ! $ move ! (2 ∷ 0 ∷ []) $ fjoin ! $ move ! (1 ∷ 0 ∷ []) $
+      join ! $ frame ! $ nothing ! $ done !
 
   module _ (𝓣 : Tables 𝓤 H) (known-row : Triple 𝓤 (𝓣 .C #entry·prepared) (RowPrepare 𝓤 H A mem run)) where
     walk : ent 𝓤 (onEntry 𝓤 H A call.signature κs (q, (q′, tt)) (text, (x, tt)) at) (WpFn 𝓤 H (𝓣 .C) (𝓣 .Λ) code.function (of text ∷ of x ∷ []) Post)
     walk =
         qed W ((‵ (flft κ q) ⊛ ‵ (flft κ′ q′) ⊛ ‵ ftrue) ∷ ‵ (owns (ShrSlice (named 0) κ u8 ∷ MutSlice (named 1) κ′ R ∷ []) (text, (x, tt)) at) ∷ []) ∵
         enter ! (𝓣 .C) (𝓣 .Λ) code.function (of text ∷ of x ∷ []) _ $
-        alloc1 ! (λ l₀. alloc1 ! (λ l₁. alloc1 ! (λ l₂. alloc1 ! (λ l₃. alloc1 ! (λ l₄. alloc1 ! (λ l₅. alloc0 ! $ params1 ! $
-        pass1 ! (init ! 8 refl (tt, (tt, (record { fits = text-room .0 }, tt)))) $ pass1 ! (init ! 6 refl (tt, (tt, (record { fits = room .0 }, tt)))) $ pass0 ! $
-        -- [_5; …; _4; …; _3; …; _2 = table; …; _1 = text; …; room for _0; …; the tokens; what text and table own]
-        assigns ! (agg ! (and-then ! (lit ! tt) (no-more !))) (from ! (stop !)) (init ! 4 refl (read-typed 𝓤 H A W Crate (read-val Crate) is-crate)) $
-        assigns ! (addr ! (from ! (fld ! refl (hop ! (look-in ! 6 (sub ! 0 refl (whole !))) (stop !))))) (from ! (stop !)) (init ! 2 refl (tt, tt)) $
-        assigns ! (agg ! (and-then ! (load ! (from ! (stop !)) (look ! 2 refl)) (and-then ! (load ! (from ! (fld ! refl (stop !))) (look-in ! 6 (sub ! 1 refl (whole !)))) (no-more !))))
+        alloc1 ! (λ l₀. alloc1 ! (λ l₁. alloc1 ! (λ l₂. alloc1 ! (λ l₃. alloc1 ! (λ l₄. alloc1 ! (λ l₅. alloc1 ! (λ l₆. alloc0 ! $ params1 ! $
+        pass1 ! (init ! 10 refl (tt, (tt, (record { fits = text-room .0 }, tt)))) $ pass1 ! (init ! 8 refl (tt, (tt, (record { fits = room .0 }, tt)))) $ pass0 ! $
+        -- [_6; …; _5; …; _4; …; _3; …; _2 = table; …; _1 = text; …; room for _0; …; the tokens; what text and table own]
+        assigns ! (agg ! (and-then ! (lit ! tt) (no-more !))) (from ! (stop !))
+        (init ! 6 refl (typed-of Read 𝓤 H A W reading.Crate (val-of Read reading.Crate) is-crate .0)) $
+        assigns ! (agg ! (and-then ! (lit ! tt) (no-more !))) (from ! (stop !))
+        (init ! 4 refl (typed-of Manner 𝓤 H A W mode.Crate (val-of Manner mode.Crate) is-crates-mode .0)) $
+        assigns ! (addr ! (from ! (fld ! refl (hop ! (look-in ! 8 (sub ! 0 refl (whole !))) (stop !))))) (from ! (stop !)) (init ! 2 refl (tt, tt)) $
+        assigns ! (agg ! (and-then ! (load ! (from ! (stop !)) (look ! 2 refl))
+        (and-then ! (load ! (from ! (fld ! refl (stop !))) (look-in ! 8 (sub ! 1 refl (whole !)))) (no-more !))))
         (from ! (stop !)) (init ! 0 refl (tt, (tt, (record { fits = room .0 }, tt)))) $
         -- a `&` is Copy: one copy of what text owns is kept for the exit
-        move ! (13 ∷ []) $ fsplit ! $ use1 W (‵ Text ⊛ ‵ Text) (shr-slice-copy 𝓤 H A W (named 0) κ u8 .twice text (of text ∷ [])) $ split ! $
-        move ! (15 ∷ 0 ∷ 2 ∷ []) $ use3 W (raw (RowPrepare 𝓤 H A mem run .pre to-row)) goes-row $
-        calls-lasts ! (fmOf 𝓤 H (W .laws) 𝓣) row-prepare.ended (row-prepare.clauses 𝓤 H A mem run) known-row to-row (λ r ws. PreparesAs Crate (now text) (now x) r (ws .1 .1 .0)) (λ _ _. id⊢ 𝓤 _)
-        (and-then ! (load ! (from ! (stop !)) (look ! 10 refl)) (and-then ! (load ! (from ! (stop !)) (look ! 6 refl)) (and-then ! (load ! (from ! (stop !)) (look ! 2 refl)) (no-more !)))) (λ w r ws e.
-        -- [what is said of the last values; the tokens; the result; what text owns; _5; …]
-        fsplit ! $ drop ! $ fsplit ! $ drop ! $ fsplit ! $ fsplit ! $ move ! (1 ∷ []) $ feqL ! (λ l. move ! (1 ∷ []) $ drop ! $ move ! (2 ∷ []) $
+        move ! (15 ∷ []) $ fsplit ! $ use1 W (‵ Text ⊛ ‵ Text) (shr-slice-copy 𝓤 H A W (named 0) κ u8 .twice text (of text ∷ [])) $ split ! $
+        move ! (17 ∷ 0 ∷ 2 ∷ []) $ use3 W (raw (RowPrepare 𝓤 H A mem run .pre to-row)) goes-row $
+        calls-lasts ! (fmOf 𝓤 H (W .laws) 𝓣) row-prepare.ended (row-prepare.clauses 𝓤 H A mem run) known-row to-row
+        (λ r ws. PreparesAs reading.Crate mode.Crate (now text) (now x) r (ws .1 .1 .1 .0)) (λ _ _. id⊢ 𝓤 _)
+        (and-then ! (load ! (from ! (stop !)) (look ! 12 refl)) (and-then ! (load ! (from ! (stop !)) (look ! 8 refl))
+        (and-then ! (load ! (from ! (stop !)) (look ! 6 refl)) (and-then ! (load ! (from ! (stop !)) (look ! 2 refl)) (no-more !))))) (λ w r ws e.
+        -- [what is said of the last values; the tokens; the result; what text owns; _6; …]
+        fsplit ! $ drop ! $ fsplit ! $ drop ! $ fsplit ! $ drop ! $ fsplit ! $ fsplit ! $ move ! (1 ∷ []) $ feqL ! (λ l. move ! (1 ∷ []) $ drop ! $ move ! (2 ∷ []) $
         peeks ! N.the-row (Is N.the-row) (shows 𝓤 H A N.the-row) r (w ∷ []) (λ is.
-        -- [the result; the last row; the tokens; what text owns; _5; …; _4; …; _3; …; _2; …; _1; …; room for _0; …]
-        land ! (from ! (stop !)) (init ! 14 refl (EL.lawful N.the-type N′.the-laws 𝓤 H A W tt .typed r _ is .0)) $
-        returns ! (look ! 14 refl) $ forget ! 4 refl $ forget ! 6 refl $ forget ! 8 refl $ forget ! 10 refl $ forget ! 12 refl $ forget ! 14 refl $
-        move ! (14 ∷ 15 ∷ []) $ free1 ! $ move ! (12 ∷ 13 ∷ []) $ free1 ! $ move ! (10 ∷ 11 ∷ []) $ free1 ! $ move ! (8 ∷ 9 ∷ []) $ free1 ! $ move ! (6 ∷ 7 ∷ []) $ free1 ! $ move ! (4 ∷ 5 ∷ []) $
+        -- [the result; the last row; the tokens; what text owns; _6; …; _5; …; _4; …; _3; …; _2; …; _1; …; room for _0; …]
+        land ! (from ! (stop !)) (init ! 16 refl (EL.lawful N.the-type N′.the-laws 𝓤 H A W tt .typed r _ is .0)) $
+        returns ! (look ! 16 refl) $ forget ! 4 refl $ forget ! 6 refl $ forget ! 8 refl $ forget ! 10 refl $ forget ! 12 refl $ forget ! 14 refl $ forget ! 16 refl $
+        move ! (16 ∷ 17 ∷ []) $ free1 ! $ move ! (14 ∷ 15 ∷ []) $ free1 ! $ move ! (12 ∷ 13 ∷ []) $ free1 ! $ move ! (10 ∷ 11 ∷ []) $ free1 ! $
+        move ! (8 ∷ 9 ∷ []) $ free1 ! $ move ! (6 ∷ 7 ∷ []) $ free1 ! $ move ! (4 ∷ 5 ∷ []) $
         free1 ! $ free0 ! $
-        by ! (exits w r (ws .1 .1 .0) (crates-prepare .0 e) l))))))))))
+        by ! (exits w r (ws .1 .1 .1 .0) (crates-prepare .0 e) l)))))))))))
 
 module _ {M : Type 1} (𝓤 : URA M) (H : Heap 𝓤) (A : Atoms 𝓤) (W : Given 𝓤 H A) (mem : Memory → SProp 𝓤) (run : Routine → Fun 𝓤) (𝓣 : Tables 𝓤 H)
     (known-row : Triple 𝓤 (𝓣 .C #entry·prepared) (RowPrepare 𝓤 H A mem run)) where

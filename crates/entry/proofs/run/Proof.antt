@@ -51,6 +51,7 @@ use Rattle.rules.proofs.Ran as N
 use Rattle.rules.proofs.Ran.Laws as N′
 use Rattle.byhand.proofs.Callee.{calls-known, calls-lasts}
 use Rattle.byhand.proofs.Close.{here, closes}
+use Rattle.byhand.proofs.Enums.{Row-of, Is-of, val-of, vals-of, tells-of, makes-of, typed-of}
 use Rattle.rows.specs.Row.{loaded}
 use Rattle.rows.proofs.StepType.{R}
 use Rattle.rows.proofs.TableType.{Tab, tab-val, tab-vals, tab-is, tab-has, tab-makes, tab-typed}
@@ -63,7 +64,7 @@ use Rattle.pipeline.proofs.run.Symbol as table-def
 use Rattle.pipeline.proofs.run.Symbol.{name as #pipeline·run}
 use Rattle.pipeline.proofs.run.Met as table-thm
 use Rattle.entry.specs.TableOfRow.{runs-stands}
-use Rattle.entry.proofs.DirectionType.{Way, way-val, way-vals, way-tells, way-makes, way-typed}
+use Rattle.entry.proofs.Choices.{Way}
 use Rattle.entry.proofs.run.Key.{name as #entry·run}
 use Rattle.entry.proofs.run as run′
 use Rattle.entry.proofs.run.Statement as stated
@@ -71,7 +72,10 @@ use Rattle.entry.proofs.run.Code as code
 use Rattle.entry.proofs.run.Code.Mir as lines
 
 abbrev stayed : Stays (run′.ended .signature .params) (run′.ended .kept)
-stayed = (stay-none-slice (0 ∷ []) tt (plain (λ _. R)) yes, (stay-none (λ _. Way) yes, (gave-slice (1 ∷ []) tt (plain (λ _. f64)), (gave-slice (2 ∷ []) tt (plain (λ _. f64)), tt))))
+stayed = (
+  stay-none-slice (0 ∷ []) tt (plain (λ _. R)) yes,
+  (stay-none (λ _. Row-of Way) yes, (gave-slice (1 ∷ []) tt (plain (λ _. f64)), (gave-slice (2 ∷ []) tt (plain (λ _. f64)), tt))),
+)
 
 -- the MIR types of the locals
 abbrev row : Ty
@@ -93,7 +97,7 @@ module _ {M : Type 1} (𝓤 : URA M) (H : Heap 𝓤) (A : Atoms 𝓤) (mem : Mem
 
 module _ {M : Type 1} (𝓤 : URA M) (H : Heap 𝓤) (A : Atoms 𝓤) (W : Given 𝓤 H A) (mem : Memory → SProp 𝓤) (run : Routine → Fun 𝓤) (κ₀ κ₁ κ₂ : Lft) (q₀ q₁ q₂ : Share) (s : RefT (List Step))
     (way : Direction) (x y : RefT (List Float))
-    (room₀ : Room R (length (now s))) (room₁ : Room f64 (length (now x))) (room₂ : Room f64 (length (now y))) (is-way : Is Way way (way-vals way)) where
+    (room₀ : Room R (length (now s))) (room₁ : Room f64 (length (now x))) (room₂ : Room f64 (length (now y))) (is-way : Is-of Way way (vals-of Way way)) where
   abbrev κs : Lfts 3
   κs = (κ₀, (κ₁, (κ₂, tt)))
 
@@ -102,7 +106,7 @@ module _ {M : Type 1} (𝓤 : URA M) (H : Heap 𝓤) (A : Atoms 𝓤) (W : Given
   of z = sliceVal (z .ptr) (length (now z))
 
   abbrev at : Vals run′.signature κs
-  at = (of s ∷ [], (way-val way ∷ [], (of x ∷ [], (of y ∷ [], tt))))
+  at = (of s ∷ [], (val-of Way way ∷ [], (of x ∷ [], (of y ∷ [], tt))))
 
   -- the table that the row makes
   abbrev t : Table
@@ -129,7 +133,8 @@ module _ {M : Type 1} (𝓤 : URA M) (H : Heap 𝓤) (A : Atoms 𝓤) (W : Given
       (tt, (tt, (l₁, (l₂, tt))))) $ says ! (record { exactly = e .exactly ∙ runs-stands (now s) way (now x) (now y) }) $
       move ! (4 ∷ 3 ∷ []) $ join ! $ frame ! $
       -- [the result; the last tuples; the last columns; what the row owns]
-      nothing ! $ move ! (3 ∷ 0 ∷ []) $ fjoin ! $ move ! (2 ∷ 0 ∷ []) $ fjoin ! $ owned ! Way (Is Way) (way-makes 𝓤 H A) way _ is-way $ fjoin ! $ move ! (2 ∷ 0 ∷ []) $ fjoin ! $ frame ! $ done !
+      nothing ! $ move ! (3 ∷ 0 ∷ []) $ fjoin ! $ move ! (2 ∷ 0 ∷ []) $ fjoin ! $ owned ! (Row-of Way) (Is-of Way) (makes-of Way 𝓤 H A) way _ is-way $
+      fjoin ! $ move ! (2 ∷ 0 ∷ []) $ fjoin ! $ frame ! $ done !
 
   abbrev to-load : Load 𝓤 H A mem run .Ghost
   to-load = (((κ₀, tt), (q₀, tt), tt, (s, tt), (of s ∷ [], tt)), tt)
@@ -138,12 +143,13 @@ module _ {M : Type 1} (𝓤 : URA M) (H : Heap 𝓤) (A : Atoms 𝓤) (W : Given
   goes-load = qed W (‵ (flft κ₀ q₀) ∷ ‵ Row ∷ []) ∵ nothing ! $ move ! (2 ∷ 0 ∷ []) $ fjoin ! $ nothing ! $ move ! (2 ∷ 0 ∷ []) $ join ! $ join ! $ frame ! $ done !
 
   abbrev to-table : RunTable 𝓤 H A mem run .Ghost
-  to-table = (((κ₁, (κ₂, tt)), (q₁, (q₂, tt)), tt, (t, (way, (x, (y, tt)))), (tab-vals t, (way-val way ∷ [], (of x ∷ [], (of y ∷ [], tt))))), tt)
+  to-table = (((κ₁, (κ₂, tt)), (q₁, (q₂, tt)), tt, (t, (way, (x, (y, tt)))), (tab-vals t, (val-of Way way ∷ [], (of x ∷ [], (of y ∷ [], tt))))), tt)
 
   goes-table : Is Tab t (tab-vals t) → ent 𝓤 (⋆ 𝓤 H A ((‵ (flft κ₁ q₁) ⊛ ‵ (flft κ₂ q₂) ⊛ ‵ ftrue) ∷ ‵ Tuples ∷ ‵ Columns ∷ [])) (RunTable 𝓤 H A mem run .pre to-table)
   goes-table is =
       qed W ((‵ (flft κ₁ q₁) ⊛ ‵ (flft κ₂ q₂) ⊛ ‵ ftrue) ∷ ‵ Tuples ∷ ‵ Columns ∷ []) ∵ nothing ! $ move ! (3 ∷ 0 ∷ []) $ fjoin ! $ move ! (2 ∷ 0 ∷ []) $ fjoin ! $
-      owned ! Way (Is Way) (way-makes 𝓤 H A) way _ is-way $ fjoin ! $ owned ! Tab (Is Tab) (tab-makes 𝓤 H A) t _ is $ fjoin ! $ move ! (1 ∷ 0 ∷ []) $ join ! $ frame ! $ nothing ! $ done !
+      owned ! (Row-of Way) (Is-of Way) (makes-of Way 𝓤 H A) way _ is-way $ fjoin ! $ owned ! Tab (Is Tab) (tab-makes 𝓤 H A) t _ is $ fjoin ! $
+      move ! (1 ∷ 0 ∷ []) $ join ! $ frame ! $ nothing ! $ done !
 
   module _ (𝓣 : Tables 𝓤 H) (known-load : Triple 𝓤 (𝓣 .C #rows·load) (Load 𝓤 H A mem run)) (known-table : Triple 𝓤 (𝓣 .C #pipeline·run) (RunTable 𝓤 H A mem run)) where
     module _ (l₀ l₁ l₂ l₃ l₄ l₅ l₆ l₇ l₈ l₉ : ℕ) where
@@ -158,7 +164,8 @@ module _ {M : Type 1} (𝓤 : URA M) (H : Heap 𝓤) (A : Atoms 𝓤) (W : Given
           ∷ ‵ (fdies ref l₆)
           ∷ ‵ (fat fullShare T′.mir l₅ 0 (tab-val t)) ∷ ‵ (fdies T′.mir l₅) ∷ ‵ (fat fullShare (list 2) l₄ 0 (of y)) ∷ ‵ (fdies (list 2) l₄) ∷ ‵ (fat fullShare (list 1) l₃ 0 (of x))
           ∷ ‵ (fdies (list 1) l₃)
-          ∷ ‵ (fat fullShare D′.mir l₂ 0 (way-val way)) ∷ ‵ (fdies D′.mir l₂) ∷ ‵ (fat fullShare row l₁ 0 (of s)) ∷ ‵ (fdies row l₁) ∷ ‵ (froom N′.mir l₀ 0) ∷ ‵ (fdies N′.mir l₀)
+          ∷ ‵ (fat fullShare D′.mir l₂ 0 (val-of Way way)) ∷ ‵ (fdies D′.mir l₂) ∷ ‵ (fat fullShare row l₁ 0 (of s)) ∷ ‵ (fdies row l₁)
+          ∷ ‵ (froom N′.mir l₀ 0) ∷ ‵ (fdies N′.mir l₀)
           ∷ (‵ (flft κ₁ q₁) ⊛ ‵ (flft κ₂ q₂) ⊛ ‵ ftrue) ∷ ‵ Tuples ∷ ‵ Columns ∷ ‵ (flft κ₀ q₀) ∷ ‵ Row ∷ []
 
       rest : Is Tab t (tab-vals t) → Sq W Loaded (runs (𝓣 .C) (𝓣 .Λ) En lines.t-2 (atRet En Post))
@@ -186,13 +193,13 @@ module _ {M : Type 1} (𝓤 : URA M) (H : Heap 𝓤) (A : Atoms 𝓤) (W : Given
           move ! (12 ∷ 13 ∷ []) $ free1 ! $ move ! (10 ∷ 11 ∷ []) $ free1 ! $ move ! (8 ∷ 9 ∷ []) $ free1 ! $ move ! (6 ∷ 7 ∷ []) $ free1 ! $ move ! (4 ∷ 5 ∷ []) $ free1 ! $ free0 ! $
           keep ! (0 ∷ 2 ∷ 1 ∷ 3 ∷ 4 ∷ 5 ∷ []) $ by ! (exits w r (ws .1 .1 .0) (ws .1 .1 .1 .0) e l₁′ l₂′)))))
 
-    walk : ent 𝓤 (onEntry 𝓤 H A run′.signature κs (q₀, (q₁, (q₂, tt))) (s, (way, (x, (y, tt)))) at) (WpFn 𝓤 H (𝓣 .C) (𝓣 .Λ) code.function (of s ∷ way-val way ∷ of x ∷ of y ∷ []) Post)
+    walk : ent 𝓤 (onEntry 𝓤 H A run′.signature κs (q₀, (q₁, (q₂, tt))) (s, (way, (x, (y, tt)))) at) (WpFn 𝓤 H (𝓣 .C) (𝓣 .Λ) code.function (of s ∷ val-of Way way ∷ of x ∷ of y ∷ []) Post)
     walk =
         qed W ((‵ (flft κ₀ q₀) ⊛ (‵ (flft κ₁ q₁) ⊛ ‵ (flft κ₂ q₂) ⊛ ‵ ftrue))
-        ∷ ‵ (owns (ShrSlice (named 0) κ₀ R ∷ Way ∷ MutSlice (named 1) κ₁ f64 ∷ MutSlice (named 2) κ₂ f64 ∷ []) (s, (way, (x, (y, tt)))) at) ∷ []) ∵
-        enter ! (𝓣 .C) (𝓣 .Λ) code.function (of s ∷ way-val way ∷ of x ∷ of y ∷ []) _ $
+        ∷ ‵ (owns (ShrSlice (named 0) κ₀ R ∷ Row-of Way ∷ MutSlice (named 1) κ₁ f64 ∷ MutSlice (named 2) κ₂ f64 ∷ []) (s, (way, (x, (y, tt)))) at) ∷ []) ∵
+        enter ! (𝓣 .C) (𝓣 .Λ) code.function (of s ∷ val-of Way way ∷ of x ∷ of y ∷ []) _ $
         alloc1 ! (λ l₀. alloc1 ! (λ l₁. alloc1 ! (λ l₂. alloc1 ! (λ l₃. alloc1 ! (λ l₄. alloc1 ! (λ l₅. alloc1 ! (λ l₆. alloc1 ! (λ l₇. alloc1 ! (λ l₈. alloc1 ! (λ l₉. alloc0 ! $ params1 ! $
-        pass1 ! (init ! 16 refl (tt, (tt, (record { fits = room₀ .0 }, tt)))) $ pass1 ! (init ! 14 refl (way-typed 𝓤 H A W way (way-val way) is-way)) $
+        pass1 ! (init ! 16 refl (tt, (tt, (record { fits = room₀ .0 }, tt)))) $ pass1 ! (init ! 14 refl (typed-of Way 𝓤 H A W way (val-of Way way) is-way .0)) $
         pass1 ! (init ! 12 refl (tt, (tt, (record { fits = room₁ .0 }, tt)))) $ pass1 ! (init ! 10 refl (tt, (tt, (record { fits = room₂ .0 }, tt)))) $ pass0 ! $
         -- [_9; …; room for _0; …; the tokens; what the parameters own]: a `&` is Copy, and one copy of what the row owns is kept for the exit
         move ! (21 ∷ []) $ fsplit ! $ use1 W (‵ Row ⊛ ‵ Row) (shr-slice-copy 𝓤 H A W (named 0) κ₀ R .twice s (of s ∷ [])) $ split ! $ move ! (2 ∷ []) $ fsplit ! $ drop ! $ fsplit ! $
@@ -211,8 +218,10 @@ module _ {M : Type 1} (𝓤 : URA M) (H : Heap 𝓤) (A : Atoms 𝓤) (W : Given
 module _ {M : Type 1} (𝓤 : URA M) (H : Heap 𝓤) (A : Atoms 𝓤) (W : Given 𝓤 H A) (mem : Memory → SProp 𝓤) (run : Routine → Fun 𝓤) (𝓣 : Tables 𝓤 H)
     (known-load : Triple 𝓤 (𝓣 .C #rows·load) (Load 𝓤 H A mem run)) (known-table : Triple 𝓤 (𝓣 .C #pipeline·run) (RunTable 𝓤 H A mem run)) where
   run-walks : Walks 𝓤 H A run′.ended stayed (WpFn 𝓤 H (𝓣 .C) (𝓣 .Λ) code.function) (run′.clauses 𝓤 H A mem run)
-  run-walks = walked 𝓤 H A run′.ended stayed (run′.clauses 𝓤 H A mem run) (WpFn 𝓤 H (𝓣 .C) (𝓣 .Λ) code.function) (λ κs. (slice-vals, (way-vals, (slice-vals, (slice-vals, tt)))))
-      (λ κs. (shr-slice-tells (named 0) (κs .0) R, (way-tells, (mut-slice-tells (named 1) (κs .1 .0) f64, (mut-slice-tells (named 2) (κs .1 .1 .0) f64, tt)))))
+  run-walks =
+      walked 𝓤 H A run′.ended stayed (run′.clauses 𝓤 H A mem run) (WpFn 𝓤 H (𝓣 .C) (𝓣 .Λ) code.function)
+      (λ κs. (slice-vals, (vals-of Way, (slice-vals, (slice-vals, tt)))))
+      (λ κs. (shr-slice-tells (named 0) (κs .0) R, (tells-of Way, (mut-slice-tells (named 1) (κs .1 .0) f64, (mut-slice-tells (named 2) (κs .1 .1 .0) f64, tt)))))
       (λ κs qs bounds a g are. via 𝓤 _ (fst∗ 𝓤 _ (emp 𝓤))
       (walk 𝓤 H A W mem run (κs .0) (κs .1 .0) (κs .1 .1 .0) (qs .0) (qs .1 .0) (qs .1 .1 .0) (a .0) (a .1 .0) (a .1 .1 .0) (a .1 .1 .1 .0) (are .0 .0 .1) (are .1 .1 .0 .0 .1)
       (are .1 .1 .1 .0 .0 .1) (are .1 .0) 𝓣 known-load known-table))
@@ -223,7 +232,7 @@ run-spec 𝓤 H 𝓜 𝓖 𝓡 =
     closes 𝓤 H 𝓜 𝓖 𝓡 run′.ended stayed (run′.clauses 𝓤 H (𝓖 .A) (𝓜 .mem) (𝓡 .run)) code.env #entry·run code.function (code.unfolded 𝓤 H 𝓜 𝓡) (
       goes-none-slice 𝓤 H (𝓖 .A) (givenOf 𝓤 H 𝓜 𝓖) 3 (0 ∷ []) tt (plain (λ _. R)) yes,
       (
-        goes-none 𝓤 H (𝓖 .A) (givenOf 𝓤 H 𝓜 𝓖) 3 (λ _. Way) yes (λ κs x f. refl),
+        goes-none 𝓤 H (𝓖 .A) (givenOf 𝓤 H 𝓜 𝓖) 3 (λ _. Row-of Way) yes (λ κs x f. refl),
         (goes-gave-slice 𝓤 H (𝓖 .A) (givenOf 𝓤 H 𝓜 𝓖) 3 1 tt (plain (λ _. f64)), (goes-gave-slice 𝓤 H (𝓖 .A) (givenOf 𝓤 H 𝓜 𝓖) 3 2 tt (plain (λ _. f64)), tt)),
       ),
     )

@@ -41,25 +41,26 @@ same-length-2 : tie.Need-same-length-2
 same-length-2 c =
     let prepared = c .before .before .before .before .before .before in
     let cleaned = prepared .before .before .before .before .before .before .before .before .before .before .before in
-    prepared .prepare-steps .kept .1 .1 .1 .0 ∙ cleaned .clean-into .kept .1 .1 .0
+    prepared .prepare-steps .kept .1 .1 .1 .1 .0 ∙ cleaned .clean-into .kept .1 .1 .0
 
 same-length-3 : tie.Need-same-length-3
 same-length-3 c =
     let prepared = c .before .before .before .before .before .before in
     let cleaned = prepared .before .before .before .before .before .before .before .before .before .before .before in
-    prepared .prepare-steps .kept .1 .1 .1 .1 .0 ∙ cleaned .clean-into .kept .1 .1 .1 .0
+    prepared .prepare-steps .kept .1 .1 .1 .1 .1 .0 ∙ cleaned .clean-into .kept .1 .1 .1 .0
 
 same-length-4 : tie.Need-same-length-4
 same-length-4 c =
     let prepared = c .before .before .before .before .before .before in
-    prepared .prepare-steps .kept .1 .1 .0
+    prepared .prepare-steps .kept .1 .1 .1 .0
 
 returns : tie.Need-returns
 returns c =
     let prepared = c .before .before .before .before .before .before in
     let cleaned = prepared .before .before .before .before .before .before .before .before .before .before .before in
     let start = cleaned .before .before .before .before .before .before .before .before .before in
-    prepare-so (now (start .args .text)) (start .args .table) (cleaned .clean-into .ensures) (start .pre .0) (start .pre .1 .0) (prepared .prepare-steps .ensures)
+    prepare-so (now (start .args .text)) (start .args .table) (cleaned .clean-into .ensures) (start .args .mode) (start .pre .0) (start .pre .1 .0)
+    (prepared .prepare-steps .ensures)
 
 pub answer-spec : {M : Type 1} → statement M
 answer-spec =

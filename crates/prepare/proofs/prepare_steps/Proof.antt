@@ -14,16 +14,16 @@ use Rattle.prepare.proofs.prepare_steps.Statement.{statement}
 use Rattle.prepare.proofs.prepare_steps.Tie as tie
 
 abbrev Inv-loop : tie.InvT-loop
-Inv-loop normal table a₀ b₀ c₀ steps₀ at₀ n₀ number₀ place₀ a b c steps at n number place = Reaches normal table a₀ b₀ c₀ a b c steps at n number place
+Inv-loop normal mode table a₀ b₀ c₀ steps₀ at₀ n₀ number₀ place₀ a b c steps at n number place = Reaches mode normal table a₀ b₀ c₀ a b c steps at n number place
 
 abbrev μ-loop : tie.MeasureT-loop
-μ-loop normal table a₀ b₀ c₀ steps₀ at₀ n₀ number₀ place₀ a b c steps at n number place = length normal - at
+μ-loop normal mode table a₀ b₀ c₀ steps₀ at₀ n₀ number₀ place₀ a b c steps at n number place = length normal - at
 
 loop-holds : tie.Need-loop-holds Inv-loop μ-loop
 loop-holds c =
     let start = c .before .before .before .before .before in
     let p = start .pre in
-    reaches-none _ _ _ _ _ (p .0) (p .1 .0) (p .1 .1 .0) (p .1 .1 .1)
+    reaches-none _ _ _ _ _ _ (p .0) (p .1 .0) (p .1 .1 .0) (p .1 .1 .1)
 
 next-from-requires : tie.Need-next-from-requires Inv-loop μ-loop
 next-from-requires c κs = search needs
@@ -210,7 +210,7 @@ loop-again-3 c =
     let step = sym (walked .next-from .ensures) ∙ there .found .given .1 in
     let made = judged .prepare-step in
     let line = reaches-line inv step _ _ (wrote .line-at .ensures) (lined .line .given .1) in
-    reaches-more inv step line (first .if1 .left) (second .if2 .left) _ (made .ensures) (made .kept .1 .0) (made .kept .1 .1 .0) (wrote .line-at .kept .1 .0)
+    reaches-more inv step line (first .if1 .left) (second .if2 .left) _ (made .ensures) (made .kept .1 .1 .0) (made .kept .1 .1 .1 .0) (wrote .line-at .kept .1 .0)
 
 answer-of-requires : tie.Need-answer-of-requires Inv-loop μ-loop
 answer-of-requires c κs = search needs

@@ -44,9 +44,10 @@ use Rattle.rules.proofs.Foretold as P
 use Rattle.rules.proofs.Foretold.Laws as P′
 use Rattle.byhand.proofs.Callee.{calls-known, result-is, result-has}
 use Rattle.byhand.proofs.Close.{here, closes}
+use Rattle.byhand.proofs.Enums.{Row-of, Is-of, val-of, tells-of, makes-of, typed-of}
 use Rattle.rows.proofs.StepType.{R}
 use Rattle.rules.proofs.Direction.Laws as D′
-use Rattle.entry.proofs.DirectionType.{Way, way-val, way-tells, way-makes, way-typed}
+use Rattle.entry.proofs.Choices.{Way}
 use Rattle.entry.proofs.check as row-check
 use Rattle.entry.proofs.check.Symbol as row-def
 use Rattle.entry.proofs.check.Symbol.{name as #entry·check}
@@ -119,11 +120,12 @@ module _ {M : Type 1} (𝓤 : URA M) (H : Heap 𝓤) (A : Atoms 𝓤) (W : Given
   goes-direction = qed W [] ∵ nothing ! $ owned ! u8 (Is u8) (uint-makes 𝓤 H A W w8) inverse _ (refl, small) $ fjoin ! $ nothing ! $ join ! $ frame ! $ nothing ! $ done !
 
   abbrev to-row : Direction → RowCheck 𝓤 H A mem run .Ghost
-  to-row d = (((κ, tt), (q, tt), tt, (s, (d, tt)), (v ∷ [], (way-val d ∷ [], tt))), tt)
+  to-row d = (((κ, tt), (q, tt), tt, (s, (d, tt)), (v ∷ [], (val-of Way d ∷ [], tt))), tt)
 
-  goes-row : (d : Direction) → Is Way d (way-val d ∷ []) → ent 𝓤 (⋆ 𝓤 H A ((‵ (flft κ q) ⊛ ‵ ftrue) ∷ ‵ Row ∷ [])) (RowCheck 𝓤 H A mem run .pre (to-row d))
+  goes-row : (d : Direction) → Is-of Way d (val-of Way d ∷ []) → ent 𝓤 (⋆ 𝓤 H A ((‵ (flft κ q) ⊛ ‵ ftrue) ∷ ‵ Row ∷ [])) (RowCheck 𝓤 H A mem run .pre (to-row d))
   goes-row d is =
-      qed W ((‵ (flft κ q) ⊛ ‵ ftrue) ∷ ‵ Row ∷ []) ∵ nothing ! $ owned ! Way (Is Way) (way-makes 𝓤 H A) d _ is $ fjoin ! $ move ! (2 ∷ 0 ∷ []) $ fjoin ! $ move ! (1 ∷ 0 ∷ []) $ join ! $ frame ! $
+      qed W ((‵ (flft κ q) ⊛ ‵ ftrue) ∷ ‵ Row ∷ []) ∵ nothing ! $ owned ! (Row-of Way) (Is-of Way) (makes-of Way 𝓤 H A) d _ is $ fjoin ! $
+      move ! (2 ∷ 0 ∷ []) $ fjoin ! $ move ! (1 ∷ 0 ∷ []) $ join ! $ frame ! $
       nothing ! $ done !
 
   abbrev to-checked : Foretold → CheckedOf 𝓤 H A mem run .Ghost
@@ -143,11 +145,12 @@ module _ {M : Type 1} (𝓤 : URA M) (H : Heap 𝓤) (A : Atoms 𝓤) (W : Given
         use0 W (raw (DirectionOf 𝓤 H A mem run .pre to-direction)) goes-direction $
         calls-known ! (fmOf 𝓤 H (W .laws) 𝓣) direction.ended (direction.clauses 𝓤 H A mem run) known-direction to-direction (λ z. z ≡ directionOf inverse) (λ z _. id⊢ 𝓤 _)
         (and-then ! (load ! (from ! (stop !)) (look ! 5 refl)) (no-more !)) (λ w d e.
-        drop ! $ facts ! Way (Is Way) (shows 𝓤 H A Way) d (w ∷ []) (λ is.
-        land ! (from ! (stop !)) (init ! 2 refl (way-typed 𝓤 H A W d w is)) $ rewrite ! 2 (λ (z : Val). ‵ (fat fullShare D′.mir l₃ 0 z)) (result-is Way way-val way-tells d d w is refl) refl $
+        drop ! $ facts ! (Row-of Way) (Is-of Way) (shows 𝓤 H A (Row-of Way)) d (w ∷ []) (λ is.
+        land ! (from ! (stop !)) (init ! 2 refl (typed-of Way 𝓤 H A W d w is .0)) $
+        rewrite ! 2 (λ (z : Val). ‵ (fat fullShare D′.mir l₃ 0 z)) (result-is (Row-of Way) (val-of Way) (tells-of Way) d d w is refl) refl $
         -- a `&` is Copy: one copy of what the row owns is kept for the exit
         move ! (11 ∷ []) $ fsplit ! $ move ! (1 ∷ []) $ drop ! $ use1 W (‵ Row ⊛ ‵ Row) (shr-slice-copy 𝓤 H A W (named 0) κ R .twice s (v ∷ [])) $ split ! $
-        move ! (12 ∷ 0 ∷ []) $ use2 W (raw (RowCheck 𝓤 H A mem run .pre (to-row d))) (goes-row d (result-has Way way-val way-tells d d w is refl)) $
+        move ! (12 ∷ 0 ∷ []) $ use2 W (raw (RowCheck 𝓤 H A mem run .pre (to-row d))) (goes-row d (result-has (Row-of Way) (val-of Way) (tells-of Way) d d w is refl)) $
         -- [what the check asks; what the row owns; _4; …]
         calls-known ! (fmOf 𝓤 H (W .laws) 𝓣) row-check.ended (row-check.clauses 𝓤 H A mem run) known-row (to-row d) (λ z. Checks d (now s) z) (λ z _. id⊢ 𝓤 _)
         (and-then ! (load ! (from ! (stop !)) (look ! 8 refl)) (and-then ! (load ! (from ! (stop !)) (look ! 4 refl)) (no-more !))) (λ w₁ f e₁.

@@ -48,9 +48,10 @@ use Rattle.rules.proofs.Ran as P
 use Rattle.rules.proofs.Ran.Laws as P′
 use Rattle.byhand.proofs.Callee.{calls-known, calls-lasts, result-is, result-has}
 use Rattle.byhand.proofs.Close.{here, closes}
+use Rattle.byhand.proofs.Enums.{Row-of, Is-of, val-of, tells-of, makes-of, typed-of}
 use Rattle.rows.proofs.StepType.{R}
 use Rattle.rules.proofs.Direction.Laws as D′
-use Rattle.entry.proofs.DirectionType.{Way, way-val, way-tells, way-makes, way-typed}
+use Rattle.entry.proofs.Choices.{Way}
 use Rattle.entry.proofs.run as row-run
 use Rattle.entry.proofs.run.Symbol as row-def
 use Rattle.entry.proofs.run.Symbol.{name as #entry·run}
@@ -137,12 +138,13 @@ module _ {M : Type 1} (𝓤 : URA M) (H : Heap 𝓤) (A : Atoms 𝓤) (W : Given
   goes-direction = qed W [] ∵ nothing ! $ owned ! u8 (Is u8) (uint-makes 𝓤 H A W w8) inverse _ (refl, small) $ fjoin ! $ nothing ! $ join ! $ frame ! $ nothing ! $ done !
 
   abbrev to-row : Direction → RowRun 𝓤 H A mem run .Ghost
-  to-row d = ((κs, (q₀, (q₁, (q₂, tt))), tt, (s, (d, (x, (y, tt)))), (of s ∷ [], (way-val d ∷ [], (of x ∷ [], (of y ∷ [], tt))))), tt)
+  to-row d = ((κs, (q₀, (q₁, (q₂, tt))), tt, (s, (d, (x, (y, tt)))), (of s ∷ [], (val-of Way d ∷ [], (of x ∷ [], (of y ∷ [], tt))))), tt)
 
-  goes-row : (d : Direction) → Is Way d (way-val d ∷ [])
+  goes-row : (d : Direction) → Is-of Way d (val-of Way d ∷ [])
       → ent 𝓤 (⋆ 𝓤 H A ((‵ (flft κ₀ q₀) ⊛ (‵ (flft κ₁ q₁) ⊛ ‵ (flft κ₂ q₂) ⊛ ‵ ftrue)) ∷ ‵ Row ∷ ‵ Lists ∷ [])) (RowRun 𝓤 H A mem run .pre (to-row d))
   goes-row d is =
-      qed W ((‵ (flft κ₀ q₀) ⊛ (‵ (flft κ₁ q₁) ⊛ ‵ (flft κ₂ q₂) ⊛ ‵ ftrue)) ∷ ‵ Row ∷ ‵ Lists ∷ []) ∵ move ! (2 ∷ []) $ owned ! Way (Is Way) (way-makes 𝓤 H A) d _ is $ fjoin ! $
+      qed W ((‵ (flft κ₀ q₀) ⊛ (‵ (flft κ₁ q₁) ⊛ ‵ (flft κ₂ q₂) ⊛ ‵ ftrue)) ∷ ‵ Row ∷ ‵ Lists ∷ []) ∵ move ! (2 ∷ []) $
+      owned ! (Row-of Way) (Is-of Way) (makes-of Way 𝓤 H A) d _ is $ fjoin ! $
       move ! (2 ∷ 0 ∷ []) $ fjoin ! $
       move ! (1 ∷ 0 ∷ []) $ join ! $ frame ! $ nothing ! $ done !
 
@@ -167,8 +169,9 @@ module _ {M : Type 1} (𝓤 : URA M) (H : Heap 𝓤) (A : Atoms 𝓤) (W : Given
         use0 W (raw (DirectionOf 𝓤 H A mem run .pre to-direction)) goes-direction $
         calls-known ! (fmOf 𝓤 H (W .laws) 𝓣) direction.ended (direction.clauses 𝓤 H A mem run) known-direction to-direction (λ z. z ≡ directionOf inverse) (λ z _. id⊢ 𝓤 _)
         (and-then ! (load ! (from ! (stop !)) (look ! 17 refl)) (no-more !)) (λ w d e.
-        drop ! $ facts ! Way (Is Way) (shows 𝓤 H A Way) d (w ∷ []) (λ is.
-        land ! (from ! (stop !)) (init ! 10 refl (way-typed 𝓤 H A W d w is)) $ rewrite ! 10 (λ (z : Val). ‵ (fat fullShare D′.mir l₅ 0 z)) (result-is Way way-val way-tells d d w is refl) refl $
+        drop ! $ facts ! (Row-of Way) (Is-of Way) (shows 𝓤 H A (Row-of Way)) d (w ∷ []) (λ is.
+        land ! (from ! (stop !)) (init ! 10 refl (typed-of Way 𝓤 H A W d w is .0)) $
+        rewrite ! 10 (λ (z : Val). ‵ (fat fullShare D′.mir l₅ 0 z)) (result-is (Row-of Way) (val-of Way) (tells-of Way) d d w is refl) refl $
         -- the two lists, lent on
         assigns ! (addr ! (from ! (fld ! refl (hop ! (look-in ! 14 (sub ! 0 refl (whole !))) (stop !))))) (from ! (stop !)) (init ! 6 refl (tt, tt)) $
         assigns ! (agg ! (and-then ! (load ! (from ! (stop !)) (look ! 6 refl)) (and-then ! (load ! (from ! (fld ! refl (stop !))) (look-in ! 14 (sub ! 1 refl (whole !)))) (no-more !))))
@@ -179,7 +182,7 @@ module _ {M : Type 1} (𝓤 : URA M) (H : Heap 𝓤) (A : Atoms 𝓤) (W : Given
         -- a `&` is Copy: one copy of what the row owns is kept for the exit
         move ! (23 ∷ []) $ fsplit ! $ use1 W (‵ Row ⊛ ‵ Row) (shr-slice-copy 𝓤 H A W (named 0) κ₀ R .twice s (of s ∷ [])) $ split ! $ move ! (2 ∷ []) $ fsplit ! $ drop ! $
         -- [what the lists own; what the row owns, twice; _10; …; …; room for _0; …; the tokens]
-        move ! (25 ∷ 1 ∷ 0 ∷ []) $ use3 W (raw (RowRun 𝓤 H A mem run .pre (to-row d))) (goes-row d (result-has Way way-val way-tells d d w is refl)) $
+        move ! (25 ∷ 1 ∷ 0 ∷ []) $ use3 W (raw (RowRun 𝓤 H A mem run .pre (to-row d))) (goes-row d (result-has (Row-of Way) (val-of Way) (tells-of Way) d d w is refl)) $
         calls-lasts ! (fmOf 𝓤 H (W .laws) 𝓣) row-run.ended (row-run.clauses 𝓤 H A mem run) known-row (to-row d) (λ o ws. Runs d (now s) (now x) (now y) o (ws .1 .1 .0) (ws .1 .1 .1 .0))
         (λ _ _. id⊢ 𝓤 _)
         (and-then ! (load ! (from ! (stop !)) (look ! 20 refl))

@@ -27,13 +27,14 @@ show-translation-requires : tie.Need-show-translation-requires
 show-translation-requires c κs =
     let t = c .before .before .before .before .before .before .before .before .before .before .before .before .before .before in (
       t .pre .1 .0,
-      room-so (shown (t .args .reading) (t .args .text .now))
+      room-so (shown (t .args .reading) (t .args .mode) (t .args .text .now))
           (translatedLine (take (c .before .before .before .before .written .given .0 .0) (c .before .before .before .before .before .before .before .before .translate .last .1 .0)) ++ shownSteps
-          (t .args .reading)
+          (t .args .reading) (t .args .mode)
           (take (c .before .before .before .before .written .given .0 .0) (c .before .before .before .before .before .before .before .before .translate .last .1 .0))) (t .args .out .now) 0
-          (text-wrote (t .args .reading) (t .args .text .now)
+          (text-wrote (t .args .reading) (t .args .mode) (t .args .text .now)
           (called-wrote (c .before .before .before .before .written .given .1) (c .before .before .before .before .before .before .before .before .translate .ensures) (t .pre .0)
-          (c .before .before .before .before .before .before .before .before .translate .kept .1 .0))) (shown-room (t .args .reading) (t .args .text .now) (t .args .out .now) (t .pre .1 .1)),
+          (c .before .before .before .before .before .before .before .before .translate .kept .1 .0)))
+          (shown-room (t .args .reading) (t .args .mode) (t .args .text .now) (t .args .out .now) (t .pre .1 .1)),
     )
 
 enum-known-written-2 : tie.Need-enum-known-written-2
@@ -42,9 +43,11 @@ enum-known-written-2 c = search needs
 say-refusal-requires : tie.Need-say-refusal-requires
 say-refusal-requires c κs =
     let t = c .before .before .before .before .before .before .before .before .before .before .before .before in
-    room-so (shown (t .args .reading) (t .args .text .now)) (line (refusalText (c .before .before .written2 .given .0 .0) (c .before .before .written2 .given .0 .1 .0))) (t .args .out .now) 0
-    (text-refused (t .args .reading) (t .args .text .now) (called-refused (c .before .before .written2 .given .1) (c .before .before .before .before .before .before .translate .ensures) (t .pre .0)))
-    (shown-room (t .args .reading) (t .args .text .now) (t .args .out .now) (t .pre .1 .1))
+    room-so (shown (t .args .reading) (t .args .mode) (t .args .text .now))
+    (line (refusalText (c .before .before .written2 .given .0 .0) (c .before .before .written2 .given .0 .1 .0))) (t .args .out .now) 0
+    (text-refused (t .args .reading) (t .args .mode) (t .args .text .now)
+    (called-refused (c .before .before .written2 .given .1) (c .before .before .before .before .before .before .translate .ensures) (t .pre .0)))
+    (shown-room (t .args .reading) (t .args .mode) (t .args .text .now) (t .args .out .now) (t .pre .1 .1))
 
 same-length : tie.Need-same-length
 same-length c = search needs
@@ -58,12 +61,13 @@ same-length-3 c = search needs
 returns : tie.Need-returns
 returns c =
     let t = c .before .before .before .before .before .before .before .before .before .before .before .before .before .before .before .before .before .before .before in
-    front-so (said-so (shown (t .args .reading) (t .args .text .now))
+    front-so (said-so (shown (t .args .reading) (t .args .mode) (t .args .text .now))
     (translatedLine (take (c .before .before .before .before .before .before .before .before .before .written .given .0 .0)
-    (c .before .before .before .before .before .before .before .before .before .before .before .before .before .translate .last .1 .0)) ++ shownSteps (t .args .reading)
+    (c .before .before .before .before .before .before .before .before .before .before .before .before .before .translate .last .1 .0)) ++ shownSteps
+    (t .args .reading) (t .args .mode)
     (take (c .before .before .before .before .before .before .before .before .before .written .given .0 .0)
     (c .before .before .before .before .before .before .before .before .before .before .before .before .before .translate .last .1 .0))) (t .args .out .now) 0
-    (text-wrote (t .args .reading) (t .args .text .now)
+    (text-wrote (t .args .reading) (t .args .mode) (t .args .text .now)
     (called-wrote (c .before .before .before .before .before .before .before .before .before .written .given .1)
     (c .before .before .before .before .before .before .before .before .before .before .before .before .before .translate .ensures) (t .pre .0)
     (c .before .before .before .before .before .before .before .before .before .before .before .before .before .translate .kept .1 .0))) (c .before .before .before .before .show-translation .ensures))
@@ -77,9 +81,9 @@ same-length-5 c = search needs
 returns-2 : tie.Need-returns-2
 returns-2 c =
     let t = c .before .before .before .before .before .before .before .before .before .before .before .before .before .before .before in
-    front-so (said-so (shown (t .args .reading) (t .args .text .now))
+    front-so (said-so (shown (t .args .reading) (t .args .mode) (t .args .text .now))
     (line (refusalText (c .before .before .before .before .before .written2 .given .0 .0) (c .before .before .before .before .before .written2 .given .0 .1 .0))) (t .args .out .now) 0
-    (text-refused (t .args .reading) (t .args .text .now)
+    (text-refused (t .args .reading) (t .args .mode) (t .args .text .now)
     (called-refused (c .before .before .before .before .before .written2 .given .1) (c .before .before .before .before .before .before .before .before .before .translate .ensures) (t .pre .0)))
     (c .before .before .say-refusal .ensures))
 

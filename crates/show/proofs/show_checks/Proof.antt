@@ -23,9 +23,9 @@ first-of-requires c κs = search needs
 say-checks-requires : tie.Need-say-checks-requires
 say-checks-requires c κs =
     let t = c .before .before .before .before .before .before .before .before .before .before in
-    room-so (shownChecks (t .args .reading) (t .args .text .now)) (bothChecks (listed (c .before .first-of .result))) (t .args .out .now) (t .args .at)
-    (checks-told (t .args .reading) (t .args .text .now)
-    (prepare-steps (t .args .reading) (t .args .text .now) (c .before .before .before .before .before .before .before .empty .ensures)
+    room-so (shownChecks (t .args .reading) (t .args .mode) (t .args .text .now)) (bothChecks (listed (c .before .first-of .result))) (t .args .out .now) (t .args .at)
+    (checks-told (t .args .reading) (t .args .mode) (t .args .text .now)
+    (prepare-steps (t .args .reading) (t .args .mode) (t .args .text .now) (c .before .before .before .before .before .before .before .empty .ensures)
     (c .before .before .before .before .before .before .prepare-as .ensures)
     (c .before .before .before .before .answer .given .1) (c .before .first-of .ensures))) (t .pre)
 
@@ -35,10 +35,12 @@ enum-known-answer-2 c = search needs
 say-refusal-requires : tie.Need-say-refusal-requires
 say-refusal-requires c κs =
     let t = c .before .before .before .before .before .before .before .before in
-    room-so (shownChecks (t .args .reading) (t .args .text .now)) (line (refusalText (c .before .before .answer2 .given .0 .0) (c .before .before .answer2 .given .0 .1 .0)))
+    room-so (shownChecks (t .args .reading) (t .args .mode) (t .args .text .now))
+    (line (refusalText (c .before .before .answer2 .given .0 .0) (c .before .before .answer2 .given .0 .1 .0)))
     (t .args .out .now) (t .args .at)
-    (checks-refused (t .args .reading) (t .args .text .now)
-    (prepare-refused (t .args .reading) (t .args .text .now) (c .before .before .before .before .before .empty .ensures) (c .before .before .before .before .prepare-as .ensures)
+    (checks-refused (t .args .reading) (t .args .mode) (t .args .text .now)
+    (prepare-refused (t .args .reading) (t .args .mode) (t .args .text .now) (c .before .before .before .before .before .empty .ensures)
+    (c .before .before .before .before .prepare-as .ensures)
     (c .before .before .answer2 .given .1))) (t .pre)
 
 same-length : tie.Need-same-length
@@ -47,9 +49,11 @@ same-length c = search needs
 returns : tie.Need-returns
 returns c =
     let t = c .before .before .before .before .before .before .before .before .before .before .before .before .before in
-    said-so (shownChecks (t .args .reading) (t .args .text .now)) (bothChecks (listed (c .before .before .before .before .first-of .result))) (t .args .out .now) (t .args .at)
-    (checks-told (t .args .reading) (t .args .text .now)
-    (prepare-steps (t .args .reading) (t .args .text .now) (c .before .before .before .before .before .before .before .before .before .before .empty .ensures)
+    said-so (shownChecks (t .args .reading) (t .args .mode) (t .args .text .now)) (bothChecks (listed (c .before .before .before .before .first-of .result)))
+    (t .args .out .now) (t .args .at)
+    (checks-told (t .args .reading) (t .args .mode) (t .args .text .now)
+    (prepare-steps (t .args .reading) (t .args .mode) (t .args .text .now)
+    (c .before .before .before .before .before .before .before .before .before .before .empty .ensures)
     (c .before .before .before .before .before .before .before .before .before .prepare-as .ensures) (c .before .before .before .before .before .before .before .answer .given .1)
     (c .before .before .before .before .first-of .ensures))) (c .before .before .say-checks .ensures)
 
@@ -59,10 +63,10 @@ same-length-2 c = search needs
 returns-2 : tie.Need-returns-2
 returns-2 c =
     let t = c .before .before .before .before .before .before .before .before .before .before .before in
-    said-so (shownChecks (t .args .reading) (t .args .text .now))
+    said-so (shownChecks (t .args .reading) (t .args .mode) (t .args .text .now))
     (line (refusalText (c .before .before .before .before .before .answer2 .given .0 .0) (c .before .before .before .before .before .answer2 .given .0 .1 .0))) (t .args .out .now) (t .args .at)
-    (checks-refused (t .args .reading) (t .args .text .now)
-    (prepare-refused (t .args .reading) (t .args .text .now) (c .before .before .before .before .before .before .before .before .empty .ensures)
+    (checks-refused (t .args .reading) (t .args .mode) (t .args .text .now)
+    (prepare-refused (t .args .reading) (t .args .mode) (t .args .text .now) (c .before .before .before .before .before .before .before .before .empty .ensures)
     (c .before .before .before .before .before .before .before .prepare-as .ensures) (c .before .before .before .before .before .answer2 .given .1))) (c .before .before .say-refusal .ensures)
 
 pub show-checks-spec : {M : Type 1} → statement M

@@ -26,10 +26,10 @@ slice-aggregate-show-lines c =
 show-lines-requires : tie.Need-show-lines-requires
 show-lines-requires c κs =
     let t = c .before .before .before .before .before .before .before .before .before .before .before .before in
-    room-so (shownSteps (t .args .reading) (t .args .text .now))
+    room-so (shownSteps (t .args .reading) (t .args .mode) (t .args .text .now))
     (headed 1 false (take (c .before .before .before .written .given .0 .0) (c .before .before .before .before .before .before .before .split .last .1 .0)) ++ shownChecks
-    (t .args .reading) (t .args .text .now)) (t .args .out .now) (t .args .at)
-    (steps-wrote (t .args .reading) (t .args .text .now)
+    (t .args .reading) (t .args .mode) (t .args .text .now)) (t .args .out .now) (t .args .at)
+    (steps-wrote (t .args .reading) (t .args .mode) (t .args .text .now)
     (called-wrote (c .before .before .before .written .given .1) (c .before .before .before .before .before .before .before .split .ensures) (t .pre .0)
     (c .before .before .before .before .before .before .before .split .kept .1 .0))) (t .pre .1)
 
@@ -39,9 +39,11 @@ enum-known-written-2 c = search needs
 say-refusal-requires : tie.Need-say-refusal-requires
 say-refusal-requires c κs =
     let t = c .before .before .before .before .before .before .before .before .before .before .before in
-    room-so (shownSteps (t .args .reading) (t .args .text .now)) (line (refusalText (c .before .before .written2 .given .0 .0) (c .before .before .written2 .given .0 .1 .0)))
+    room-so (shownSteps (t .args .reading) (t .args .mode) (t .args .text .now))
+    (line (refusalText (c .before .before .written2 .given .0 .0) (c .before .before .written2 .given .0 .1 .0)))
     (t .args .out .now) (t .args .at)
-    (steps-refused (t .args .reading) (t .args .text .now) (called-refused (c .before .before .written2 .given .1) (c .before .before .before .before .before .before .split .ensures) (t .pre .0)))
+    (steps-refused (t .args .reading) (t .args .mode) (t .args .text .now)
+    (called-refused (c .before .before .written2 .given .1) (c .before .before .before .before .before .before .split .ensures) (t .pre .0)))
     (t .pre .1)
 
 same-length : tie.Need-same-length
@@ -53,10 +55,11 @@ same-length-2 c = search needs
 returns : tie.Need-returns
 returns c =
     let t = c .before .before .before .before .before .before .before .before .before .before .before .before .before .before .before in
-    said-so (shownSteps (t .args .reading) (t .args .text .now))
+    said-so (shownSteps (t .args .reading) (t .args .mode) (t .args .text .now))
     (headed 1 false (take (c .before .before .before .before .before .before .written .given .0 .0)
-    (c .before .before .before .before .before .before .before .before .before .before .split .last .1 .0)) ++ shownChecks (t .args .reading) (t .args .text .now)) (t .args .out .now) (t .args .at)
-    (steps-wrote (t .args .reading) (t .args .text .now)
+    (c .before .before .before .before .before .before .before .before .before .before .split .last .1 .0)) ++ shownChecks (t .args .reading) (t .args .mode)
+    (t .args .text .now)) (t .args .out .now) (t .args .at)
+    (steps-wrote (t .args .reading) (t .args .mode) (t .args .text .now)
     (called-wrote (c .before .before .before .before .before .before .written .given .1) (c .before .before .before .before .before .before .before .before .before .before .split .ensures)
     (t .pre .0) (c .before .before .before .before .before .before .before .before .before .before .split .kept .1 .0))) (c .before .before .show-lines .ensures)
 
@@ -69,9 +72,9 @@ same-length-4 c = search needs
 returns-2 : tie.Need-returns-2
 returns-2 c =
     let t = c .before .before .before .before .before .before .before .before .before .before .before .before .before .before in
-    said-so (shownSteps (t .args .reading) (t .args .text .now))
+    said-so (shownSteps (t .args .reading) (t .args .mode) (t .args .text .now))
     (line (refusalText (c .before .before .before .before .before .written2 .given .0 .0) (c .before .before .before .before .before .written2 .given .0 .1 .0))) (t .args .out .now) (t .args .at)
-    (steps-refused (t .args .reading) (t .args .text .now)
+    (steps-refused (t .args .reading) (t .args .mode) (t .args .text .now)
     (called-refused (c .before .before .before .before .before .written2 .given .1) (c .before .before .before .before .before .before .before .before .before .split .ensures) (t .pre .0)))
     (c .before .before .say-refusal .ensures)
 

@@ -7,13 +7,15 @@ use Rattle.show.proofs.show_translation.Tie as tie
 
 say-translation-requires : tie.Need-say-translation-requires
 say-translation-requires c κs =
-    let t = c .before .before .before .before in first-room (translatedLine (t .args .text .now)) (shownSteps (t .args .reading) (t .args .text .now)) (t .args .out .now) (t .args .at) (t .pre .1)
+    let t = c .before .before .before .before in
+    first-room (translatedLine (t .args .text .now)) (shownSteps (t .args .reading) (t .args .mode) (t .args .text .now)) (t .args .out .now) (t .args .at)
+    (t .pre .1)
 
 show-steps-requires : tie.Need-show-steps-requires
 show-steps-requires c κs =
     let t = c .before .before .before .before .before .before .before .before .before in (
       t .pre .0,
-      second-room (translatedLine (t .args .text .now)) (shownSteps (t .args .reading) (t .args .text .now)) (t .args .out .now) (t .args .at) (t .pre .1)
+      second-room (translatedLine (t .args .text .now)) (shownSteps (t .args .reading) (t .args .mode) (t .args .text .now)) (t .args .out .now) (t .args .at) (t .pre .1)
           (c .before .before .before .before .say-translation .ensures),
     )
 
@@ -26,7 +28,7 @@ same-length-2 c = search needs
 returns : tie.Need-returns
 returns c =
     let t = c .before .before .before .before .before .before .before .before .before .before .before .before .before .before in
-    both-said (translatedLine (t .args .text .now)) (shownSteps (t .args .reading) (t .args .text .now)) (t .args .out .now) (t .args .at) (t .pre .1)
+    both-said (translatedLine (t .args .text .now)) (shownSteps (t .args .reading) (t .args .mode) (t .args .text .now)) (t .args .out .now) (t .args .at) (t .pre .1)
     (c .before .before .before .before .before .before .before .before .before .say-translation .ensures) (c .before .before .before .before .show-steps .ensures)
 
 pub show-translation-spec : {M : Type 1} → statement M

@@ -18,7 +18,7 @@ refused-requires c κs = search needs
 
 returns : tie.Need-returns
 unfolding ascii
-returns c = judged-unnamed (c .before .before .before .value-of .ensures) (not-true _ (c .before .if1 .taken)) (c .refused .ensures)
+returns c = judged-unnamed _ (c .before .before .before .value-of .ensures) (not-true _ (c .before .if1 .taken)) (c .refused .ensures)
 
 sub-name-of : tie.Need-sub-name-of
 sub-name-of c = search needs
@@ -51,7 +51,7 @@ returns-2 c =
     let read = known .before .before in
     let first = read .before .before in
     let looked = first .before .before in
-    judged-named (looked .value-of .ensures) (not-false _ (first .if1 .left)) (sym (read .name-of .ensures) ∙ known .named .given .1) (c .judge-named .ensures)
+    judged-named _ (looked .value-of .ensures) (not-false _ (first .if1 .left)) (sym (read .name-of .ensures) ∙ known .named .given .1) (c .judge-named .ensures)
 
 returns-3 : tie.Need-returns-3
 unfolding ascii
@@ -60,7 +60,7 @@ returns-3 c =
     let read = ended .before .before in
     let first = read .before .before in
     let looked = first .before .before in
-    judged-other (looked .value-of .ensures) (not-false _ (first .if1 .left)) (sym (read .name-of .ensures) ∙ ended .enum-told .given .1) (c .refused2 .ensures)
+    judged-other _ (looked .value-of .ensures) (not-false _ (first .if1 .left)) (sym (read .name-of .ensures) ∙ ended .enum-told .given .1) (c .refused2 .ensures)
 
 pub judge-spec : {M : Type 1} → statement M
 judge-spec =

@@ -17,7 +17,7 @@ refused-requires c κs =
     omega (arith, low .lowest-of .ensures .number, lowest-least (start .args .name) (paramsIn (now (start .args .s)) (now (start .args .row)) (start .args .n)))
 
 returns : tie.Need-returns
-returns c = judged-low _ _ (c .before .before .lowest-of .ensures .number) (c .before .if1 .taken) (c .refused .ensures)
+returns c = judged-low _ _ (c .before .before .lowest-of .ensures .number) _ (c .before .if1 .taken) (c .refused .ensures)
 
 own-rule-requires : tie.Need-own-rule-requires
 own-rule-requires c κs =
@@ -27,7 +27,7 @@ own-rule-requires c κs =
     (start .pre, (low .lowest-of .ensures, omega (arith, low .lowest-of .ensures .number, c .if1 .left, most)))
 
 returns-2 : tie.Need-returns-2
-returns-2 c = judged-own _ _ (c .before .before .lowest-of .ensures .number) (c .before .if1 .left) (c .own-rule .ensures)
+returns-2 c = judged-own _ _ (c .before .before .lowest-of .ensures .number) _ (c .before .if1 .left) (c .own-rule .ensures)
 
 pub judge-named-spec : {M : Type 1} → statement M
 judge-named-spec =

@@ -20,7 +20,7 @@ returns c =
     let first = c .before in
     let ran = first .before in
     let start = ran .before .before .before in
-    text-parted (start .pre) (ran .run-end .ensures) (first .if1 .taken) (c .refused .ensures)
+    text-parted _ (start .pre) (ran .run-end .ensures) (first .if1 .taken) (c .refused .ensures)
 
 slice-aggregate-is-blank : tie.Need-slice-aggregate-is-blank
 slice-aggregate-is-blank c =
@@ -40,7 +40,7 @@ returns-2 c =
     let first = blank .before .before in
     let ran = first .before in
     let start = ran .before .before .before in
-    text-blank (start .pre) (ran .run-end .ensures) (first .if1 .left) (sym (blank .is-blank .ensures) ∙ second .if2 .taken) (c .refused2 .ensures)
+    text-blank _ (start .pre) (ran .run-end .ensures) (first .if1 .left) (sym (blank .is-blank .ensures) ∙ second .if2 .taken) (c .refused2 .ensures)
 
 slice-aggregate-is-lead : tie.Need-slice-aggregate-is-lead
 slice-aggregate-is-lead c =
@@ -63,7 +63,7 @@ returns-3 c =
     let ran = first .before in
     let start = ran .before .before .before in
     let whole = sym (blank .is-blank .ensures) ∙ second .if2 .left in
-    text-modifiers (start .pre) (ran .run-end .ensures) (first .if1 .left) whole (sym (lead .is-lead .ensures) ∙ third .if3 .taken) (c .refused3 .ensures)
+    text-modifiers _ (start .pre) (ran .run-end .ensures) (first .if1 .left) whole (sym (lead .is-lead .ensures) ∙ third .if3 .taken) (c .refused3 .ensures)
 
 table-of-requires : tie.Need-table-of-requires
 table-of-requires c κs =
@@ -88,7 +88,7 @@ returns-4 c =
     let start = ran .before .before .before in
     let whole = sym (blank .is-blank .ensures) ∙ second .if2 .left in
     let other = sym (lead .is-lead .ensures) ∙ third .if3 .left in
-    text-full (start .pre) (ran .run-end .ensures) (first .if1 .left) whole other (tabled .table-of .ensures .no-room (fourth .if4 .taken)) (c .refused4 .ensures)
+    text-full _ (start .pre) (ran .run-end .ensures) (first .if1 .left) whole other (tabled .table-of .ensures .no-room (fourth .if4 .taken)) (c .refused4 .ensures)
 
 judge-requires : tie.Need-judge-requires
 judge-requires c κs = c .before .before .table-of .ensures .good (c .before .if4 .left)
@@ -106,7 +106,7 @@ returns-5 c =
     let start = ran .before .before .before in
     let whole = sym (blank .is-blank .ensures) ∙ second .if2 .left in
     let other = sym (lead .is-lead .ensures) ∙ third .if3 .left in
-    text-table (start .pre) (ran .run-end .ensures) (first .if1 .left) whole other (tabled .table-of .ensures) (fourth .if4 .left) (c .judge .ensures)
+    text-table _ (start .pre) (ran .run-end .ensures) (first .if1 .left) whole other (tabled .table-of .ensures) (fourth .if4 .left) (c .judge .ensures)
 
 pub judge-text-spec : {M : Type 1} → statement M
 judge-text-spec =

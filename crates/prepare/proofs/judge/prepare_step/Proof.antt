@@ -9,7 +9,7 @@ refused-requires : tie.Need-refused-requires
 refused-requires c κs = search needs
 
 returns : tie.Need-returns
-returns c = step-long _ (c .before .if1 .taken) (c .refused .ensures)
+returns c = step-long _ _ (c .before .if1 .taken) (c .refused .ensures)
 
 prepare-text-requires : tie.Need-prepare-text-requires
 prepare-text-requires c κs =
@@ -27,7 +27,7 @@ returns-2 : tie.Need-returns-2
 returns-2 c =
     let judged = c .before .before .before .before in
     let first = judged .before .before .before in
-    step-so _ (first .if1 .left) (judged .prepare-text .ensures)
+    step-so _ _ (first .if1 .left) (judged .prepare-text .ensures)
 
 pub prepare-step-spec : {M : Type 1} → statement M
 prepare-step-spec =

@@ -46,7 +46,7 @@ returns c =
     let spelt = c .before .before .before .before in
     let normalised = spelt .before .before .before .before .before .before .before in
     let start = normalised .before .before .before .before .before .before in
-    text-so (now (start .args .text)) (normalised .normal-of .ensures) (spelt .put .ensures) (c .judge-text .ensures)
+    text-so (now (start .args .text)) (normalised .normal-of .ensures) _ (spelt .put .ensures) (c .judge-text .ensures)
 
 pub prepare-text-spec : {M : Type 1} → statement M
 prepare-text-spec =

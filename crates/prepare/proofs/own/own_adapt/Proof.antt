@@ -1,4 +1,4 @@
--- Both words are read; what they make between them are the arguments.
+-- Both words are read; what they make between them in the mode are the arguments, of the mode's operator.
 use Rattle.rules.specs.Text.Ascii.{ascii}
 use Rattle.laws_lists.specs.Tests.{not-so, not-left}
 use Rattle.prepare.proofs.OwnRules.{adapt-from, adapt-to, adapt-good, adapt-so}
@@ -27,7 +27,7 @@ returns c =
     let word-given = c .before .before .before .before .before .word-given in
     let word-given2 = c .before .before .before .word-given2 in
     let if1 = c .before .if1 in
-    adapt-from _ (word-given .ensures) (word-given2 .ensures) (not-so (if1 .taken)) (c .refused .ensures)
+    adapt-from _ _ (word-given .ensures) (word-given2 .ensures) (not-so (if1 .taken)) (c .refused .ensures)
 
 refused-requires-2 : tie.Need-refused-requires-2
 refused-requires-2 c κs = search needs
@@ -39,7 +39,7 @@ returns-2 c =
     let word-given2 = c .before .before .before .before .before .word-given2 in
     let if1 = c .before .before .before .if1 in
     let if2 = c .before .if2 in
-    adapt-to _ (word-given .ensures) (word-given2 .ensures) (not-left (if1 .left)) (not-so (if2 .taken)) (c .refused2 .ensures)
+    adapt-to _ _ (word-given .ensures) (word-given2 .ensures) (not-left (if1 .left)) (not-so (if2 .taken)) (c .refused2 .ensures)
 
 between-requires : tie.Need-between-requires
 between-requires c κs =
@@ -48,25 +48,30 @@ between-requires c κs =
     let word-given2 = c .before .before .before .before .word-given2 in
     (word-given .ensures .ready (not-left (if1 .left)), word-given2 .ensures .ready (not-left (c .if2 .left)))
 
+operator-in-requires : tie.Need-operator-in-requires
+operator-in-requires c κs = search needs
+
 recorded-requires : tie.Need-recorded-requires
 unfolding ascii
 recorded-requires c κs =
-    let start = c .before .before .before .before .before .before .before .before .before .before in
-    let word-given = c .before .before .before .before .before .before .before .word-given in
-    let word-given2 = c .before .before .before .before .before .word-given2 in
-    let if1 = c .before .before .before .if1 in
-    let if2 = c .before .if2 in
-    (start .pre, adapt-good _ (word-given .ensures) (word-given2 .ensures) (not-left (if1 .left)) (not-left (if2 .left)) (c .between .ensures))
-
-returns-3 : tie.Need-returns-3
-unfolding ascii
-returns-3 c =
+    let start = c .before .before .before .before .before .before .before .before .before .before .before in
     let word-given = c .before .before .before .before .before .before .before .before .word-given in
     let word-given2 = c .before .before .before .before .before .before .word-given2 in
     let if1 = c .before .before .before .before .if1 in
     let if2 = c .before .before .if2 in
-    let between = c .before .between in
-    adapt-so _ (word-given .ensures) (word-given2 .ensures) (not-left (if1 .left)) (not-left (if2 .left)) (between .ensures) (c .recorded .ensures)
+    (start .pre, adapt-good _ _ (word-given .ensures) (word-given2 .ensures) (not-left (if1 .left)) (not-left (if2 .left)) (c .before .between .ensures))
+
+returns-3 : tie.Need-returns-3
+unfolding ascii
+returns-3 c =
+    let word-given = c .before .before .before .before .before .before .before .before .before .word-given in
+    let word-given2 = c .before .before .before .before .before .before .before .word-given2 in
+    let if1 = c .before .before .before .before .before .if1 in
+    let if2 = c .before .before .before .if2 in
+    let between = c .before .before .between in
+    let operator-in = c .before .operator-in in
+    adapt-so _ _ (word-given .ensures) (word-given2 .ensures) (not-left (if1 .left)) (not-left (if2 .left)) (between .ensures) (operator-in .ensures)
+    (c .recorded .ensures)
 
 pub own-adapt-spec : {M : Type 1} → statement M
 own-adapt-spec =
@@ -81,5 +86,6 @@ own-adapt-spec =
     refused-requires-2
     returns-2
     between-requires
+    operator-in-requires
     recorded-requires
     returns-3)

@@ -1,4 +1,4 @@
--- The rule goes by the name.
+-- The rule goes by the name; that of `adapt` knows the mode.
 use Rattle.prepare.proofs.OwnRules.{own-push, own-pop}
 use borrow.Author.Needs.{needs}
 use Rattle.prepare.proofs.own.own_rule.Statement.{statement}
@@ -45,16 +45,16 @@ own-adapt-requires : tie.Need-own-adapt-requires
 own-adapt-requires c κs = search needs
 
 returns : tie.Need-returns
-returns c = rw (c .before .before .enum-told .given .1) (own-push _ (c .before .axes-of .ensures) (c .recorded .ensures))
+returns c = rw (c .before .before .enum-told .given .1) (own-push _ _ (c .before .axes-of .ensures) (c .recorded .ensures))
 
 returns-2 : tie.Need-returns-2
-returns-2 c = rw (c .before .before .enum-told2 .given .1) (own-pop _ (c .before .axes-of2 .ensures) (c .recorded2 .ensures))
+returns-2 c = rw (c .before .before .enum-told2 .given .1) (own-pop _ _ (c .before .axes-of2 .ensures) (c .recorded2 .ensures))
 
 returns-3 : tie.Need-returns-3
-returns-3 c = rw (c .before .enum-told3 .given .1) (c .own-stack .ensures)
+returns-3 c = rw (c .before .enum-told3 .given .1) (c .own-stack .ensures _)
 
 returns-4 : tie.Need-returns-4
-returns-4 c = rw (c .before .enum-told4 .given .1) (c .own-order .ensures)
+returns-4 c = rw (c .before .enum-told4 .given .1) (c .own-order .ensures _)
 
 returns-5 : tie.Need-returns-5
 returns-5 c = rw (c .before .enum-told5 .given .1) (c .own-adapt .ensures)

@@ -1,4 +1,4 @@
--- Exactly one action: then its series is the one that was read, or there is none.
+-- Exactly one action: then its series is the one that was read, or there is none. No mode alters that.
 use Rattle.prepare.proofs.FirstSeries.{numbers-good}
 use Rattle.prepare.proofs.OwnRules.{stack-none, stack-one, stack-more}
 use borrow.Author.Needs.{needs}
@@ -29,17 +29,17 @@ refused-requires-2 : tie.Need-refused-requires-2
 refused-requires-2 c κs = search needs
 
 returns : tie.Need-returns
-returns c = stack-none _ (rw (c .before .enum-told .given .1) at (c .before .before .before .action-of .ensures)) (c .refused .ensures)
+returns c mode = stack-none mode _ (rw (c .before .enum-told .given .1) at (c .before .before .before .action-of .ensures)) (c .refused .ensures)
 
 returns-2 : tie.Need-returns-2
-returns-2 c =
+returns-2 c mode =
     let choice = c .before .before .choice in
     let action-of = c .before .before .before .before .action-of in
     let start = c .before .before .before .before .before .before .before in
-    stack-one (rw (choice .given .1) at (action-of .ensures)) (start .pre .1 .0) (start .pre .1 .1) (c .own-series .ensures)
+    stack-one (rw (choice .given .1) at (action-of .ensures)) (start .pre .1 .0) (start .pre .1 .1) mode (c .own-series .ensures)
 
 returns-3 : tie.Need-returns-3
-returns-3 c = stack-more _ (rw (c .before .enum-told2 .given .1) at (c .before .before .before .action-of .ensures)) (c .refused2 .ensures)
+returns-3 c mode = stack-more mode _ (rw (c .before .enum-told2 .given .1) at (c .before .before .before .action-of .ensures)) (c .refused2 .ensures)
 
 pub own-stack-spec : {M : Type 1} → statement M
 own-stack-spec =

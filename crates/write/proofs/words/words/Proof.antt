@@ -1,14 +1,20 @@
 -- `words`: each arm knows which operators it has, and there the words are those that the operator's own call writes.
 use mathlib.Core.Path.{sym}
+use Prim.Native.Nat.{_<_}
 use native.Mathlib.Omega.{arith}
 use Rattle.numbers.proofs.InTurn.{room-as, as-written}
-use Rattle.write.proofs.OperatorTexts.{flags-rule, order-text, adapt-rule, adapt-text}
+use Rattle.write.proofs.OperatorTexts.{flags-rule, order-text, documented-rule, documented-text, adapt-rule, adapt-text}
 use borrow.Author.Needs.{needs}
 use Rattle.write.proofs.words.words.Statement.{statement}
 use Rattle.write.proofs.words.words.Tie as tie
 
 write-words-requires : tie.Need-write-words-requires
 write-words-requires c κs = room-as (sym (order-text _ (c .before .match .keys1))) (c .before .before .before .pre .1)
+
+write-documented-requires : tie.Need-write-documented-requires
+write-documented-requires c κs =
+    let p = c .before .before .before .pre in
+    (documented-rule _ (c .before .match .keys2) (p .0), room-as (sym (documented-text _ (c .before .match .keys2))) (p .1))
 
 write-words-requires-2 : tie.Need-write-words-requires-2
 write-words-requires-2 c κs =
@@ -21,8 +27,9 @@ write-words-requires-3 c κs = search needs
 write-words-requires-4 : tie.Need-write-words-requires-4
 write-words-requires-4 c κs =
     let p = c .before .before .before .before .before .pre in
-    let match = c .before .before .before .match in
-    (adapt-rule _ _ (omega (arith, c .before .if2 .left)) (match .rest .1) (p .0), room-as (sym (adapt-text _ _ (omega (arith, c .before .if2 .left)) (match .rest .1))) (p .1))
+    let rest = c .before .before .before .match .rest in
+    let over : 8 < c .before .before .before .before .before .args .operator = omega (arith, c .before .if2 .left) in
+    (adapt-rule _ _ over (rest .0 .1) (rest .1) (p .0), room-as (sym (adapt-text _ _ over (rest .0 .1) (rest .1))) (p .1))
 
 same-length : tie.Need-same-length
 same-length c = search needs
@@ -34,7 +41,7 @@ same-length-2 : tie.Need-same-length-2
 same-length-2 c = search needs
 
 returns-2 : tie.Need-returns-2
-returns-2 c = search needs
+returns-2 c = as-written (documented-text _ (c .before .before .before .before .match .keys2)) (c .before .before .write-documented .ensures)
 
 same-length-3 : tie.Need-same-length-3
 same-length-3 c = search needs
@@ -46,16 +53,23 @@ same-length-4 : tie.Need-same-length-4
 same-length-4 c = search needs
 
 returns-4 : tie.Need-returns-4
-returns-4 c =
-    let match = c .before .before .before .before .before .before .match in
+returns-4 c = search needs
+
+same-length-5 : tie.Need-same-length-5
+same-length-5 c = search needs
+
+returns-5 : tie.Need-returns-5
+returns-5 c =
+    let rest = c .before .before .before .before .before .before .match .rest in
     let left = c .before .before .before .before .if2 .left in
-    as-written (adapt-text _ _ (omega (arith, left)) (match .rest .1)) (c .before .before .write-words4 .ensures)
+    as-written (adapt-text _ _ (omega (arith, left)) (rest .0 .1) (rest .1)) (c .before .before .write-words4 .ensures)
 
 pub words-spec : {M : Type 1} → statement M
 words-spec =
     tie.close
     (tie.spec
     write-words-requires
+    write-documented-requires
     write-words-requires-2
     write-words-requires-3
     write-words-requires-4
@@ -66,4 +80,6 @@ words-spec =
     same-length-3
     returns-3
     same-length-4
-    returns-4)
+    returns-4
+    same-length-5
+    returns-5)

@@ -1,9 +1,9 @@
--- `between`: the eight arguments are by their places what `combined` lists: four outputs, the code of the angles twice, and two zeros.
+-- `combined`: the eight arguments are by their places what `combined` lists: four outputs, the code of the angles twice, and two zeros.
 use Rattle.laws_lists.specs.Signed.{given-is}
 use Rattle.adapt.proofs.TwoWords.{between-so}
 use borrow.Author.Needs.{needs}
-use Rattle.adapt.proofs.words.between.Statement.{statement}
-use Rattle.adapt.proofs.words.between.Tie as tie
+use Rattle.adapt.proofs.words.combined.Statement.{statement}
+use Rattle.adapt.proofs.words.combined.Tie as tie
 
 output-requires : tie.Need-output-requires
 output-requires c κs = search needs
@@ -29,8 +29,8 @@ returns c =
     between-so _ _ (given-is (first .output .ok) (first .output .ensures)) (given-is (second .output2 .ok) (second .output2 .ensures))
     (given-is (third .output3 .ok) (third .output3 .ensures)) (given-is (fourth .output4 .ok) (fourth .output4 .ensures)) (given-is (c .code-of .ok) (c .code-of .ensures))
 
-pub between-spec : {M : Type 1} → statement M
-between-spec =
+pub combined-spec : {M : Type 1} → statement M
+combined-spec =
     tie.close
     (tie.spec
     output-requires
