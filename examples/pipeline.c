@@ -1,10 +1,10 @@
 /* Prepares, checks and runs definitions through the library.
  *
- *     pipeline [-p | -m]      reads one definition from standard input and says what becomes of it, and of the tuple 1,2,3,4
- *     pipeline [-p | -m] -x   the same for each line of standard input, which holds a definition in hexadecimal digits
+ *     pipeline [-p | -m] [-d]      reads one definition from standard input and says what becomes of it, and of the tuple 1,2,3,4
+ *     pipeline [-p | -m] [-d] -x   the same for each line of standard input, which holds a definition in hexadecimal digits
  *
  * With -p the definition is read in PROJ's reading. With -m the first record is then marked as of the crate's: a mixture, which is
- * refused.
+ * refused. With -d it is prepared in the documented mode.
  *
  * examples/run builds it.
  */
@@ -39,19 +39,28 @@ static void say_run(const char *direction, const sakondreno_step *table, size_t 
         printf("%s: %.17g,%.17g,%.17g,%.17g count %zu left %zu\n", direction, tuple[0], tuple[1], tuple[2], tuple[3], d.count, d.left);
 }
 
-/* How a definition is read. */
-typedef enum { AS_CRATE, AS_PROJ, MIXED } way;
+/* How a definition is prepared. */
+typedef struct {
+    uint8_t reading, mode;
+    bool mixed;
+} way;
+
+static sakondreno_answer prepare(const uint8_t *text, size_t length, way how, sakondreno_step table[64])
+{
+    if (how.reading == SAKONDRENO_CRATE && how.mode == SAKONDRENO_MODE_CRATE)
+        return sakondreno_prepare(text, length, table, 64);
+    return sakondreno_prepare_as(text, length, how.reading, how.mode, table, 64);
+}
 
 static void say(const uint8_t *text, size_t length, way how)
 {
     sakondreno_step table[64];
-    sakondreno_answer p = how == AS_CRATE ? sakondreno_prepare(text, length, table, 64)
-                                          : sakondreno_prepare_as(text, length, SAKONDRENO_PROJ, table, 64);
+    sakondreno_answer p = prepare(text, length, how, table);
     if (p.number != 0) {
         printf("refused %u %zu\n", p.number, p.place);
         return;
     }
-    if (how == MIXED && p.length > 0)
+    if (how.mixed && p.length > 0)
         table[0].reading = SAKONDRENO_CRATE;
     printf("steps %zu\n", p.length);
     say_check("check forward", table, p.length, 0);
@@ -76,7 +85,12 @@ static bool given(int argc, char **argv, const char *option)
 int main(int argc, char **argv)
 {
     static uint8_t text[65536], line[131075];
-    way how = given(argc, argv, "-p") ? AS_PROJ : given(argc, argv, "-m") ? MIXED : AS_CRATE;
+    bool mixed = given(argc, argv, "-m");
+    way how = {
+        .reading = mixed || given(argc, argv, "-p") ? SAKONDRENO_PROJ : SAKONDRENO_CRATE,
+        .mode = given(argc, argv, "-d") ? SAKONDRENO_MODE_DOCUMENTED : SAKONDRENO_MODE_CRATE,
+        .mixed = mixed,
+    };
     if (!given(argc, argv, "-x")) {
         say(text, fread(text, 1, sizeof text, stdin), how);
         return 0;

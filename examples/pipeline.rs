@@ -1,20 +1,27 @@
 //! Prepares, checks and runs definitions through the library: the same as pipeline.c, from Rust.
 //!
-//!     pipeline [-p | -m]      reads one definition from standard input and says what becomes of it, and of the tuple 1,2,3,4
-//!     pipeline [-p | -m] -x   the same for each line of standard input, which holds a definition in hexadecimal digits
+//!     pipeline [-p | -m] [-d]      reads one definition from standard input and says what becomes of it, and of the tuple 1,2,3,4
+//!     pipeline [-p | -m] [-d] -x   the same for each line of standard input, which holds a definition in hexadecimal digits
 //!
 //! With -p the definition is read in PROJ's reading. With -m the first record is then marked as of the crate's: a mixture, which is
-//! refused.
+//! refused. With -d it is prepared in the documented mode.
 //!
 //! examples/run builds it. `mod sakondreno` is what a Rust program needs of the library: the records and the calls, each in
 //! a safe wrapper. The calls keep no reference, write only to what they are lent, and end on every input.
 
 mod sakondreno {
     /// The readings of a definition, by their numbers in a record.
-    #[derive(Clone, Copy)]
+    #[derive(Clone, Copy, PartialEq)]
     pub enum Reading {
         Crate = 0,
         Proj = 1,
+    }
+
+    /// The modes of preparing, by their numbers: what `adapt` steps do.
+    #[derive(Clone, Copy, PartialEq)]
+    pub enum Mode {
+        Crate = 0,
+        Documented = 1,
     }
 
     #[repr(C)]
@@ -76,7 +83,7 @@ mod sakondreno {
 
     unsafe extern "C" {
         fn sakondreno_prepare(text: *const u8, length: usize, table: *mut Step, room: usize) -> Answer;
-        fn sakondreno_prepare_as(text: *const u8, length: usize, reading: u8, table: *mut Step, room: usize) -> Answer;
+        fn sakondreno_prepare_as(text: *const u8, length: usize, reading: u8, mode: u8, table: *mut Step, room: usize) -> Answer;
         fn sakondreno_check(table: *const Step, steps: usize, inverse: u8) -> Checked;
         fn sakondreno_run(table: *const Step, steps: usize, inverse: u8, tuples: *mut f64, numbers: usize, store: *mut f64, room: usize) -> Done;
     }
@@ -90,17 +97,17 @@ mod sakondreno {
         Ok(table)
     }
 
-    /// The records of a definition, in the crate's reading.
+    /// The records of a definition, in the crate's reading and the crate's mode.
     pub fn prepare(text: &[u8]) -> Result<Vec<Step>, Refused> {
         let mut table = vec![Step::default(); 64];
         let a = unsafe { sakondreno_prepare(text.as_ptr(), text.len(), table.as_mut_ptr(), table.len()) };
         answered(a, table)
     }
 
-    /// The records of a definition, in a reading.
-    pub fn prepare_as(text: &[u8], reading: Reading) -> Result<Vec<Step>, Refused> {
+    /// The records of a definition, in a reading and a mode.
+    pub fn prepare_as(text: &[u8], reading: Reading, mode: Mode) -> Result<Vec<Step>, Refused> {
         let mut table = vec![Step::default(); 64];
-        let a = unsafe { sakondreno_prepare_as(text.as_ptr(), text.len(), reading as u8, table.as_mut_ptr(), table.len()) };
+        let a = unsafe { sakondreno_prepare_as(text.as_ptr(), text.len(), reading as u8, mode as u8, table.as_mut_ptr(), table.len()) };
         answered(a, table)
     }
 
@@ -119,7 +126,7 @@ mod sakondreno {
     }
 }
 
-use sakondreno::{Reading, Step, check, prepare, prepare_as, run};
+use sakondreno::{Mode, Reading, Refused, Step, check, run};
 use std::io::{BufRead, Read, Write};
 
 fn say_check(out: &mut impl Write, direction: &str, table: &[Step], inverse: bool) -> std::io::Result<()> {
@@ -150,21 +157,27 @@ fn say_run(out: &mut impl Write, direction: &str, table: &[Step], inverse: bool)
     }
 }
 
-/// How a definition is read.
-#[derive(Clone, Copy, PartialEq)]
-enum Way {
-    AsCrate,
-    AsProj,
-    Mixed,
+/// How a definition is prepared.
+#[derive(Clone, Copy)]
+struct Way {
+    reading: Reading,
+    mode: Mode,
+    mixed: bool,
+}
+
+fn prepare(text: &[u8], way: Way) -> Result<Vec<Step>, Refused> {
+    if way.reading == Reading::Crate && way.mode == Mode::Crate {
+        return sakondreno::prepare(text);
+    }
+    sakondreno::prepare_as(text, way.reading, way.mode)
 }
 
 fn say(out: &mut impl Write, text: &[u8], way: Way) -> std::io::Result<()> {
-    let prepared = if way == Way::AsCrate { prepare(text) } else { prepare_as(text, Reading::Proj) };
-    let mut table = match prepared {
+    let mut table = match prepare(text, way) {
         Err(r) => return writeln!(out, "refused {} {}", r.number, r.place),
         Ok(table) => table,
     };
-    if way == Way::Mixed && !table.is_empty() {
+    if way.mixed && !table.is_empty() {
         table[0].reading = Reading::Crate as u8;
     }
     writeln!(out, "steps {}", table.len())?;
@@ -177,7 +190,12 @@ fn say(out: &mut impl Write, text: &[u8], way: Way) -> std::io::Result<()> {
 fn main() -> std::io::Result<()> {
     let mut out = std::io::BufWriter::new(std::io::stdout().lock());
     let given = |option: &str| std::env::args().skip(1).any(|a| a == option);
-    let way = if given("-p") { Way::AsProj } else if given("-m") { Way::Mixed } else { Way::AsCrate };
+    let mixed = given("-m");
+    let way = Way {
+        reading: if mixed || given("-p") { Reading::Proj } else { Reading::Crate },
+        mode: if given("-d") { Mode::Documented } else { Mode::Crate },
+        mixed,
+    };
     if !given("-x") {
         let mut text = Vec::new();
         std::io::stdin().read_to_end(&mut text)?;

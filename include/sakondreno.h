@@ -60,8 +60,15 @@ enum {
     SAKONDRENO_STACK_SWAP = 7,   /* no args */
     SAKONDRENO_STACK_DROP = 8,
     SAKONDRENO_AXISSWAP = 9,     /* args: the order, 1 to 4 signed places, each once */
-    SAKONDRENO_ADAPT = 10        /* args: four signed places, each once, and the codes of four factors */
+    SAKONDRENO_ADAPT = 10,       /* `adapt` in the crate's mode; args: eight, as described below */
+    SAKONDRENO_DOCUMENTED = 11   /* `adapt` in the documented mode; args: eight, as described below */
 };
+
+/* The eight args of `adapt`. The first four are signed places, each place once: forward, output i is the input's number at the
+ * place args[i - 1], its sign turned where that is below 0. The last four are codes, args[i + 3] for output i, of a change in the
+ * unit of angles: 3 times the input's unit plus the output's, where 0 is radians, 1 degrees and 2 gons; or 0 for no change. Two
+ * of the codes are alike and the other two are 0. In the crate's mode the two are those of outputs 1 and 2; in the documented
+ * mode those of the two outputs that point east or west, and north or south, wherever they stand. */
 
 /* The readings of a definition by their numbers. */
 enum {
@@ -69,8 +76,18 @@ enum {
     SAKONDRENO_PROJ = 1   /* `inv` turns every operator */
 };
 
+/* The modes of preparing by their numbers. A mode says what `adapt` steps do; no other step depends on it. Take `adapt from=nwuf`:
+ * the input's first number points north and its second west; the output's point east and north. */
+enum {
+    SAKONDRENO_MODE_CRATE = 0,     /* As the crate's code has it: a sign and a unit of angle belong to a position, and stay there
+                                    * when the number moves. 1,2,3,4 becomes 2,-1,3,4. Inverse need not undo forward. */
+    SAKONDRENO_MODE_DOCUMENTED = 1 /* As the page of `adapt` describes it: they belong to an axis, and move with its number.
+                                    * 1,2,3,4 becomes -2,1,3,4. Inverse undoes forward, but for rounding where a unit changes. */
+};
+
 /* A step. `sakondreno_prepare` makes it; a record made otherwise is refused 18 unless preparing could have made it: slots of
- * args that are not used hold 0, marks are 0 or 1, and all records of a table have one reading. 40 bytes. */
+ * args that are not used hold 0, marks are 0 or 1, and all records of a table have one reading. The mode of an `adapt` step is
+ * in its operator's number, and a table may hold both. 40 bytes. */
 typedef struct {
     uint8_t operator_; /* by its number */
     uint8_t n;         /* how many of args are used */
@@ -111,10 +128,12 @@ sakondreno_part sakondreno_next(const uint8_t *text, size_t length, size_t at);
 /* ---- pipelines. `inverse` is 0 for forward; any other number for inverse. */
 
 /* Makes records of a definition, from the first of the lent row on; `length` of the answer is how many. 64 always do. The
- * definition is read in the crate's reading. */
+ * definition is read in the crate's reading and the crate's mode. */
 sakondreno_answer sakondreno_prepare(const uint8_t *text, size_t length, sakondreno_step *table, size_t room);
-/* The same in a reading: 0 is the crate's; any other number is PROJ's. */
-sakondreno_answer sakondreno_prepare_as(const uint8_t *text, size_t length, uint8_t reading, sakondreno_step *table, size_t room);
+/* The same in a reading and a mode. A reading of 0 is the crate's, any other number is PROJ's; a mode of 0 is the crate's, any
+ * other number is the documented. */
+sakondreno_answer sakondreno_prepare_as(const uint8_t *text, size_t length, uint8_t reading, uint8_t mode,
+                                        sakondreno_step *table, size_t room);
 
 /* A place of a tuple, 1 to 4, and whether its sign is turned. */
 typedef struct {

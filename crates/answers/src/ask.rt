@@ -3,6 +3,7 @@
 ghost use Prim.Native.Nat.{_≤_};
 use crate::given::Source;
 use crate::marks::Mark;
+use crate::marks::Way;
 use crate::marks::read_mark;
 use crate::prepares::answer_prepare;
 use crate::tables::Called;
@@ -15,30 +16,29 @@ use crate::texts::answer_text;
 use answers_say::say_what;
 use answers_wire::part;
 use answers_wire::parts;
-use rules::Reading;
 use text::is_same;
 
 enum Request {
     Text(TextCall),
     Table(TableCall, Source),
-    Prepare(Reading),
+    Prepare(Way),
     Steps,
     Nothing,
 }
 
 // Which request a line's first field names. One that prepares a text can have a mark; no other can.
 fn asked(word: &[u8]) -> Request {
-    let Mark::Is(reading) = read_mark(word) else {
+    let Mark::Is(way) = read_mark(word) else {
         return Request::Nothing;
     };
     let name = part(word, b'/', 0);
     if is_same(name, b"prepare") {
-        return Request::Prepare(reading);
+        return Request::Prepare(way);
     }
     let Called::Is(which) = table_call(name) else {
         return asked_rows(word);
     };
-    Request::Table(which, Source::Text(reading))
+    Request::Table(which, Source::Text(way))
 }
 
 // Which of those on records: `rows-`, and the word of one on a table.
@@ -93,7 +93,7 @@ pub fn answer(
         Request::Table(which, source) => {
             answer_table(which, source, line, text, lent, list, store, out, at)
         }
-        Request::Prepare(reading) => answer_prepare(reading, line, text, out, at),
+        Request::Prepare(way) => answer_prepare(way, line, text, out, at),
         Request::Steps => answer_steps(line, text, out, at),
         Request::Nothing => say_what(out, at),
     }

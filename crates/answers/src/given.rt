@@ -1,4 +1,5 @@
 // The step table that a request is on: of a text that is prepared, or of records that the request spells.
+use crate::marks::Way;
 use crate::prepares::prepared;
 use answers_steps::MOST_STEPS;
 use answers_steps::count_rows;
@@ -10,12 +11,11 @@ use answers_wire::Natural;
 use answers_wire::Text;
 use prepare::Preparing;
 use rules::Prepared;
-use rules::Reading;
 use rules::Table;
 
-// Where the table comes from: a text, and the reading in which it is prepared, or records.
+// Where the table comes from: a text, and the way in which it is prepared, or records.
 pub enum Source {
-    Text(Reading),
+    Text(Way),
     Rows,
 }
 
@@ -42,23 +42,17 @@ pub fn read_given(
     text: &mut [u8; 65536],
 ) -> Given {
     match source {
-        Source::Text(reading) => given_text(reading, line, count, k, text),
+        Source::Text(way) => given_text(way, line, count, k, text),
         Source::Rows => given_rows(line, count, k),
     }
 }
 
 // Of a text, which is prepared into the most records.
-fn given_text(
-    reading: Reading,
-    line: &[u8],
-    count: usize,
-    k: usize,
-    text: &mut [u8; 65536],
-) -> Given {
+fn given_text(way: Way, line: &[u8], count: usize, k: usize, text: &mut [u8; 65536]) -> Given {
     let Text::Is(n) = answers_wire::read_text_of(line, count, k, text) else {
         return nothing();
     };
-    given_prepared(prepared(text, n, reading, MOST_STEPS))
+    given_prepared(prepared(text, n, way, MOST_STEPS))
 }
 
 fn given_prepared(made: Preparing) -> Given {

@@ -1,4 +1,5 @@
 // `prepare`: the text is prepared into a lent table, and its records are said.
+use crate::marks::Way;
 use answers_say::say_refusal;
 use answers_say::say_what;
 use answers_steps::MOST_STEPS;
@@ -10,20 +11,21 @@ use answers_wire::Text;
 use prepare::Preparing;
 use prepare::prepare_as;
 use rules::Prepared;
-use rules::Reading;
 ghost use Prim.Native.Nat.{_≤_};
 ghost use lib.ListN.{length};
 
-// Prepares the first n bytes of a text, in a reading, into a lent row of `room` records.
-pub fn prepared(text: &[u8], n: usize, reading: Reading, room: usize) -> Preparing
+// Prepares the first n bytes of a text, in a reading and a mode, into a lent row of `room` records.
+pub fn prepared(text: &[u8], n: usize, way: Way, room: usize) -> Preparing
     requires { ⌜ n ≤ length (now text) ⌝ }
 {
-    prepare_as(&text[0..n], reading, untouched(room))
+    let reading = way.reading;
+    let mode = way.mode;
+    prepare_as(&text[0..n], reading, mode, untouched(room))
 }
 
 // `prepare ROOM TEXT`.
 pub fn answer_prepare(
-    reading: Reading,
+    way: Way,
     line: &[u8],
     text: &mut [u8; 65536],
     out: &mut [u8; 65536],
@@ -39,7 +41,7 @@ pub fn answer_prepare(
     let Text::Is(n) = answers_wire::read_text_of(line, 3, 2, text) else {
         return say_what(out, at);
     };
-    say_prepared(prepared(text, n, reading, room), room, out, at)
+    say_prepared(prepared(text, n, way, room), room, out, at)
 }
 
 fn say_prepared(made: Preparing, room: usize, out: &mut [u8; 65536], at: usize) -> usize

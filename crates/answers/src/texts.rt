@@ -13,6 +13,7 @@ use answers_wire::Text;
 use normalise::normalise;
 use parameters::parameters;
 use proj::translate;
+use rules::Mode;
 use rules::Reading;
 use rules::Written;
 use split::split;
@@ -92,7 +93,14 @@ fn say_shown(text: &[u8], n: usize, out: &mut [u8; 65536], at: usize) -> usize
     let mut a = io::large_buffer();
     let mut b = io::large_buffer();
     let mut room = print_room();
-    let long = show::show(&text[0..n], Reading::Crate, &mut a, &mut b, &mut room);
+    let long = show::show(
+        &text[0..n],
+        Reading::Crate,
+        Mode::Crate,
+        &mut a,
+        &mut b,
+        &mut room,
+    );
     let told = say_ok(&room, long, out, at);
     say_byte(b'\n', out, told)
 }

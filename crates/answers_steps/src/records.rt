@@ -12,6 +12,7 @@ use numbers::size_of;
 use rules::ADAPT;
 use rules::AXISSWAP;
 use rules::CRATE;
+use rules::DOCUMENTED;
 use rules::POP;
 use rules::PROJ;
 use rules::PUSH;
@@ -118,6 +119,7 @@ fn say_name(operator: u8, out: &mut [u8; 65536], at: usize) -> usize
         STACK_DROP => say(b"stack.drop", out, at),
         AXISSWAP => say(b"axisswap", out, at),
         ADAPT => say(b"adapt", out, at),
+        DOCUMENTED => say(b"documented", out, at),
         _ => say_byte(b'?', out, at),
     }
 }
@@ -185,7 +187,7 @@ fn say_list(l: &[i32], out: &mut [u8; 65536], at: usize) -> usize
     o
 }
 
-// The arguments of an `adapt` step: `noop`, or the four places and the four factors.
+// The arguments of an `adapt` step, in either mode: `noop`, or the four places and the four factors.
 fn say_adapt(args: [i32; 8], out: &mut [u8; 65536], at: usize) -> usize
     requires { ⌜ at ≤ 65536 ⌝ }
     ensures { λ r. ⌜ r ≤ 65536 ⌝ }
@@ -216,7 +218,7 @@ fn say_args(operator: u8, args: [i32; 8], n: usize, out: &mut [u8; 65536], at: u
     requires { ⌜ at ≤ 65536 ⌝ }
     ensures { λ r. ⌜ r ≤ 65536 ⌝ }
 {
-    if operator == ADAPT {
+    if operator == ADAPT || operator == DOCUMENTED {
         return say_adapt(args, out, at);
     }
     if 8 < n {

@@ -49,10 +49,11 @@ fn read_input(fd: i32, room: &mut [u8]) -> Input
 // Prints what becomes of a definition.
 fn show_text(text: &[u8], options: Options) {
     let reading = options.reading();
+    let mode = options.mode();
     let mut a = io::large_buffer();
     let mut b = io::large_buffer();
     let mut out = print_room();
-    let n = show::show(text, reading, &mut a, &mut b, &mut out);
+    let n = show::show(text, reading, mode, &mut a, &mut b, &mut out);
     io::write_all(STDOUT_FILENO, &out[..n]);
 }
 

@@ -1,6 +1,7 @@
 // The command line of the program `steps`. A new option is a field of `Options`, its word in `with`, and its line in `print_help`.
 use libc::STDERR_FILENO;
 use libc::STDOUT_FILENO;
+use rules::Mode;
 use rules::Reading;
 use text::is_same;
 
@@ -10,6 +11,8 @@ pub struct Options {
     pub version: bool,
     // The definition is read in PROJ's reading.
     proj: bool,
+    // `adapt` is taken in the documented mode.
+    documented: bool,
     // The argument that names the file.
     pub file: usize,
     // The first argument that cannot be taken.
@@ -22,6 +25,7 @@ impl Options {
             help: false,
             version: false,
             proj: false,
+            documented: false,
             file: 0,
             wrong: 0,
         }
@@ -33,6 +37,14 @@ impl Options {
             return Reading::Proj;
         }
         Reading::Crate
+    }
+
+    // The mode of the definition.
+    pub fn mode(self) -> Mode {
+        if self.documented {
+            return Mode::Documented;
+        }
+        Mode::Crate
     }
 
     // With argument i, which is this word: the one home of the options' words.
@@ -47,6 +59,10 @@ impl Options {
         }
         if is_same(word, b"--proj") {
             self.proj = true;
+            return self;
+        }
+        if is_same(word, b"--documented") {
+            self.documented = true;
             return self;
         }
         if is_option(word) {
@@ -160,7 +176,7 @@ pub fn print_version() {
 pub fn print_help() {
     io::write_all(
         STDOUT_FILENO,
-        b"usage: steps [--proj] [FILE]
+        b"usage: steps [--proj] [--documented] [FILE]
 
 Says what becomes of a pipeline's definition: its translation, if it is
 written in PROJ's language, its steps, and what a run of them will do,
@@ -170,10 +186,12 @@ leaves too many.
 The definition is read from FILE, or from standard input where there is
 no FILE or it is `-`. It has 4,096 bytes at most.
 
-  --proj     read it as PROJ does: `inv` turns every operator, and not
-             only `axisswap` and `adapt`
-  --help     print this
-  --version  print the version
+  --proj        read it as PROJ does: `inv` turns every operator, and not
+                only `axisswap` and `adapt`
+  --documented  take `adapt` as its own page describes it: sign and angle
+                belong to an axis, and not to a position
+  --help        print this
+  --version     print the version
 
 An example:
 

@@ -7,6 +7,9 @@ use Rattle.steps.proofs.show_text.Tie as tie
 reading-requires : tie.Need-reading-requires
 reading-requires c κs = search needs
 
+mode-requires : tie.Need-mode-requires
+mode-requires c κs = search needs
+
 large-buffer-requires : tie.Need-large-buffer-requires
 large-buffer-requires c κs = search needs
 
@@ -45,6 +48,7 @@ show-text-spec =
     tie.close
     (tie.spec
     reading-requires
+    mode-requires
     large-buffer-requires
     large-buffer-requires-2
     print-room-requires
