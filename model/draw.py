@@ -1,4 +1,4 @@
-"""Inputs for the calls of document 01, in both readings, drawn from a seed.
+"""Inputs for the calls of document 01, in both readings and both modes, drawn from a seed.
 
 Every function takes rng, a random.Random(seed), and nothing else that changes:
 one seed gives one row of inputs. `python3 draw.py SEED COUNT` writes requests.
@@ -9,10 +9,10 @@ import struct
 import sys
 
 from model import (
-    ADAPT, AXISSWAP, CODES, CRATE, FIELDS, FWD, INV, MOST_BYTES, MOST_DEPTH, MOST_SIZE, POP, PROJ,
-    PUSH, STACK_DROP, STACK_FLIP, STACK_POP, STACK_PUSH, STACK_ROLL, STACK_SWAP,
-    STACK_UNROLL, TEXT_CALLS, act, columns_wanted, depth_after, new_step, prepare, records_refusal,
-    refuses, run_depths, running, used)
+    ADAPT, AXES_STEPS, AXISSWAP, CODES, CRATE, CRATE_MODE, DOCUMENTED, DOCUMENTED_MODE, FIELDS, FWD,
+    INV, MOST_BYTES, MOST_DEPTH, MOST_SIZE, POP, PROJ, PUSH, STACK_DROP, STACK_FLIP, STACK_POP,
+    STACK_PUSH, STACK_ROLL, STACK_SWAP, STACK_UNROLL, TEXT_CALLS, WAYS, act, columns_wanted,
+    depth_after, new_step, prepare, records_refusal, refuses, run_depths, running, sign, used)
 
 # ----- Texts of the syntax's own pieces --------------------------------------
 
@@ -174,6 +174,13 @@ def adapt_arguments(rng):
     return order + [code, code, 0, 0]
 
 
+def documented_arguments(rng):
+    """Any order, and an angle at any two outputs."""
+    order = rng.choice([[1, 2, 3, 4], signed_order(rng, 4), signed_order(rng, 4)])
+    code, bent = rng.choice(CODES), rng.sample(range(4), 2)
+    return order + [code if output in bent else 0 for output in range(4)]
+
+
 def arguments(rng, operator):
     if operator in (PUSH, POP):
         return sorted(rng.sample((1, 2, 3, 4), rng.choice((0, 1, 1, 1, 2, 2, 3, 4))))
@@ -184,6 +191,8 @@ def arguments(rng, operator):
     if operator == AXISSWAP:
         size = rng.choice((1, 2, 3, 4, 4))
         return rng.choice([[1, 2, 3, 4], signed_order(rng, size), signed_order(rng, size)])
+    if operator == DOCUMENTED:
+        return documented_arguments(rng)
     return adapt_arguments(rng) if operator == ADAPT else []
 
 
@@ -202,18 +211,29 @@ HOSTILE_ARGUMENTS = [0, 1, -1, 2, 3, 4, -4, 5, 8, 9, MOST_SIZE, -MOST_SIZE, MOST
                      -MOST_SIZE - 1, 2**31 - 1, -2**31]
 
 
+def other_codes(rng):
+    """Codes of documented adapt, good or not: two alike or unlike anywhere, three, one, or any."""
+    code, other = rng.randint(-1, 9), rng.choice(CODES)
+    codes = rng.choice([[code, code, 0, 0], [code, other, 0, 0], [other] * 3 + [0], [code, 0, 0, 0],
+                        [rng.choice((0, code, other)) for _ in range(4)]])
+    rng.shuffle(codes)
+    return codes
+
+
 def damaged(rng, step):
     """One field made another, good or not."""
     field = rng.choice(("operator", "args", "args", "args", "n", "n", "inv", "omit_fwd",
                         "omit_inv", "reading"))
     if field == "args":
         args = list(step.args)
+        if step.operator == DOCUMENTED and rng.random() < 0.5:
+            return step._replace(args=tuple(args[:4] + other_codes(rng)))
         args[rng.randint(0, 7)] = rng.choice(HOSTILE_ARGUMENTS)
         if step.operator == ADAPT and rng.random() < 0.3:
             args[4] = args[5] = rng.randint(-1, 9)
         return step._replace(args=tuple(args))
     if field == "operator":
-        return step._replace(operator=rng.choice(list(range(12)) + [11, 12, 255]))
+        return step._replace(operator=rng.choice(list(range(13)) + [12, 13, 255]))
     if field == "n":
         return step._replace(n=rng.choice([0, 1, 2, 3, 4, 5, 7, 8, 9, 255]))
     return step._replace(**{field: rng.choice([0, 1, 2, 255])})
@@ -307,7 +327,7 @@ UNDOING = {PUSH: POP, POP: PUSH, STACK_PUSH: STACK_POP, STACK_POP: STACK_PUSH,
 def twin(step, inv):
     """The record in PROJ's reading that does what this one does in the crate's, inverted or not;
     axisswap and adapt stay as they are."""
-    if step.operator in (AXISSWAP, ADAPT):
+    if step.operator in AXES_STEPS:
         return step._replace(reading=PROJ)
     if not inv:
         return step._replace(inv=0, reading=PROJ)
@@ -325,10 +345,36 @@ def in_reading(rng, reading, steps):
             for step in steps]
 
 
+# ----- The two modes ---------------------------------------------------------
+
+def documented(rng, step):
+    """A documented record with the marks and the reading of this one."""
+    return step._replace(operator=DOCUMENTED, args=tuple(documented_arguments(rng)))
+
+
+def in_mode(rng, mode, steps, share=1.0):
+    """A table of the crate's mode in this one: each adapt step, by this chance, documented."""
+    if mode == CRATE_MODE:
+        return steps
+    return [documented(rng, step) if step.operator == ADAPT and rng.random() < share else step
+            for step in steps]
+
+
+def adapting(rng, reading, steps):
+    """The table of this reading with adapt steps put in, which take and leave no columns: at most
+    64 steps, or as many as there were."""
+    steps, most = list(steps), max(64, len(steps))
+    for _ in range(rng.choice((0, 0, 1, 2))):
+        step = record(rng, ADAPT)._replace(reading=reading)
+        steps.insert(rng.randint(0, len(steps)), step)
+    return steps[:most]
+
+
 def read_table(rng, direction):
-    """A table that some preparation makes, and its reading."""
-    reading = rng.choice((CRATE, PROJ))
-    return reading, in_reading(rng, reading, good_table(rng, direction))
+    """A table that some preparation makes, and its reading and mode."""
+    reading, mode = way = rng.choice(list(WAYS.values()))
+    steps = in_reading(rng, reading, good_table(rng, direction))
+    return way, in_mode(rng, mode, adapting(rng, reading, steps))
 
 
 def mixed(rng, steps):
@@ -346,9 +392,12 @@ def lent_table(rng, direction):
 
 
 def table(rng, direction):
-    """Any table of either reading: also over 64 records, also damaged or of mixed readings."""
+    """Any table of either reading, in either mode or of both: also over 64 records, also damaged or
+    of mixed readings."""
     steps = long_table(rng) if rng.random() < 0.03 else good_table(rng, direction)
-    steps = in_reading(rng, rng.choice((CRATE, PROJ)), steps)
+    reading = rng.choice((CRATE, PROJ))
+    steps = adapting(rng, reading, in_reading(rng, reading, steps))
+    steps = in_mode(rng, DOCUMENTED_MODE, steps, rng.choice((0.0, 0.5, 1.0)))
     if steps and rng.random() < 0.25:
         at = rng.randrange(len(steps))
         steps[at] = damaged(rng, steps[at])
@@ -362,7 +411,7 @@ def table(rng, direction):
 ACTIONS = {STACK_PUSH: b"push", STACK_POP: b"pop", STACK_FLIP: b"flip", STACK_ROLL: b"roll",
            STACK_UNROLL: b"unroll", STACK_SWAP: b"swap", STACK_DROP: b"drop"}
 OPERATORS = {PUSH: b"push", POP: b"pop", AXISSWAP: b"axisswap", ADAPT: b"adapt",
-             **dict.fromkeys(ACTIONS, b"stack")}
+             DOCUMENTED: b"adapt", **dict.fromkeys(ACTIONS, b"stack")}
 LETTERS = {1: b"e", 2: b"n", 3: b"u", 4: b"f", -1: b"w", -2: b"s", -3: b"d", -4: b"p"}
 ANGLES = [[b"", b"_rad", b"_any"], [b"_deg"], [b"_gon"]]
 MARK_NAMES = (b"inv", b"omit_fwd", b"omit_inv")
@@ -390,11 +439,33 @@ def adapt_words(rng, args, plain):
         come[abs(args[i]) - 1] = abs(to[i])
     for i in range(4):
         come[i] *= 1 if (args[i] < 0) == (to[i] < 0) else -1
-    come_angle, to_angle = divmod(args[4], 3)
-    if args[4] == 0 and not plain:
+    return word_pair(rng, come, to, args[4], plain)
+
+
+def word_pair(rng, come, to, code, plain):
+    """`from` and `to` with these axes and angles of this code; what is the default is left out when
+    plain."""
+    come_angle, to_angle = divmod(code, 3)
+    if code == 0 and not plain:
         come_angle = to_angle = rng.choice((0, 0, 1, 2))
     words = [(b"from", come, come_angle), (b"to", to, to_angle)]
     return [adapt_word(rng, *word) for word in words if word[1:] != ([1, 2, 3, 4], 0) or not plain]
+
+
+def documented_words(rng, args, plain):
+    """`from` and `to` that make these arguments in the documented mode: `to` any word with its
+    horizontal letters where the angle stands, `from` the word that then gives the same places and
+    signs."""
+    bent = [output for output in range(4) if args[4 + output]]
+    if not bent:
+        bent = [0, 1] if plain else rng.sample(range(4), 2)
+    outputs = bent + [output for output in range(4) if output not in bent]
+    axes = [1, 2, 3, 4] if plain else rng.choice(([1, 2], [2, 1])) + rng.choice(([3, 4], [4, 3]))
+    to, come = [0] * 4, [0] * 4
+    for output, axis in zip(outputs, axes):
+        to[output] = axis if plain else axis * rng.choice((1, 1, -1))
+        come[abs(args[output]) - 1] = to[output] * sign(args[output])
+    return word_pair(rng, come, to, max(args[4:]), plain)
 
 
 def adapt_word(rng, key, axes, angle):
@@ -413,6 +484,8 @@ def argument_words(rng, step, plain):
         return [b"order=" + series(rng, used(step), plain)]
     if step.operator == ADAPT:
         return adapt_words(rng, step.args, plain)
+    if step.operator == DOCUMENTED:
+        return documented_words(rng, step.args, plain)
     if step.n:
         return [ACTIONS[step.operator] + b"=" + series(rng, used(step), plain)]
     return [ACTIONS[step.operator]]
@@ -469,7 +542,7 @@ def arrowed(rng, steps):
 
 
 def table_text(rng, steps):
-    """A text that prepares to this table."""
+    """A text that prepares to this table, of one reading and one mode, in that reading and mode."""
     if rng.random() < 0.2:
         out = arrowed(rng, steps)
     else:
@@ -613,6 +686,27 @@ def definition(rng):
     return table_text(rng, good_table(rng, rng.choice((FWD, INV))))
 
 
+def any_word(rng):
+    """A word of any order, signs and ending."""
+    return adapt_word(rng, b"", signed_order(rng, 4), rng.choice((0, 0, 1, 2)))[1:]
+
+
+def worded(rng):
+    """A step of adapt with any words, or one of them, or none; now and then a wrong one."""
+    words = [b"adapt"]
+    for key in rng.choice(((b"from",), (b"to",), (b"from", b"to"), (b"from", b"to"), ())):
+        words.append(key + (rng.choice(NOT_WORDS) if rng.random() < 0.02 else b"=" + any_word(rng)))
+    words += [name for name, mark in zip(MARK_NAMES, marks(rng)) if mark]
+    return b" ".join(words)
+
+
+def adapt_definition(rng):
+    """Steps of adapt with words of all orders, signs and endings, and others between them."""
+    texts = [worded(rng) if rng.random() < 0.8 else step_text(rng, record(rng))
+             for _ in range(rng.randint(1, 4))]
+    return joined(rng, texts)
+
+
 def wrong_definition(rng):
     """A definition with a faulty step among good ones."""
     kind = rng.random()
@@ -699,27 +793,36 @@ def text_request(rng):
 
 
 def any_definition(rng):
-    return rng.choice([definition, definition, wrong_definition, wrong_definition, text])(rng)
+    return rng.choice([definition, definition, wrong_definition, wrong_definition, text,
+                       adapt_definition])(rng)
 
 
-def slashed(call, reading):
-    return call + ("/p" if reading == PROJ else "")
+MARK_OF = {way: mark for mark, way in WAYS.items()}
+
+
+def slashed(call, way):
+    """The call in this reading and mode."""
+    return call + MARK_OF[way]
+
+
+def any_way(rng):
+    return rng.choice(list(MARK_OF))
 
 
 def prepare_request(rng):
-    drawn, call = any_definition(rng), slashed("prepare", rng.choice((CRATE, PROJ)))
+    drawn, call = any_definition(rng), slashed("prepare", any_way(rng))
     return "%s %d %s" % (call, room_for(rng, prepare(drawn), 64), hexed(drawn))
 
 
 def check_request(rng):
     direction = rng.choice((FWD, INV))
-    reading, steps = read_table(rng, direction)
-    return "%s %s %s" % (slashed("check", reading), direction, hexed(table_text(rng, steps)))
+    way, steps = read_table(rng, direction)
+    return "%s %s %s" % (slashed("check", way), direction, hexed(table_text(rng, steps)))
 
 
 def write_request(rng):
     drawn = any_definition(rng)
-    return "%s %s" % (slashed("write", rng.choice((CRATE, PROJ))), hexed(drawn))
+    return "%s %s" % (slashed("write", any_way(rng)), hexed(drawn))
 
 
 def shown_list(rng, bits):
@@ -730,10 +833,10 @@ def shown_list(rng, bits):
 
 def run_request(rng):
     direction = rng.choice((FWD, INV))
-    (reading, steps), bits = read_table(rng, direction), list_bits(rng)
+    (way, steps), bits = read_table(rng, direction), list_bits(rng)
     store = store_length(rng, direction, steps, len(bits) // 4)
     drawn = table_text(rng, steps) if rng.random() < 0.97 else any_definition(rng)
-    call = slashed("run", reading)
+    call = slashed("run", way)
     return "%s %s %d %s %s" % (call, direction, store, hexed(drawn), shown_list(rng, bits))
 
 
@@ -797,7 +900,8 @@ def malformed_request(rng):
     return rng.choice([line + " ", " " + line, line + "A", line.replace(" ", "  ", 1), line + " -",
                        line.rpartition(" ")[0], line.replace("e", "E", 1), "", "write",
                        line.replace(" ", "/ ", 1), line.replace(" ", "/pp ", 1), "split/p 9 -",
-                       "steps/p -",
+                       line.replace(" ", "/dp ", 1), line.replace(" ", "/dd ", 1), "split/d 9 -",
+                       "steps/p -", "steps/d -",
                        "prepare 65 -",
                        "normalise 131073 -", "split -1 -", "check forward -", "run fwd 0 - nan",
                        "run fwd 0 - 3ff", "run inv 0 - zeros:", "steps", "translate 9 abc"])

@@ -1,4 +1,4 @@
-"""A model of the rules of document 01, and of request 1 of document 02, in plain Python.
+"""A model of the rules of document 01, and of requests 1 and 2 of document 02, in plain Python.
 
 The words of the papers stand in quotes above the function that carries them.
 Texts are bytes. A call answers, or returns Refused(number, place). Run as a
@@ -298,15 +298,21 @@ def translate(t):
 # ----- Step records ----------------------------------------------------------
 
 (PUSH, POP, STACK_PUSH, STACK_POP, STACK_FLIP, STACK_ROLL, STACK_UNROLL,
- STACK_SWAP, STACK_DROP, AXISSWAP, ADAPT) = range(11)
+ STACK_SWAP, STACK_DROP, AXISSWAP, ADAPT, DOCUMENTED) = range(12)
 
 NAMES = ["push", "pop", "stack.push", "stack.pop", "stack.flip", "stack.roll",
-         "stack.unroll", "stack.swap", "stack.drop", "axisswap", "adapt"]
+         "stack.unroll", "stack.swap", "stack.drop", "axisswap", "adapt", "documented"]
 
 
 # "a second reading, named PROJ, beside the crate's"; "Each record has a field `reading`: 0 the
 # crate's, 1 PROJ's."
 CRATE, PROJ = range(2)
+
+
+# "Add a documented mode, chosen for a whole preparation"; "Only an adapt step knows a mode, so the
+# mode stands in the operator's number (an operator of its own for documented adapt) and in no other
+# record."
+CRATE_MODE, DOCUMENTED_MODE = range(2)
 
 
 # "A step record carries up to eight arguments in place"; "Records name their reading."
@@ -472,23 +478,57 @@ def combined(come, go):
     return [(sizes.index(abs(go[i])) + 1) * sign(come[i]) * sign(go[i]) for i in range(4)]
 
 
+# "Refusals: none new": both modes take the same words
+def two_words(table):
+    """What `from` and `to` say, or None."""
+    words = order_word(table.get(b"from", b"enuf")), order_word(table.get(b"to", b"enuf"))
+    return None if None in words else words
+
+
+# The same angle twice is a factor of 1.
+def angle_code(come_angle, go_angle):
+    return 0 if come_angle == go_angle else 3 * come_angle + go_angle
+
+
 def adapt_step(table):
-    come = order_word(table.get(b"from", b"enuf"))
-    go = order_word(table.get(b"to", b"enuf"))
-    if come is None or go is None:
+    words = two_words(table)
+    if words is None:
         return None
-    # Both first places carry the angle, the others none. The same angle twice is a factor of 1.
-    code = 0 if come[1] == go[1] else 3 * come[1] + go[1]
-    return ADAPT, combined(come[0], go[0]) + [code, code, 0, 0]
+    (come, come_angle), (go, go_angle) = words
+    # Both first places carry the angle, the others none.
+    code = angle_code(come_angle, go_angle)
+    return ADAPT, combined(come, go) + [code, code, 0, 0]
+
+
+# "only east, west, north and south carry an angle wherever they stand"
+HORIZONTAL = (1, 2)
+
+
+# "each output place takes the input place of the same axis, times the input's sign and angle factor
+# over the output's"
+def documented_args(come, go, code):
+    sizes = [abs(axis) for axis in come]
+    places = [sizes.index(abs(axis)) for axis in go]
+    taken = [(place + 1) * sign(come[place]) * sign(axis) for place, axis in zip(places, go)]
+    return taken + [code if abs(axis) in HORIZONTAL else 0 for axis in go]
+
+
+def documented_step(table):
+    words = two_words(table)
+    if words is None:
+        return None
+    (come, come_angle), (go, go_angle) = words
+    return DOCUMENTED, documented_args(come, go, angle_code(come_angle, go_angle))
 
 
 RULES = {b"push": push_step, b"pop": pop_step, b"stack": stack_step,
          b"axisswap": axisswap_step, b"adapt": adapt_step}
+MODE_RULES = {CRATE_MODE: RULES, DOCUMENTED_MODE: {**RULES, b"adapt": documented_step}}
 
 
 # ----- Preparing -------------------------------------------------------------
 
-def judged(name, table):
+def judged(name, table, mode):
     """Refusals 11 to 14 of a known operator; else its record."""
     kinds = KEYS[name]
     if any(key not in kinds for key in table):
@@ -497,7 +537,7 @@ def judged(name, table):
         return 12
     if any(breaks_13(kinds[key], value) for key, value in table.items()):
         return 13
-    step = RULES[name](table)
+    step = MODE_RULES[mode][name](table)
     if step is None:
         return 14
     return new_step(*step, *(int(mark in table) for mark in MODIFIERS))
@@ -505,7 +545,7 @@ def judged(name, table):
 
 # "its lowest number of 1, 6, 9 to 14, judging 14 only if no other applies"
 # "Each step is normalised again when cut into parameters."
-def prepare_step(text):
+def prepare_step(text, mode=CRATE_MODE):
     """A record, or the number that refuses it."""
     if len(text) > MOST_BYTES:
         return 1
@@ -513,18 +553,19 @@ def prepare_step(text):
     if refuses(table):
         return table.number
     name = table.pop(b"_name", None)
-    return judged(name, table) if name in KEYS else 10
+    return judged(name, table, mode) if name in KEYS else 10
 
 
 # "Preparing splits first, then takes the first faulty step"
 # "Give preparation a second reading": the records name it, and are the same otherwise
-def prepare(t, reading=CRATE):
+# "The crate's mode stays the default"
+def prepare(t, reading=CRATE, mode=CRATE_MODE):
     texts = step_texts(t)
     if refuses(texts):
         return texts
     steps = []
     for place, text in enumerate(texts, 1):
-        step = prepare_step(text)
+        step = prepare_step(text, mode)
         if isinstance(step, int):
             return Refused(step, place)
         steps.append(step._replace(reading=reading))
@@ -557,13 +598,19 @@ def made_adapt(args):
             and args[4] == args[5] and args[6] == args[7] == 0)
 
 
+# "The codes of the two horizontal outputs are alike, wherever they stand, the other two are 0."
+def made_documented(args):
+    return (len(args) == 8 and order_rule(args[:4])
+            and any(sorted(args[4:]) == [0, 0, code, code] for code in CODES))
+
+
 MADE = [made_flags, made_flags, made_places, made_places, made_places, roll_rule, roll_rule,
-        made_bare, made_bare, made_order, made_adapt]
+        made_bare, made_bare, made_order, made_adapt, made_documented]
 
 
 def made(step):
     """Whether some preparation makes this record: it has one spelling."""
-    return (0 <= step.operator <= ADAPT and 0 <= step.n <= MOST_ARGUMENTS
+    return (0 <= step.operator <= DOCUMENTED and 0 <= step.n <= MOST_ARGUMENTS
             and all(mark in (0, 1) for mark in (step.inv, step.omit_fwd, step.omit_inv))
             and step.reading in (CRATE, PROJ)
             and all(abs(arg) <= MOST_SIZE for arg in step.args)
@@ -572,7 +619,8 @@ def made(step):
 
 
 # "18 is 0 for over 64 records, else the first bad record."
-# "18 at a record whose reading is not the first's"
+# "18 at a record whose reading is not the first's"; of modes: "Tables that mix both are accepted,
+# each step in its own mode"
 def records_refusal(steps):
     """None for none."""
     if len(steps) > MOST_STEPS:
@@ -619,8 +667,7 @@ def act_roll(step, forward):
 
 
 def act_axes(step, forward):
-    name = "axisswap" if step.operator == AXISSWAP else "adapt"
-    return name + (" fwd" if forward else " inv"), used(step)
+    return NAMES[step.operator] + (" fwd" if forward else " inv"), used(step)
 
 
 # "flip is not reversed."
@@ -629,13 +676,16 @@ def act_alike(step, forward):
 
 
 ACTS = [act_flags, act_flags, act_stack, act_stack, act_alike, act_roll, act_roll,
-        act_alike, act_alike, act_axes, act_axes]
+        act_alike, act_alike, act_axes, act_axes, act_axes]
 
 
 # "`inv` turns `axisswap` and `adapt` only"; in the PROJ reading it "also turns `push`, `pop` and
 # `stack`"
+AXES_STEPS = (AXISSWAP, ADAPT, DOCUMENTED)
+
+
 def turned_by_inv(step):
-    return bool(step.inv) and (step.reading == PROJ or step.operator in (AXISSWAP, ADAPT))
+    return bool(step.inv) and (step.reading == PROJ or step.operator in AXES_STEPS)
 
 
 def act(direction, step):
@@ -791,6 +841,19 @@ def adapt(axes, args, forward):
             axes[post] = scaled(before[i], 1.0 / mult[post])
 
 
+# "The inverse sends each number back to the place it came from, times one over the same factor."
+def documented(axes, args, forward):
+    if no_op(args):
+        return
+    before, mult = list(axes), multipliers(args)
+    for i in range(4):
+        place = abs(args[i]) - 1
+        if forward:
+            axes[i] = scaled(before[place], mult[i])
+        else:
+            axes[place] = scaled(before[i], 1.0 / mult[i])
+
+
 def make_nan(axes, places, tuples):
     for place in places:
         axes[place - 1] = [math.nan] * tuples
@@ -822,6 +885,8 @@ def run_step(direction, step, axes, columns, tuples):
         axisswap(axes, args, name == "axisswap fwd", scaled)
     elif step.operator == ADAPT:
         adapt(axes, args, name == "adapt fwd")
+    elif step.operator == DOCUMENTED:
+        documented(axes, args, name == "documented fwd")
     else:
         REARRANGE[name](axes, columns, args)
     return count_of(name, columns, tuples)
@@ -900,8 +965,9 @@ def refused_line(refusal):
 
 
 # "translates, splits, prepares, then checks forward and inverse, printing as each answers.
-# A refusal ends its output"; the option `--proj` prepares in PROJ's reading
-def steps_output(t, reading=CRATE):
+# A refusal ends its output"; the option `--proj` prepares in PROJ's reading, `--documented` in the
+# documented mode
+def steps_output(t, reading=CRATE, mode=CRATE_MODE):
     text = within(translate(t), STEPS_ROOM)
     if refuses(text):
         return refused_line(text)
@@ -910,7 +976,7 @@ def steps_output(t, reading=CRATE):
     if refuses(texts):
         return out + refused_line(texts)
     out += b"".join(b"step %d: %s\n" % numbered for numbered in enumerate(texts, 1))
-    steps = prepare(text, reading)
+    steps = prepare(text, reading, mode)
     if refuses(steps):
         return out + refused_line(steps)
     for name, direction in (("forward", FWD), ("inverse", INV)):
@@ -1013,8 +1079,9 @@ def show_numbers(numbers):
 
 
 # "for adapt `noop`, or `post` as four places from 1 and then `mult` as four f64 bit patterns"
+# "NAME is `documented` for documented adapt, its ARGS as adapt's"
 def show_args(step):
-    if step.operator != ADAPT:
+    if step.operator not in (ADAPT, DOCUMENTED):
         return joined(used(step)) or "-"
     if no_op(step.args):
         return "noop"
@@ -1038,9 +1105,9 @@ def answer_text(call, room, text):
     return show_refusal(answer) if refuses(answer) else "ok " + show_text(answer)
 
 
-def answer_prepare(reading, room, text):
+def answer_prepare(way, room, text):
     room = read_natural(room, MOST_STEPS)
-    steps = within(prepare(read_text(text), reading), room)
+    steps = within(prepare(read_text(text), *way), room)
     if refuses(steps):
         return show_refusal(steps)
     return " ".join(["ok", str(len(steps))] + list(map(show_record, steps)))
@@ -1083,8 +1150,29 @@ def answer_run(read_steps, direction, store, steps, numbers):
 
 # ----- The text of a record (docs/DECISIONS.md, 42) ---------------------------
 
+ENDING = ["", "_deg", "_gon"]
+
+
 def signed_letter(place):
     return ("enuf" if place > 0 else "wsdp")[abs(place) - 1]
+
+
+def written_adapt(args):
+    letters = "".join(map(signed_letter, args[:4]))
+    return ["from=enuf" + ENDING[args[4] // 3], "to=" + letters + ENDING[args[4] % 3]]
+
+
+# In `from` the input places that carry the angle are `e` and `n` in turn, the others `u` and `f`;
+# in `to` each output has the letter of the place that it takes.
+def written_documented(args):
+    codes = {abs(arg): code for arg, code in zip(args[:4], args[4:])}
+    bent = [place for place in (1, 2, 3, 4) if codes[place]] or [1, 2]
+    rest = [place for place in (1, 2, 3, 4) if place not in bent]
+    axes = dict(zip(bent + rest, (1, 2, 3, 4)))
+    come = "".join(signed_letter(axes[place]) for place in (1, 2, 3, 4))
+    go = "".join(signed_letter(axes[abs(arg)] * sign(arg)) for arg in args[:4])
+    code = max(args[4:])
+    return ["from=" + come + ENDING[code // 3], "to=" + go + ENDING[code % 3]]
 
 
 def written_args(step):
@@ -1092,9 +1180,9 @@ def written_args(step):
     if step.operator in (PUSH, POP):
         return ["v_%d" % place for place in args]
     if step.operator == ADAPT:
-        endings = ["", "_deg", "_gon"]
-        letters = "".join(map(signed_letter, args[:4]))
-        return ["from=enuf" + endings[args[4] // 3], "to=" + letters + endings[args[4] % 3]]
+        return written_adapt(args)
+    if step.operator == DOCUMENTED:
+        return written_documented(args)
     if not args:
         return [name]
     return ["%s=%s" % ("order" if name == "axisswap" else name, joined(args))]
@@ -1102,8 +1190,8 @@ def written_args(step):
 
 def written_step(step):
     marks = [("inv", step.inv), ("omit_fwd", step.omit_fwd), ("omit_inv", step.omit_inv)]
-    words = [NAMES[step.operator].split(".")[0]] + written_args(step) + [mark for mark, is_set in marks if is_set]
-    return " ".join(words)
+    name = "adapt" if step.operator == DOCUMENTED else NAMES[step.operator].split(".")[0]
+    return " ".join([name] + written_args(step) + [mark for mark, is_set in marks if is_set])
 
 
 # docs/DECISIONS.md, 43: "`write` refuses 18 as the check does"
@@ -1125,11 +1213,16 @@ TEXT_CALLS = {"normalise": normalise, "split": split, "parameters": parameters,
 TABLE_CALLS = {"check": (answer_check, 2), "run": (answer_run, 4), "write": (answer_write, 1)}
 
 
-# "`prepare`, `check`, `run`, `write` .. may be followed by `/p` (the PROJ reading, R1)"
-def read_reading(mark):
-    if mark not in ("", "/p"):
+# "`prepare`, `check`, `run`, `write` .. may be followed by `/p` (the PROJ reading, R1), `/d` (the
+# documented mode, R2) or `/pd`"
+WAYS = {"": (CRATE, CRATE_MODE), "/p": (PROJ, CRATE_MODE), "/d": (CRATE, DOCUMENTED_MODE),
+        "/pd": (PROJ, DOCUMENTED_MODE)}
+
+
+def read_way(mark):
+    if mark not in WAYS:
         raise What
-    return PROJ if mark else CRATE
+    return WAYS[mark]
 
 
 def asked_of_table(name, read_steps, fields):
@@ -1148,10 +1241,10 @@ def asked(request, fields):
         return asked_of_table(request[len("rows-"):], read_rows, fields)
     name, slash, mark = request.partition("/")
     if name == "prepare" and len(fields) == 2:
-        return answer_prepare(read_reading(slash + mark), *fields)
+        return answer_prepare(read_way(slash + mark), *fields)
     if name in TABLE_CALLS:
-        reading = read_reading(slash + mark)
-        return asked_of_table(name, lambda text: prepare(read_text(text), reading), fields)
+        way = read_way(slash + mark)
+        return asked_of_table(name, lambda text: prepare(read_text(text), *way), fields)
     raise What
 
 

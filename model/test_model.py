@@ -1,5 +1,5 @@
-"""The examples of document 01 (P1 to P13, "Also", `steps`), of request 1 of document 02, and of
-their open points, under their numbers, held against the model; then laws that drawn inputs must
+"""The examples of document 01 (P1 to P13, "Also", `steps`), of requests 1 and 2 of document 02, and
+of their open points, under their numbers, held against the model; then laws that drawn inputs must
 keep."""
 
 import itertools
@@ -9,11 +9,12 @@ import sys
 
 import draw
 from model import (
-    ADAPT, CODES, AXISSWAP, CRATE, FWD, INV, POP, PROJ, PUSH, STACK_DROP, STACK_FLIP, STACK_POP,
-    STACK_PUSH, STACK_ROLL, STACK_SWAP, STACK_UNROLL, Fails, Passes, Ran, Refused, act, answer,
-    check, columns_wanted, made, multipliers, new_step, normal, normalise, parameters, prepare,
-    prepare_step, read_rows, refuses, run, run_depths, running, show_number, split, steps_output,
-    translate, used, within, write)
+    ADAPT, AXES_STEPS, AXISSWAP, CODES, CRATE, CRATE_MODE, DOCUMENTED, DOCUMENTED_MODE, FWD, INV,
+    POP, PROJ, PUSH, STACK_DROP, STACK_FLIP, STACK_POP, STACK_PUSH, STACK_ROLL, STACK_SWAP,
+    STACK_UNROLL, WAYS, Fails, Passes, Ran, Refused, act, angle_code, answer, check, columns_wanted,
+    documented_args, made, made_documented, multipliers, new_step, normal, normalise, parameters,
+    prepare, prepare_step, read_rows, refuses, run, run_depths, running, show_number, split,
+    steps_output, translate, used, within, write)
 
 COUNTS = {"passed": 0, "failed": 0}
 
@@ -219,7 +220,7 @@ def points_of_steps():
 
 def record_tests():
     good = new_step(PUSH, [1, 3])
-    bad = [good._replace(operator=11), good._replace(operator=-1), good._replace(n=9),
+    bad = [good._replace(operator=12), good._replace(operator=-1), good._replace(n=9),
            good._replace(inv=2), good._replace(omit_fwd=2), good._replace(omit_inv=-1),
            good._replace(n=1), new_step(PUSH, [3, 1]), new_step(PUSH, [1, 1]), new_step(PUSH, [5]),
            new_step(STACK_PUSH, []), new_step(STACK_POP, [0]), new_step(STACK_ROLL, [3]),
@@ -314,6 +315,186 @@ def rows_tests():
     same("rows in order", fields, [[12 * (i == at) for i in range(14)] for at in range(14)])
 
 
+# ----- Request 2 of document 02 ----------------------------------------------
+
+DEGREE, GON = math.pi / 180, math.pi / 200
+
+
+def paged(text, reading=CRATE):
+    """Prepared in the documented mode."""
+    return prepare(text, reading, DOCUMENTED_MODE)
+
+
+def page_ran(direction, definition, numbers, reading=CRATE):
+    return run(direction, paged(definition, reading), list(map(float, numbers)), []).numbers
+
+
+def page_args(definition):
+    step, = paged(definition)
+    return step.operator, list(step.args)
+
+
+# "`from=nwuf` should send 1,2,3,4 to -2,1,3,4, because the second number is westish."
+def westish():
+    text, other = b"adapt from=nwuf", b"adapt inv from=nwuf"
+    same("R2 record", paged(text), [new_step(DOCUMENTED, [-2, 1, 3, 4, 0, 0, 0, 0])])
+    same("R2 crate's record", prepare(text), [new_step(ADAPT, [2, -1, 3, 4, 0, 0, 0, 0])])
+    same("R2 crate's", [ran(way, text, ONE).numbers for way in (FWD, INV)],
+         [[2, -1, 3, 4], [2, -1, 3, 4]])
+    for reading in (CRATE, PROJ):
+        same("R2 nwuf", page_ran(FWD, text, ONE, reading), [-2, 1, 3, 4])
+        same("R2 inverse", page_ran(INV, text, [-2, 1, 3, 4], reading), ONE)
+        same("R2 inverse of one", page_ran(INV, text, ONE, reading), [2, -1, 3, 4])
+        same("R2 inv", page_ran(FWD, other, ONE, reading), [2, -1, 3, 4])
+        same("R2 inv inverse", page_ran(INV, other, ONE, reading), [-2, 1, 3, 4])
+    same("R2 restored", page_ran(INV, text, page_ran(FWD, text, ONE)), ONE)
+    same("R2 crate's not", ran(INV, text, ran(FWD, text, ONE).numbers).numbers, [-1, -2, 3, 4])
+    same("R2 steps", steps_output(b"push v_3 | adapt to=wnuf | pop v_3", CRATE, DOCUMENTED_MODE)
+         .splitlines()[1:], [b"step 1: push v_3", b"step 2: adapt to=wnuf", b"step 3: pop v_3",
+                             b"forward: deepest 1 left 0", b"inverse: deepest 1 left 0"])
+    same("R2 steps alike", [steps_output(PAIR + b"|adapt to=wnuf", *way) for way in WAYS.values()],
+         [steps_output(PAIR + b"|adapt to=wnuf", reading) for reading, _ in WAYS.values()])
+
+
+def point_3():
+    text = b"push v_1 | adapt from=wnuf | stack swap inv | axisswap order=2,1 | pop v_1 omit_inv"
+    for reading in (CRATE, PROJ):
+        crate, page = prepare(text, reading), paged(text, reading)
+        same("R2 3 the others", page[:1] + page[2:], crate[:1] + crate[2:])
+        same("R2 3 the operator", [crate[1].operator, page[1].operator], [ADAPT, DOCUMENTED])
+    one, other = prepare(b"adapt from=nwuf")[0], paged(b"adapt from=nwuf")[0]
+    for label, steps, want in (("crate's, documented", [one, other], [1, 2, 3, 4]),
+                               ("documented, crate's", [other, one], [1, 2, 3, 4]),
+                               ("twice documented", [other, other], [-1, -2, 3, 4]),
+                               ("twice the crate's", [one, one], [-1, -2, 3, 4])):
+        same("R2 3 " + label, run(FWD, steps, [1.0, 2.0, 3.0, 4.0], []).numbers, want)
+        same("R2 3 check", check(INV, steps), Passes([0, 0], 0, 0, None))
+    same("R2 3 three steps", run(FWD, [other, one, one], [1.0, 2.0, 3.0, 4.0], []).numbers,
+         [2, -1, 3, 4])
+    same("R2 3 written", write([one, other]),
+         b"adapt from=enuf to=nwuf | adapt from=enuf to=seuf")
+    mixed = [one, other._replace(reading=PROJ)]
+    same("R2 3 readings", [check(FWD, mixed), write(mixed)], [Refused(18, 2)] * 2)
+    same("R2 3 omitted", check(FWD, paged(b"adapt omit_fwd")), Passes([], 0, 0, ONE))
+    same("R2 3 hidden", check(INV, paged(b"adapt omit_fwd")), Passes([0], 0, 0, None))
+
+
+def point_4():
+    for text, args in (
+            (b"adapt", [1, 2, 3, 4, 0, 0, 0, 0]), (b"adapt from=pass", [1, 2, 3, 4, 0, 0, 0, 0]),
+            (b"adapt from=neuf_deg", [2, 1, 3, 4, 3, 3, 0, 0]),
+            (b"adapt from=pass to=neuf_deg", [2, 1, 3, 4, 1, 1, 0, 0]),
+            (b"adapt from=unef_deg", [3, 2, 1, 4, 3, 3, 0, 0]),
+            (b"adapt to=unef_deg", [3, 2, 1, 4, 0, 1, 1, 0]),
+            (b"adapt from=unef_deg to=unef_gon", [1, 2, 3, 4, 0, 5, 5, 0]),
+            (b"adapt from=unef_deg to=unef_deg", [1, 2, 3, 4, 0, 0, 0, 0]),
+            (b"adapt from=ufne_gon to=spwd_deg", [-3, -2, -4, -1, 7, 0, 7, 0]),
+            (b"adapt to=pswd_gon inv", [-4, -2, -1, -3, 0, 2, 2, 0]),
+            (b"adapt from=wsdp_any to=wsdp_rad", [1, 2, 3, 4, 0, 0, 0, 0])):
+        same("R2 4 " + text.decode(), page_args(text), (DOCUMENTED, args))
+    same("R2 4 factors", bits(multipliers(paged(b"adapt from=uwnf_deg to=unep_gon")[0].args)),
+         bits([1.0, DEGREE / GON, -(DEGREE / GON), -1.0]))
+    same("R2 4 places 2 and 3", bits(page_ran(FWD, b"adapt from=unef_deg to=unef", ONE)),
+         bits([1.0, 2 * DEGREE, 3 * DEGREE, 4.0]))
+    same("R2 4 back", bits(page_ran(INV, b"adapt from=unef_deg to=unef", ONE)),
+         bits([1.0, 2 * (1 / DEGREE), 3 * (1 / DEGREE), 4.0]))
+    same("R2 4 elsewhere", bits(page_ran(FWD, b"adapt from=unef_deg", ONE)),
+         bits([3 * DEGREE, 2 * DEGREE, 1.0, 4.0]))
+    same("R2 4 inverse elsewhere", bits(page_ran(INV, b"adapt from=unef_deg", ONE)),
+         bits([3.0, 2 * (1 / DEGREE), 1 / DEGREE, 4.0]))
+    same("R2 4 crate's", bits(ran(FWD, b"adapt from=unef_deg", ONE).numbers),
+         bits([3 * DEGREE, 2 * DEGREE, 1.0, 4.0]))
+    same("R2 4 crate's, to", bits(ran(FWD, b"adapt to=unef_deg", ONE).numbers),
+         bits([3 * (1 / DEGREE), 2 * (1 / DEGREE), 1.0, 4.0]))
+    same("R2 4 to", bits(page_ran(FWD, b"adapt to=unef_deg", ONE)),
+         bits([3.0, 2 * (1 / DEGREE), 1 / DEGREE, 4.0]))
+    same("R2 4 no-op", bits(page_ran(FWD, b"adapt from=wsdp_deg to=wsdp_deg", [-0.0] * 4)),
+         bits([-0.0] * 4))
+    same("R2 4 zeros", bits(page_ran(INV, b"adapt from=wndf", [0.0, -0.0, -0.0, 0.0])),
+         bits([-0.0, -0.0, 0.0, 0.0]))
+
+
+ORDERS = [[axis * mark for axis, mark in zip(order, signs)]
+          for order in itertools.permutations((1, 2, 3, 4))
+          for signs in itertools.product((1, -1), repeat=4)]
+
+
+def page(args, **fields):
+    return new_step(DOCUMENTED, args)._replace(**fields)
+
+
+# 18: "a step record no preparation makes"
+def documented_records():
+    good = [1, 2, 3, 4, 5, 0, 5, 0]
+    for label, step, want in (
+            ("good", page(good), True), ("no angle", page(good[:4] + [0] * 4), True),
+            ("alone", page(good[:4] + [5, 0, 0, 0]), False),
+            ("three", page(good[:4] + [5, 5, 5, 0]), False),
+            ("four", page(good[:4] + [5] * 4), False),
+            ("two pairs", page(good[:4] + [5, 7, 7, 5]), False),
+            ("unlike", page(good[:4] + [5, 0, 7, 0]), False),
+            ("3 and 1", page(good[:4] + [0, 3, 0, 1]), False),
+            ("code 4", page(good[:4] + [4, 0, 4, 0]), False),
+            ("code 8", page(good[:4] + [8, 0, 8, 0]), False),
+            ("code 9", page(good[:4] + [9, 0, 9, 0]), False),
+            ("code -1", page(good[:4] + [-1, 0, -1, 0]), False),
+            ("place twice", page([1, 2, 3, 3] + good[4:]), False),
+            ("place 0", page([0, 2, 3, 4] + good[4:]), False),
+            ("place 5", page([5, 2, 3, 4] + good[4:]), False),
+            ("place -4", page([1, 2, 3, -4] + good[4:]), True),
+            ("n 7", page(good, n=7), False), ("n 4", page(good[:4] + [0] * 4, n=4), False),
+            ("n 9", page(good, n=9), False), ("n 0", page([0] * 8, n=0), False),
+            ("inv 2", page(good, inv=2), False), ("reading 1", page(good, reading=PROJ), True),
+            ("reading 2", page(good, reading=2), False), ("marks", page(good, omit_fwd=1), True),
+            ("as adapt", page(good, operator=ADAPT), False),
+            ("as adapt too", page(good[:4] + [5, 5, 0, 0], operator=ADAPT), True)):
+        same("R2 18 " + label, made(step), want)
+    pairs = [[code if output in two else 0 for output in range(4)]
+             for two in itertools.combinations(range(4), 2) for code in CODES]
+    rows = set(map(tuple, pairs))
+    tried = set(itertools.product(range(-1, 10), repeat=4))
+    same("R2 18 codes", {codes for codes in tried if made(page([3, -1, 4, 2] + list(codes)))}, rows)
+    same("R2 18 all", len(rows), 37)
+
+
+# A record is good exactly when some pair of words makes it; and its text gives it back.
+def documented_words():
+    same("R2 codes", {angle_code(come, go) for come in range(3) for go in range(3)}, set(CODES))
+    orders, rows = list(map(tuple, ORDERS)), list(itertools.product(CODES, repeat=4))
+    good = {order + codes for order in orders for codes in rows if made_documented(order + codes)}
+    same("R2 good records", len(good), 384 * 37)
+    # every word in `from`, in `to` those without a turned letter; then every pair of words
+    holds("R2 words make them all", good == {
+        tuple(documented_args(come, go, code)) for come in orders
+        for go in itertools.permutations((1, 2, 3, 4)) for code in CODES})
+    holds("R2 words make no other", all(tuple(documented_args(come, go, 5)) in good
+                                        for come in orders for go in orders))
+    steps = [page(args) for args in sorted(good)]
+    holds("R2 written", all(paged(write([step])) == [step] for step in steps))
+    same("R2 longest text", max(len(write([step])) for step in steps), 31)
+    # an angle of the input places 1 and 2, or none: the text of the crate's record
+    crates = [step for step in steps if not any(
+        code for arg, code in zip(step.args, step.args[4:]) if abs(arg) > 2)]
+    same("R2 the crate's form", [len(crates)] + [step for step in crates if write([step]) != write(
+        [new_step(ADAPT, list(step.args[:4]) + [max(step.args[4:])] * 2 + [0, 0])])], [384 * 7])
+
+
+def documented_texts():
+    for args, text in (
+            ([1, 2, 3, 4, 0, 0, 0, 0], b"from=enuf to=enuf"),
+            ([-2, 1, 3, 4, 0, 0, 0, 0], b"from=enuf to=seuf"),
+            ([2, 1, 3, 4, 3, 3, 0, 0], b"from=enuf_deg to=neuf"),
+            ([1, 2, 3, 4, 5, 0, 5, 0], b"from=eunf_deg to=eunf_gon"),
+            ([1, 2, 3, 4, 2, 0, 0, 2], b"from=eufn to=eufn_gon"),
+            ([1, 2, 3, 4, 0, 6, 6, 0], b"from=uenf_gon to=uenf"),
+            ([1, 2, 3, 4, 0, 7, 0, 7], b"from=uefn_gon to=uefn_deg"),
+            ([1, 2, 3, 4, 0, 0, 1, 1], b"from=ufen to=ufen_deg"),
+            ([-4, 3, -2, 1, 3, 0, 3, 0], b"from=uefn_deg to=sfwu"),
+            ([3, 2, 1, 4, 0, 1, 1, 0], b"from=enuf to=unef_deg")):
+        same("R2 write", write([page(args)]), b"adapt " + text)
+        same("R2 write again", paged(b"adapt " + text), [page(args)])
+
+
 # ----- Adapt, the requests ---------------------------------------------------
 
 def adapt_tests():
@@ -330,6 +511,8 @@ def adapt_tests():
 
 
 ROW = "1,1,1,0,0,3,0,0,0,0,0,0,0,1"
+PAGE_ROW = "11,8,0,0,0,3,-1,2,4,3,3,0,0,0"
+ONE_BITS = ",".join(bits(map(float, ONE)))
 
 
 def requests():
@@ -369,8 +552,33 @@ def requests():
             ("run/p fwd 1 " + PAIR.hex() + " zeros:4",
              "ok 1 0 %s %s" % (",".join(["0" * 16] * 4), "0" * 16)),
             ("run/p fwd 0 " + PAIR.hex() + " zeros:4", "refused 17 0"),
-            ("prepare/d 1 -", "what"), ("prepare/pd 1 -", "what"), ("prepare/ 1 -", "what"),
+            ("prepare/d 1 -", "ok 0"), ("prepare/pd 1 -", "ok 0"), ("prepare/dp 1 -", "what"),
+            ("prepare/ 1 -", "what"), ("prepare/dd 1 -", "what"), ("prepare/p/d 1 -", "what"),
             ("split/p 9 -", "what"), ("steps/p -", "what"), ("rows-check/p fwd -", "what"),
+            ("split/d 9 -", "what"), ("steps/d -", "what"), ("rows-check/d fwd -", "what"),
+            ("prepare/d 9 " + b"adapt|adapt to=seuf inv|push".hex(),
+             "ok 3 documented:-:noop documented:i:2,1,3,4,"
+             "bff0000000000000,3ff0000000000000,3ff0000000000000,3ff0000000000000 push:-:-"),
+            ("prepare/pd 1 " + b"adapt from=nwuf omit_fwd".hex(),
+             "ok 1 documented:fp:2,1,3,4,"
+             "bff0000000000000,3ff0000000000000,3ff0000000000000,3ff0000000000000"),
+            ("run/d fwd 0 %s %s" % (b"adapt from=nwuf".hex(), ONE_BITS),
+             "ok 1 0 c000000000000000,3ff0000000000000,4008000000000000,4010000000000000 -"),
+            ("check/d fwd " + b"adapt from=nwuf".hex(), "passes 0 0 - 0"),
+            ("check/d inv " + b"adapt omit_inv".hex(), "passes 0 0 1,2,3,4 -"),
+            ("check/pd fwd " + PAIR.hex(), "passes 1 0 1,2,3,4 1,0"),
+            ("check/d fwd " + PAIR.hex(), "fails 1 few"),
+            ("write/d " + b"adapt from=nwuf".hex(), "ok " + b"adapt from=enuf to=seuf".hex()),
+            ("write/d " + b"adapt to=unef_deg".hex(), "ok " + b"adapt from=enuf to=unef_deg".hex()),
+            ("write/d " + b"adapt from=x".hex(), "refused 14 1"),
+            ("rows-write " + PAGE_ROW, "ok " + b"adapt from=eunf_deg to=nwuf".hex()),
+            ("rows-check fwd " + PAGE_ROW, "passes 0 0 - 0"),
+            ("rows-check fwd %s;%s" % (PAGE_ROW, PAGE_ROW.replace("11", "10", 1)),
+             "passes 0 0 - 0,0"),
+            ("rows-check fwd %s;%s" % (PAGE_ROW, PAGE_ROW[:-1] + "1"), "refused 18 2"),
+            ("rows-check fwd " + PAGE_ROW.replace("3,3", "4,4"), "refused 18 1"),
+            ("rows-run inv 0 %s %s" % (PAGE_ROW, ONE_BITS),
+             "ok 1 0 %s -" % ",".join(bits([2 * (1 / -DEGREE), 3.0, 1 / DEGREE, 4.0]))),
             ("rows-check fwd " + ROW, "passes 1 1 1,2,3,4 1"),
             ("rows-check inv " + ROW, "fails 1 few"),
             ("rows-write " + ROW, "ok " + b"pop v_3 inv".hex()), ("rows-write -", "ok -"),
@@ -402,10 +610,7 @@ def requests():
 def every_adapt_is_made():
     """Each record that passes the test for 18 is prepared from some text."""
     rng = random.Random(1)
-    orders = [[axis * mark for axis, mark in zip(order, signs)]
-              for order in itertools.permutations((1, 2, 3, 4))
-              for signs in itertools.product((1, -1), repeat=4)]
-    steps = [new_step(ADAPT, order + [code, code, 0, 0]) for order in orders for code in CODES]
+    steps = [new_step(ADAPT, order + [code, code, 0, 0]) for order in ORDERS for code in CODES]
     holds("every adapt made", all(map(made, steps)))
     holds("every adapt written",
           all(prepare(draw.step_text(rng, step)) == [step] for step in steps))
@@ -413,9 +618,9 @@ def every_adapt_is_made():
 
 def drawn_tables(rng):
     direction = rng.choice((FWD, INV))
-    reading, steps = draw.read_table(rng, direction)
+    way, steps = draw.read_table(rng, direction)
     text = draw.table_text(rng, steps)
-    prepared, verdict = prepare(text, reading), check(direction, steps)
+    prepared, verdict = prepare(text, *way), check(direction, steps)
     result = run(direction, steps, [1.0, 2.0, 3.0, 4.0], [-7.0] * 64)
     foretold = not isinstance(verdict, Passes) or (
         verdict.depths == run_depths(direction, steps) and verdict.left == result.left
@@ -427,7 +632,7 @@ def drawn_wrongs(rng):
     name = rng.choice(draw.NAMES)
     number = rng.choice(draw.WRONGS[name])
     text = b"push|" + draw.wrong_step(rng, name, number) + b"|pop"
-    return prepare(text) == Refused(number, 2)
+    return all(prepare(text, *way) == Refused(number, 2) for way in WAYS.values())
 
 
 def drawn_round_trips(rng):
@@ -480,7 +685,7 @@ def drawn_readings(rng):
     if refuses(steps):
         return others == steps
     named = [step._replace(reading=PROJ) for step in steps]
-    plain = not any(step.inv and step.operator not in (AXISSWAP, ADAPT) for step in steps)
+    plain = not any(step.inv and step.operator not in AXES_STEPS for step in steps)
     return others == named and (not plain or check(direction, steps) == check(direction, named))
 
 
@@ -511,23 +716,105 @@ def drawn_undone(rng):
 
 
 def drawn_written(rng):
-    """The text of a table, prepared in its reading, gives the table; and so do its ROWS."""
-    reading, steps = draw.read_table(rng, FWD)
+    """The text of a table, prepared in its reading and mode, gives the table; so do its ROWS."""
+    way, steps = draw.read_table(rng, FWD)
     line = ";".join(",".join(map(str, draw.row_numbers(step))) for step in steps) or "-"
-    return prepare(write(steps), reading) == steps and read_rows(line) == steps
+    return prepare(write(steps), *way) == steps and read_rows(line) == steps
+
+
+def drawn_modes(rng):
+    """Both modes refuse alike; of accepted texts only the records of adapt differ, in operator and
+    arguments; and every check says the same."""
+    direction, text = rng.choice((FWD, INV)), draw.any_definition(rng)
+    reading = rng.choice((CRATE, PROJ))
+    steps, others = prepare(text, reading), paged(text, reading)
+    if refuses(steps):
+        return others == steps
+    hidden = [other._replace(operator=ADAPT, args=step.args) if step.operator == ADAPT else other
+              for step, other in zip(steps, others)]
+    return (hidden == steps and check(direction, steps) == check(direction, others)
+            and [step.operator == ADAPT for step in steps]
+            == [other.operator == DOCUMENTED for other in others])
+
+
+def drawn_mixtures(rng):
+    """A table that mixes modes is checked, and has depths, as one of the crate's alone; its text is
+    that of each step in its own mode."""
+    direction, reading = rng.choice((FWD, INV)), rng.choice((CRATE, PROJ))
+    steps = draw.in_reading(rng, reading, draw.good_table(rng, direction))
+    steps = draw.adapting(rng, reading, steps)
+    mixed = draw.in_mode(rng, DOCUMENTED_MODE, steps, 0.5)
+    texts = write(mixed).split(b" | ") if mixed else []
+    again = [prepare(text, reading, CRATE_MODE if step.operator == ADAPT else DOCUMENTED_MODE)
+             for text, step in zip(texts, mixed)]
+    return (check(direction, mixed) == check(direction, steps)
+            and run_depths(direction, mixed) == run_depths(direction, steps)
+            and again == [[step] for step in mixed])
+
+
+TURNED = dict(zip("enufwsdp", "wsdpenuf"))
+SIZES = {"": 1.0, "_rad": 1.0, "_any": 1.0, "_deg": DEGREE, "_gon": GON}
+
+
+def drawn_letters(rng):
+    """What the page says, by letters and not by records: each letter of `to` is looked for in
+    `from`, or the letter that it turns into; a horizontal one has the one angle over the other."""
+    come, go = (draw.any_word(rng).decode().replace("pass", "enuf") for _ in range(2))
+    numbers = [draw.number_of(draw.number_bits(rng)) for _ in range(4)]
+    after, back = [], [0.0] * 4
+    for output, letter in enumerate(go[:4]):
+        turns = letter not in come[:4]
+        place = come.index(TURNED[letter] if turns else letter)
+        angle = SIZES[come[4:]] / SIZES[go[4:]] if letter in "ewns" else 1.0
+        factor = -angle if turns else angle
+        after.append(numbers[place] * factor)
+        back[place] = numbers[output] * (1 / factor)
+    text = ("adapt from=%s to=%s" % (come, go)).encode()
+    return (bits(page_ran(FWD, text, numbers)) == bits(after)
+            and bits(page_ran(INV, text, numbers)) == bits(back))
+
+
+# "Where every factor is plus or minus one, inverse after forward restores all numbers that are not
+# NaN, bit for bit."
+def drawn_restored(rng):
+    """And forward after inverse, and of several steps, in both readings."""
+    numbers = [draw.number_of(draw.number_bits(rng)) for _ in range(8)]
+    reading = rng.choice((CRATE, PROJ))
+    steps = [page(rng.choice(ORDERS) + [0] * 4, inv=rng.choice((0, 1)), reading=reading)
+             for _ in range(rng.choice((1, 1, 2, 3)))]
+    there = [run(way, steps, numbers, []).numbers for way in (FWD, INV)]
+    back = [run(way, steps, one, []).numbers for way, one in zip((INV, FWD), there)]
+    return [bits(one) for one in back] == [bits(numbers)] * 2
+
+
+def every_order_restores():
+    """Every order and sign, on zeros of both signs, infinities, subnormals and extremes."""
+    numbers = list(map(draw.number_of, draw.HOSTILE_BITS))
+    numbers = [number for number in numbers if number == number]
+    row = [number for at in range(4) for number in numbers[at:] + numbers[:at]]
+
+    def returns(steps, there, back):
+        return bits(run(back, steps, run(there, steps, row, []).numbers, []).numbers) == bits(row)
+
+    tables = [[page(order + [0] * 4)] for order in ORDERS]
+    same("R2 every order restores", [steps for steps in tables if not (
+        returns(steps, FWD, INV) and returns(steps, INV, FWD))], [])
 
 
 def drawn():
     every_adapt_is_made()
+    every_order_restores()
     for law in (drawn_tables, drawn_wrongs, drawn_round_trips, drawn_starvation, drawn_turns,
-                drawn_readings, drawn_pipelines_turned, drawn_undone, drawn_written):
+                drawn_readings, drawn_pipelines_turned, drawn_undone, drawn_written, drawn_modes,
+                drawn_mixtures, drawn_letters, drawn_restored):
         rng = random.Random(7)
         same(law.__name__, [i for i in range(1500) if not law(rng)], [])
 
 
 def main():
     for part in (examples, also, program, slips, points_of_text, points_of_values, points_of_steps,
-                 record_tests, the_pair, point_1, point_2, rows_tests, adapt_tests, requests,
+                 record_tests, the_pair, point_1, point_2, rows_tests, westish, point_3, point_4,
+                 documented_records, documented_words, documented_texts, adapt_tests, requests,
                  drawn):
         part()
     print("%(passed)d passed, %(failed)d failed" % COUNTS)

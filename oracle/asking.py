@@ -1,5 +1,5 @@
-"""What `compare`, `record` and `foretold` share: asking the Rust, the program `answers` and the model, and what document 01
-makes of the Rust's answer."""
+"""What `compare`, `record`, `foretold` and `written` share: asking the Rust, the program `answers` and the model, and what document 01
+makes of the Rust's answer. The Rust knows the crate's reading and mode only."""
 
 import os
 import platform
@@ -19,6 +19,8 @@ SUBSCRIPT = re.compile(rb"\xe2\x82[\x80-\x89]")
 TEXT_CALLS = ["normalise", "split", "parameters", "translate"]
 STEP_CALLS = ["prepare", "check", "run"]
 CALLS = TEXT_CALLS + STEP_CALLS
+# what may follow a call that prepares: the reading and the mode
+WAYS = {"": "the crate's reading and mode", "/p": "PROJ's reading", "/d": "the documented mode", "/pd": "PROJ's reading, the documented mode"}
 
 # ----- asking --------------------------------------------------------------------------------------------------------
 

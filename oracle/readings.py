@@ -49,11 +49,11 @@ def hexed(text):
     return text.encode().hex() or "-"
 
 
-def on_text(text, numbers, store):
-    """Checks and runs of a text, both ways and in both readings."""
-    for reading, direction in itertools.product(READINGS, DIRECTIONS):
-        yield f"check{reading} {direction} {hexed(text)}"
-        yield f"run{reading} {direction} {store} {hexed(text)} {numbers}"
+def on_text(text, numbers, store, ways=READINGS):
+    """Checks and runs of a text, both ways and in both readings, or in what is marked so."""
+    for mark, direction in itertools.product(ways, DIRECTIONS):
+        yield f"check{mark} {direction} {hexed(text)}"
+        yield f"run{mark} {direction} {store} {hexed(text)} {numbers}"
 
 
 def of_operators():
