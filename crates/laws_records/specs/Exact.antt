@@ -13,7 +13,7 @@ use lib.IntN.{ℤ, pos}
 use Rattle.rules.specs.Text.Ascii.{ascii}
 use Rattle.rules.specs.Text.Lists.{anyOf, allOf}
 use Rattle.rules.specs.Text.Bytes.{Bytes, afterEach, joinedBy}
-use Rattle.rules.specs.Text.Refusal.{Reply, answers, refuses, andThen, tested, outcome, prepared}
+use Rattle.rules.specs.Text.Refusal.{Reply, answers, refuses, refuses12, andThen, tested, outcome, prepared}
 use Rattle.rules.specs.Text.Split.{steps, splitSteps}
 use Rattle.rules.specs.Text.Parameters.{Parameter, parametersOf}
 use Rattle.rules.specs.Operators.Arguments.{valueOf}
@@ -22,7 +22,8 @@ use Rattle.rules.specs.Operators.Table.{numberOf, otherMode, isOfMode, wordingO
 use Rattle.rules.specs.Operators.Documented.{adaptIn}
 use Rattle.rules.specs.Pipeline.Record.{readingNumber, readingOf, inReading, stepWith, operator, ofMode, made}
 use Rattle.rules.specs.Pipeline.Keys.{kindOf, unknown, misspelt, tooLong}
-use Rattle.rules.specs.Pipeline.Prepare.{recordOf, recorded, ownRule, judged14, judged11, named, judged10, judged, atStep, prepareStep, prepareSteps, prepareIn, prepare, prepareAs, Prepares, PreparesAs}
+use Rattle.rules.specs.Pipeline.Prepare.{recordOf, recorded, ownRule, judged14, judged11, named, judged10, judged, offsetIn, atStep}
+use Rattle.rules.specs.Pipeline.Prepare.{prepareStep, prepareSteps, prepareIn, prepare, prepareAs, Prepares, PreparesAs}
 use Rattle.rules.specs.declared.Mode.{Mode}
 use Rattle.rules.specs.declared.Mode.the-variants as mode-is
 use Rattle.rules.specs.declared.Reading.{Reading}
@@ -97,7 +98,7 @@ judged-slotted mode ps s h = by10 (named (valueOf (ascii "_name") ps)) h
     by14 none f h = absurd (never (cc h))
     by14 (some r) f h = f s (cc h)
 
-    by13 : (n : Name) (a b c : Bool) → cond a (refuses 11 0) (cond b (refuses 12 0) (cond c (refuses 13 0) (judged14 (ownRule mode n ps)))) ≡ answers s → Slotted s
+    by13 : (n : Name) (a b c : Bool) → cond a (refuses 11 0) (cond b (refuses12 0 0) (cond c (refuses 13 0) (judged14 (ownRule mode n ps)))) ≡ answers s → Slotted s
     by13 n true b c h = absurd (never (cc h))
     by13 n false true c h = absurd (never (cc h))
     by13 n false false true h = absurd (never (cc h))
@@ -112,11 +113,12 @@ step-slotted : (mode : Mode) (place : ℕ) (t : Bytes) (s : Step) → prepareSte
 unfolding prepareStep atStep
 step-slotted mode place t s h = go (ltb 4096 (length t)) h
   where
-    at : (r : Reply Step) → atStep place r ≡ answers s → r ≡ answers s
+    at : (r : Reply Step) → atStep place (offsetIn t) r ≡ answers s → r ≡ answers s
     at (answers x) h = h
     at (refuses n p) h = absurd (never (cc h))
+    at (refuses12 p o) h = absurd (never (cc h))
 
-    go : (b : Bool) → atStep place (cond b (refuses 1 0) (andThen (parametersOf t) (judged mode))) ≡ answers s → Slotted s
+    go : (b : Bool) → atStep place (offsetIn t) (cond b (refuses 1 0) (andThen (parametersOf t) (judged mode))) ≡ answers s → Slotted s
     go true h = absurd (never (cc h))
     go false h = let f = then-answers (parametersOf t) (judged mode) s (at _ h) in judged-slotted mode (f .0) s (f .2)
 
@@ -182,6 +184,7 @@ prepare-is-crates t = go (prepareIn mode-is.Crate t) refl
     go : (o : Reply (List Step)) → prepareIn mode-is.Crate t ≡ o → andThen o (λ l. answers (map (inReading Crate) l)) ≡ o
     go (answers l) e = unfold andThen in ap answers (named-all Crate l (crates-all mode-is.Crate t l e .0 .alike))
     go (refuses number place) e = unfold andThen in refl
+    go (refuses12 place offset) e = unfold andThen in refl
 
 -- ---- both halves
 

@@ -12,7 +12,7 @@ use Rattle.rules.specs.Text.Ascii.{ascii, is}
 use Rattle.rules.specs.Text.Lists.{anyOf, allOf}
 use Rattle.rules.specs.Text.Bytes.{Bytes, Words, same}
 use Rattle.rules.specs.Text.Refusal.{answers}
-use Rattle.rules.specs.Text.Parameters.{Parameter, parameter, name, precedes, entered, enteredAll}
+use Rattle.rules.specs.Text.Parameters.{Parameter, parameter, name, precedes, enteredBy, enteredAllBy, entered, enteredAll}
 use Rattle.rules.specs.Pipeline.Keys.{kindOf, unknown, misspelt, tooLong}
 use Rattle.rules.specs.Operators.Arguments.{valueOf}
 use Rattle.rules.specs.Pipeline.Prepare.{ownRule, judged14, judged11, named, judged10, judged}
@@ -39,7 +39,7 @@ apart k p q v w r n false true e f = refl
 apart k p q v w r n false false e f = refl
 
 value-entered : (k : Bytes) (p : Parameter) (l : List Parameter) → valueOf k (entered p l) ≡ cond (same k (p .key)) (some (p .value)) (valueOf k l)
-unfolding valueOf entered
+unfolding valueOf enteredBy
 value-entered k p [] = refl
 value-entered k p (q ∷ l) = go (same (p .key) (q .key)) (precedes (p .key) (q .key)) refl (value-entered k p l)
   where
@@ -58,7 +58,7 @@ latest k [] r = r
 latest k (p ∷ ps) r = latest k ps (cond (same k (p .key)) (some (p .value)) r)
 
 value-all : (k : Bytes) (ps l : List Parameter) → valueOf k (enteredAll ps l) ≡ latest k ps (valueOf k l)
-unfolding enteredAll latest
+unfolding enteredAllBy latest
 value-all k [] l = refl
 value-all k (p ∷ ps) l = value-all k ps (entered p l) ∙ ap (latest k ps) (value-entered k p l)
 
@@ -71,7 +71,7 @@ latest-append k (p ∷ ps) qs r = latest-append k ps qs (cond (same k (p .key)) 
 
 module _ (test : Parameter → Bool) where
   any-entered : (p : Parameter) (l : List Parameter) → test p ≡ false → anyOf test l ≡ false → anyOf test (entered p l) ≡ false
-  unfolding anyOf entered
+  unfolding anyOf enteredBy
   any-entered p [] h e = rw h
   any-entered p (q ∷ l) h e = go (same (p .key) (q .key)) (precedes (p .key) (q .key)) (any-entered p l h (or-right (test q) (anyOf test l) e))
     where
@@ -81,7 +81,7 @@ module _ (test : Parameter → Bool) where
       go false false f = rw (or-left (test q) (anyOf test l) e) f
 
   any-all : (ps l : List Parameter) → anyOf test ps ≡ false → anyOf test l ≡ false → anyOf test (enteredAll ps l) ≡ false
-  unfolding anyOf enteredAll
+  unfolding anyOf enteredAllBy
   any-all [] l h e = e
   any-all (p ∷ ps) l h e = any-all ps (entered p l) (or-right (test p) (anyOf test ps) h) (any-entered p l (or-left (test p) (anyOf test ps) h) e)
 
@@ -105,7 +105,7 @@ any-or-right f g (p ∷ l) h =
 -- ---- how many they are
 
 entered-length : (p : Parameter) (l : List Parameter) → length (entered p l) ≤ suc (length l)
-unfolding entered
+unfolding enteredBy
 entered-length p [] = le-refl 1
 entered-length p (q ∷ l) = go (same (p .key) (q .key)) (precedes (p .key) (q .key)) (entered-length p l)
   where
@@ -115,7 +115,7 @@ entered-length p (q ∷ l) = go (same (p .key) (q .key)) (precedes (p .key) (q .
     go false false h = omega arith
 
 pub all-length : (ps l : List Parameter) → length (enteredAll ps l) ≤ length ps + length l
-unfolding enteredAll
+unfolding enteredAllBy
 all-length [] l = omega arith
 all-length (p ∷ ps) l = omega (arith, all-length ps (entered p l), entered-length p l)
 

@@ -15,14 +15,14 @@ use lib.Ieee.{Float}
 use Rattle.rules.specs.Text.Ascii.{ascii}
 use Rattle.rules.specs.Text.Lists.{anyOf, allOf}
 use Rattle.rules.specs.Text.Bytes.{Bytes, inDomain}
-use Rattle.rules.specs.Text.Refusal.{Reply, answers, refuses, andThen, tested, lent, outcome, prepared}
+use Rattle.rules.specs.Text.Refusal.{Reply, answers, refuses, refuses12, andThen, tested, lent, outcome, prepared}
 use Rattle.rules.specs.Text.Split.{steps, splitSteps}
 use Rattle.rules.specs.Text.Parameters.{Parameter, parametersOf}
 use Rattle.rules.specs.Pipeline.Record.{readingNumber, inReading, ofMode, made, tableReading, goodIn, firstBad, refusal18}
 use Rattle.rules.specs.Pipeline.Keys.{kindOf, unknown, misspelt, tooLong}
 use Rattle.rules.specs.Operators.Table.{isOfMode, wordingOf}
 use Rattle.rules.specs.Operators.Arguments.{valueOf}
-use Rattle.rules.specs.Pipeline.Prepare.{ownRule, judged14, judged11, named, judged10, judged, atStep, prepareStep, prepareSteps, prepareIn, prepareAs, PreparesAs}
+use Rattle.rules.specs.Pipeline.Prepare.{ownRule, judged14, judged11, named, judged10, judged, offsetIn, atStep, prepareStep, prepareSteps, prepareIn, prepareAs, PreparesAs}
 use Rattle.rules.specs.Pipeline.Run.{runs}
 use Rattle.rules.specs.Pipeline.Check.{check}
 use Rattle.rules.specs.declared.Mode.{Mode}
@@ -71,7 +71,7 @@ prepared-made mode ps s h = by10 (named (valueOf (ascii "_name") ps)) h
         })
 
     by13 : (n : Name) (a b c : Bool) → (c ≡ false → Short n ps)
-        → cond a (refuses 11 0) (cond b (refuses 12 0) (cond c (refuses 13 0) (judged14 (ownRule mode n ps)))) ≡ answers s → MadeIn mode s
+        → cond a (refuses 11 0) (cond b (refuses12 0 0) (cond c (refuses 13 0) (judged14 (ownRule mode n ps)))) ≡ answers s → MadeIn mode s
     by13 n true b c e h = absurd (never (cc h))
     by13 n false true c e h = absurd (never (cc h))
     by13 n false false true e h = absurd (never (cc h))
@@ -87,17 +87,19 @@ pub then-answers : {A B : Type 0} (r : Reply A) (next : A → Reply B) (y : B) �
 unfolding andThen
 then-answers (answers x) next y h = (x, refl, h)
 then-answers (refuses n p) next y h = absurd (never (cc h))
+then-answers (refuses12 p o) next y h = absurd (never (cc h))
 
 -- So is the record that preparing one step's text answers.
 pub step-made : (mode : Mode) (place : ℕ) (t : Bytes) (s : Step) → prepareStep mode place t ≡ answers s → MadeIn mode s
 unfolding prepareStep atStep
 step-made mode place t s h = go (ltb 4096 (length t)) h
   where
-    at : (r : Reply Step) → atStep place r ≡ answers s → r ≡ answers s
+    at : (r : Reply Step) → atStep place (offsetIn t) r ≡ answers s → r ≡ answers s
     at (answers x) h = h
     at (refuses n p) h = absurd (never (cc h))
+    at (refuses12 p o) h = absurd (never (cc h))
 
-    go : (b : Bool) → atStep place (cond b (refuses 1 0) (andThen (parametersOf t) (judged mode))) ≡ answers s → MadeIn mode s
+    go : (b : Bool) → atStep place (offsetIn t) (cond b (refuses 1 0) (andThen (parametersOf t) (judged mode))) ≡ answers s → MadeIn mode s
     go true h = absurd (never (cc h))
     go false h = let f = then-answers (parametersOf t) (judged mode) s (at _ h) in prepared-made mode (f .0) s (f .2)
 
@@ -181,9 +183,10 @@ lent-answers : (r : Reply (List Step)) (table table′ : List Step) (n : ℕ)
     → _≡_ {A = Prepared × List Step} (prepared-is.Steps n, table′) (lent prepared r table) → r ≡ answers (take n table′)
 unfolding lent prepared
 lent-answers (refuses number place) table table′ n h = absurd (never (cc (ap (λ (x : Prepared × List Step). x .0) h)))
+lent-answers (refuses12 place offset) table table′ n h = absurd (never (cc (ap (λ (x : Prepared × List Step). x .0) h)))
 lent-answers (answers l) table table′ n h = go (ltb (length table) (length l)) h
   where
-    go : (b : Bool) → _≡_ {A = Prepared × List Step} (prepared-is.Steps n, table′) (cond b (prepared-is.Refused 7 0, table) (prepared-is.Steps (length l), l ++ drop (length l) table))
+    go : (b : Bool) → _≡_ {A = Prepared × List Step} (prepared-is.Steps n, table′) (cond b (prepared-is.Refused 7 0 0, table) (prepared-is.Steps (length l), l ++ drop (length l) table))
         → answers l ≡ answers (take n table′)
     go true h = absurd (never (cc (ap (λ (x : Prepared × List Step). x .0) h)))
     go false h =

@@ -1,6 +1,6 @@
--- "Refusals: none new": a text that one mode refuses is refused by the other, with the same number at the same place. For only an operator's own rule
--- knows the mode, and whether it is broken is a matter of the two words alone.
-use mathlib.Core.Path.{_≡_, refl}
+-- "Refusals: none new": a text that one mode refuses is refused by the other, with the same number at the same place, and 12 with the same
+-- offset. For only an operator's own rule knows the mode, and whether it is broken is a matter of the two words alone.
+use mathlib.Core.Path.{_≡_}
 use Prim.Native.Nat.{ℕ, suc}
 use mathlib.Core.Bool.{Bool, true, false, cond}
 use mathlib.Core.Option.{Option, none, some}
@@ -10,7 +10,7 @@ use lib.ListN.{length}
 use Rattle.rules.specs.Text.Ascii.{ascii}
 use Rattle.rules.specs.Text.Lists.{anyOf}
 use Rattle.rules.specs.Text.Bytes.{Bytes}
-use Rattle.rules.specs.Text.Refusal.{Reply, answers, refuses, andThen}
+use Rattle.rules.specs.Text.Refusal.{Reply, answers, refuses, refuses12, andThen}
 use Rattle.rules.specs.Text.Split.{steps, splitSteps}
 use Rattle.rules.specs.Text.Parameters.{Parameter, parametersOf}
 use Rattle.rules.specs.Operators.Arguments.{valueOf}
@@ -19,7 +19,7 @@ use Rattle.rules.specs.Operators.Adapt.{Word, wordGiven, between}
 use Rattle.rules.specs.Operators.Documented.{adaptIn, combinedIn}
 use Rattle.rules.specs.Pipeline.Record.{inReading}
 use Rattle.rules.specs.Pipeline.Keys.{kindOf, unknown, misspelt, tooLong}
-use Rattle.rules.specs.Pipeline.Prepare.{recorded, ownRule, judged14, judged11, named, judged10, judged, atStep, prepareStep, prepareSteps, prepareIn, prepareAs}
+use Rattle.rules.specs.Pipeline.Prepare.{recorded, ownRule, judged14, judged11, named, judged10, judged, offsetIn, atStep, prepareStep, prepareSteps, prepareIn, prepareAs}
 use Rattle.rules.specs.declared.Mode.{Mode}
 use Rattle.rules.specs.declared.Reading.{Reading}
 use Rattle.rules.specs.declared.Step.{Step}
@@ -29,19 +29,22 @@ use Rattle.rules.specs.declared.Named.{Named}
 use Rattle.rules.specs.declared.Named.the-variants.{Is, Not}
 use Rattle.laws_lists.specs.Tests.{never}
 
--- both answer, or both refuse with the same number at the same place
+-- both answer, or both refuse with the same number at the same place, or with 12 at the same place and offset
 data Alike {A : Type 0} : Reply A → Reply A → Type 0 where
   answer : (x y : A) → Alike (answers x) (answers y)
   refuse : (number place : ℕ) → Alike (refuses number place) (refuses number place)
+  refuse-12 : (place offset : ℕ) → Alike (refuses12 place offset) (refuses12 place offset)
 
 same : {A : Type 0} (r : Reply A) → Alike r r
 same (answers x) = answer x x
 same (refuses number place) = refuse number place
+same (refuses12 place offset) = refuse-12 place offset
 
 then-alike : {A B : Type 0} {r s : Reply A} → Alike r s → (f g : A → Reply B) → ((x y : A) → Alike (f x) (g y)) → Alike (andThen r f) (andThen s g)
 unfolding andThen
 then-alike (answer x y) f g h = h x y
 then-alike (refuse n p) f g h = refuse n p
+then-alike (refuse-12 p o) f g h = refuse-12 p o
 
 if-alike : {A : Type 0} (b : Bool) (r s t : Reply A) → Alike s t → Alike (cond b r s) (cond b r t)
 if-alike true r s t h = same r
@@ -78,19 +81,21 @@ module _ (m k : Mode) where
           (if-alike (anyOf (λ (p : Parameter). misspelt (kindOf n p) (p .value)) ps) _ _ _
           (if-alike (anyOf (λ (p : Parameter). tooLong (kindOf n p) (p .value)) ps) _ _ _ (own-alike n ps)))
 
-  at-alike : (place : ℕ) {r s : Reply Step} → Alike r s → Alike (atStep place r) (atStep place s)
+  at-alike : (place offset : ℕ) {r s : Reply Step} → Alike r s → Alike (atStep place offset r) (atStep place offset s)
   unfolding atStep
-  at-alike place (answer x y) = answer x y
-  at-alike place (refuse n p) = refuse n place
+  at-alike place offset (answer x y) = answer x y
+  at-alike place offset (refuse n p) = refuse n place
+  at-alike place offset (refuse-12 p o) = refuse-12 place offset
 
   ps-alike : (r : Reply (List Parameter)) → Alike (andThen r (judged m)) (andThen r (judged k))
   unfolding andThen
   ps-alike (answers ps) = judged-alike ps
   ps-alike (refuses n p) = refuse n p
+  ps-alike (refuses12 p o) = refuse-12 p o
 
   step-alike : (place : ℕ) (t : Bytes) → Alike (prepareStep m place t) (prepareStep k place t)
   unfolding prepareStep
-  step-alike place t = at-alike place (if-alike (ltb 4096 (length t)) _ _ _ (ps-alike (parametersOf t)))
+  step-alike place t = at-alike place (offsetIn t) (if-alike (ltb 4096 (length t)) _ _ _ (ps-alike (parametersOf t)))
 
   -- ---- all steps
 
@@ -104,6 +109,7 @@ module _ (m k : Mode) where
   unfolding andThen
   split-alike (answers ts) = steps-alike 1 ts
   split-alike (refuses n p) = refuse n p
+  split-alike (refuses12 p o) = refuse-12 p o
 
   prepare-alike : (r : Reading) (t : Bytes) → Alike (prepareAs r m t) (prepareAs r k t)
   unfolding prepareAs prepareIn
@@ -115,3 +121,12 @@ module _ (m k : Mode) where
       go : {x y : Reply (List Step)} → Alike x y → x ≡ refuses number place → y ≡ refuses number place
       go (answer a b) h = absurd (never (cc h))
       go (refuse n p) h = h
+      go (refuse-12 p o) h = h
+
+  pub same-refusal-12 : (r : Reading) (t : Bytes) (place offset : ℕ) → prepareAs r m t ≡ refuses12 place offset → prepareAs r k t ≡ refuses12 place offset
+  same-refusal-12 r t place offset h = go (prepare-alike r t) h
+    where
+      go : {x y : Reply (List Step)} → Alike x y → x ≡ refuses12 place offset → y ≡ refuses12 place offset
+      go (answer a b) h = absurd (never (cc h))
+      go (refuse n p) h = h
+      go (refuse-12 p o) h = h

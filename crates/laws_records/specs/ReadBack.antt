@@ -12,7 +12,7 @@ use lib.Seq.{take-append-seam}
 use lib.Dec.{leb, ltb, eqb}
 use Rattle.rules.specs.Text.Lists.{allOf}
 use Rattle.rules.specs.Text.Bytes.{Bytes}
-use Rattle.rules.specs.Text.Refusal.{Reply, answers, refuses, lent, written, Lends}
+use Rattle.rules.specs.Text.Refusal.{Reply, answers, refuses, refuses12, lent, written, Lends}
 use Rattle.rules.specs.Pipeline.Record.{readingNumber, readingOf, ofMode, made, tableReading, goodIn, firstBad, refusal18}
 use Rattle.rules.specs.Pipeline.Prepare.{prepareAs, PreparesAs}
 use Rattle.rules.specs.declared.Mode.{Mode}
@@ -38,6 +38,7 @@ use Rattle.laws_records.specs.Exact.{table-prepares, Texted, tables-exac
 lent-front : (reply : Reply Bytes) (out : Bytes) (r : ℕ) (out′ : Bytes) → _≡_ {A = Written × Bytes} (written-is.Wrote r, out′) (lent written reply out) → reply ≡ answers (take r out′)
 unfolding lent written
 lent-front (refuses number place) out r out′ h = absurd (never (cc (ap (λ (x : Written × Bytes). x .0) h)))
+lent-front (refuses12 place offset) out r out′ h = absurd (never (cc (ap (λ (x : Written × Bytes). x .0) h)))
 lent-front (answers t) out r out′ h = go (ltb (length out) (length t)) h
   where
     go : (b : Bool) → _≡_ {A = Written × Bytes} (written-is.Wrote r, out′) (cond b (written-is.Refused 7 0, out) (written-is.Wrote (length t), t ++ drop (length t) out))

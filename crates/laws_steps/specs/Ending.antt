@@ -13,7 +13,7 @@ use lib.IntN.{pos}
 use lib.Ieee.{Float, fin}
 use Rattle.rules.specs.Text.Lists.{anyOf}
 use Rattle.rules.specs.Text.Bytes.{Bytes}
-use Rattle.rules.specs.Text.Refusal.{Reply, answers, refuses, tested, lent, outcome, Promised, written, prepared, Writes, Lends}
+use Rattle.rules.specs.Text.Refusal.{Reply, answers, refuses, refuses12, tested, lent, outcome, Promised, written, prepared, Writes, Lends}
 use Rattle.rules.specs.Text.Normal.{normalise}
 use Rattle.rules.specs.Text.Split.{split}
 use Rattle.rules.specs.Text.Parameters.{parameters}
@@ -27,7 +27,7 @@ use Rattle.rules.specs.Pipeline.Tuples.{acted}
 use Rattle.rules.specs.Pipeline.Run.{Outcome, start, count, passes64, badList, storeAfter, refused, finished, unless16, unless15, unless18, runs, Runs}
 use Rattle.rules.specs.Pipeline.Check.{Checks}
 use Rattle.rules.specs.Pipeline.Write.{tableWriting, writtenUnless18, write}
-use Rattle.rules.specs.Face.Demands.{OneOf, Ends, RunEnds, CheckEnds, NextEnds}
+use Rattle.rules.specs.Face.Demands.{OneOf, Ends, textRefusal, RunEnds, CheckEnds, NextEnds}
 use Rattle.rules.specs.declared.Reading.{Reading}
 use Rattle.rules.specs.declared.Mode.{Mode}
 use Rattle.rules.specs.declared.Mode.the-variants as mode-is
@@ -57,17 +57,22 @@ use Rattle.laws_steps.specs.Runs.{end, used, answered, as-many}
 abbrev By : List ℕ → ℕ → ℕ → Type 0
 By numbers number place = OneOf numbers number
 
-module _ {A R : Type 0} (inWords : Reply ℕ → R) (l : List ℕ) (seven : OneOf l 7) where
+-- in words that say of a refusal its number and place, and of 12 its offset, if they say one at all
+module _ {A R : Type 0} (inWords : Reply ℕ → R) (refusal : ℕ → ℕ → ℕ → R) (says : (number place : ℕ) → inWords (refuses number place) ≡ refusal number place 0)
+    (says-12 : (place offset : ℕ) → inWords (refuses12 place offset) ≡ refusal 12 place offset) (l : List ℕ) (seven : OneOf l 7) where
   lent-ends : (reply : Reply (List A)) (storage : List A) (r : R) (storage′ : List A) → Refusing (By l) reply → _≡_ {A = R × List A} (r, storage′) (lent inWords reply storage)
-      → Ends (λ n. inWords (answers n)) (λ number place. inWords (refuses number place)) l storage r storage′
+      → Ends (λ n. inWords (answers n)) refusal l storage r storage′
   unfolding lent Refusing
-  lent-ends (refuses number place) storage r storage′ h e = Ends.refuses number place (ap (λ (x : R × List A). x .0) e) h (ap (λ (x : R × List A). x .1) e)
+  lent-ends (refuses number place) storage r storage′ h e =
+      Ends.refuses number place 0 (ap (λ (x : R × List A). x .0) e ∙ says number place) h (ap (λ (x : R × List A). x .1) e)
+  lent-ends (refuses12 place offset) storage r storage′ h e =
+      Ends.refuses 12 place offset (ap (λ (x : R × List A). x .0) e ∙ says-12 place offset) h (ap (λ (x : R × List A). x .1) e)
   lent-ends (answers xs) storage r storage′ h e = go (ltb (length storage) (length xs)) refl e
     where
       go : (b : Bool) → ltb (length storage) (length xs) ≡ b
           → _≡_ {A = R × List A} (r, storage′) (cond b (inWords (refuses 7 0), storage) (inWords (answers (length xs)), xs ++ drop (length xs) storage))
-          → Ends (λ n. inWords (answers n)) (λ number place. inWords (refuses number place)) l storage r storage′
-      go true k e = Ends.refuses 7 0 (ap (λ (x : R × List A). x .0) e) seven (ap (λ (x : R × List A). x .1) e)
+          → Ends (λ n. inWords (answers n)) refusal l storage r storage′
+      go true k e = Ends.refuses 7 0 0 (ap (λ (x : R × List A). x .0) e ∙ says 7 0) seven (ap (λ (x : R × List A). x .1) e)
       go false k e =
           let fits = ltb-false (length storage) (length xs) k in
           let w : storage′ ≡ xs ++ drop (length xs) storage = ap (λ (x : R × List A). x .1) e in
@@ -76,28 +81,33 @@ module _ {A R : Type 0} (inWords : Reply ℕ → R) (l : List ℕ) (seven : OneO
 
   -- a call that reads a text
   ends : (own : Bytes → Reply (List A)) {text : Bytes} {storage : List A} {r : R} {storage′ : List A} → OneOf l 1 → OneOf l 2 → Refusing (By l) (own text)
-      → Promised inWords own text storage r storage′ → Ends (λ n. inWords (answers n)) (λ number place. inWords (refuses number place)) l storage r storage′
+      → Promised inWords own text storage r storage′ → Ends (λ n. inWords (answers n)) refusal l storage r storage′
   unfolding outcome
   ends own {text} {storage} {r} {storage′} one two h p =
       lent-ends (tested own text) storage r storage′ (tested-refuses (By l) own text one two (λ short. h)) (p .exactly)
 
 module _ {text out : Bytes} {r : Written} {out′ : Bytes} where
-  pub normalise-ends : Writes normalise text out r out′ → Ends written-is.Wrote written-is.Refused (1 ∷ 2 ∷ 7 ∷ []) out r out′
-  unfolding written anyOf
-  normalise-ends = ends written (1 ∷ 2 ∷ 7 ∷ []) refl normalise refl refl (normalise-refuses (By (1 ∷ 2 ∷ 7 ∷ [])) text)
+  text-ends : (l : List ℕ) → OneOf l 7 → (own : Bytes → Reply Bytes) → OneOf l 1 → OneOf l 2 → Refusing (By l) (own text) → Writes own text out r out′
+      → Ends written-is.Wrote textRefusal l out r out′
+  unfolding written
+  text-ends l seven own = ends written textRefusal (λ number place. refl) (λ place offset. refl) l seven own
 
-  pub split-ends : Writes split text out r out′ → Ends written-is.Wrote written-is.Refused (1 ∷ 2 ∷ 6 ∷ 7 ∷ 8 ∷ []) out r out′
-  unfolding written anyOf
-  split-ends = ends written (1 ∷ 2 ∷ 6 ∷ 7 ∷ 8 ∷ []) refl split refl refl (split-refuses (By (1 ∷ 2 ∷ 6 ∷ 7 ∷ 8 ∷ [])) text (λ p l. refl) refl)
+  pub normalise-ends : Writes normalise text out r out′ → Ends written-is.Wrote textRefusal (1 ∷ 2 ∷ 7 ∷ []) out r out′
+  unfolding anyOf
+  normalise-ends = text-ends (1 ∷ 2 ∷ 7 ∷ []) refl normalise refl refl (normalise-refuses (By (1 ∷ 2 ∷ 7 ∷ [])) text)
 
-  pub parameters-ends : Writes parameters text out r out′ → Ends written-is.Wrote written-is.Refused (1 ∷ 2 ∷ 6 ∷ 7 ∷ 9 ∷ []) out r out′
-  unfolding written anyOf
-  parameters-ends = ends written (1 ∷ 2 ∷ 6 ∷ 7 ∷ 9 ∷ []) refl parameters refl refl (parameters-refuses (By (1 ∷ 2 ∷ 6 ∷ 7 ∷ 9 ∷ [])) text refl refl)
+  pub split-ends : Writes split text out r out′ → Ends written-is.Wrote textRefusal (1 ∷ 2 ∷ 6 ∷ 7 ∷ 8 ∷ []) out r out′
+  unfolding anyOf
+  split-ends = text-ends (1 ∷ 2 ∷ 6 ∷ 7 ∷ 8 ∷ []) refl split refl refl (split-refuses (By (1 ∷ 2 ∷ 6 ∷ 7 ∷ 8 ∷ [])) text (λ p l. refl) refl)
 
-  pub translate-ends : Writes translate text out r out′ → Ends written-is.Wrote written-is.Refused (1 ∷ 2 ∷ 3 ∷ 4 ∷ 5 ∷ 7 ∷ []) out r out′
-  unfolding written anyOf
+  pub parameters-ends : Writes parameters text out r out′ → Ends written-is.Wrote textRefusal (1 ∷ 2 ∷ 6 ∷ 7 ∷ 9 ∷ []) out r out′
+  unfolding anyOf
+  parameters-ends = text-ends (1 ∷ 2 ∷ 6 ∷ 7 ∷ 9 ∷ []) refl parameters refl refl (parameters-refuses (By (1 ∷ 2 ∷ 6 ∷ 7 ∷ 9 ∷ [])) text refl refl)
+
+  pub translate-ends : Writes translate text out r out′ → Ends written-is.Wrote textRefusal (1 ∷ 2 ∷ 3 ∷ 4 ∷ 5 ∷ 7 ∷ []) out r out′
+  unfolding anyOf
   translate-ends =
-      ends written (1 ∷ 2 ∷ 3 ∷ 4 ∷ 5 ∷ 7 ∷ []) refl translate refl refl
+      text-ends (1 ∷ 2 ∷ 3 ∷ 4 ∷ 5 ∷ 7 ∷ []) refl translate refl refl
       (translate-refuses (By (1 ∷ 2 ∷ 3 ∷ 4 ∷ 5 ∷ 7 ∷ [])) text (λ k l. (refl, refl, refl)))
 
 -- preparing, and in a reading: naming the records refuses nothing
@@ -111,21 +121,26 @@ step-refuses m text =
     record { long = refl; modifiers = refl; keys = refl; name = refl; unknown-key = refl; no-number = refl; series = refl; own = refl } in
     prepare-refuses (By preparing) m text (λ k h. each k) refl
 
+prepared-ends : (own : Bytes → Reply (List Step)) {text : Bytes} {table : List Step} {r : Prepared} {table′ : List Step} → Refusing (By preparing) (own text)
+    → Promised prepared own text table r table′ → Ends prepared-is.Steps prepared-is.Refused preparing table r table′
+unfolding prepared anyOf
+prepared-ends own = ends prepared prepared-is.Refused (λ number place. refl) (λ place offset. refl) preparing refl own refl refl
+
 pub prepare-ends : {text : Bytes} {table : List Step} {r : Prepared} {table′ : List Step} → Prepares text table r table′
     → Ends prepared-is.Steps prepared-is.Refused preparing table r table′
-unfolding prepared anyOf
-prepare-ends {text} = ends prepared preparing refl prepare refl refl (unfold prepare in step-refuses mode-is.Crate text)
+prepare-ends {text} = prepared-ends prepare (unfold prepare in step-refuses mode-is.Crate text)
 
 pub prepare-as-ends : (how : Reading) (m : Mode) {text : Bytes} {table : List Step} {r : Prepared} {table′ : List Step} → PreparesAs how m text table r table′
     → Ends prepared-is.Steps prepared-is.Refused preparing table r table′
-unfolding prepared anyOf prepareAs Refusing
+unfolding prepareAs Refusing
 prepare-as-ends how m {text} =
-    ends prepared preparing refl (prepareAs how m) refl refl (then-refuses (By preparing) (prepareIn m text) (λ l. answers (map (inReading how) l)) (step-refuses m text) (λ l e. tt))
+    prepared-ends (prepareAs how m) (then-refuses (By preparing) (prepareIn m text) (λ l. answers (map (inReading how) l)) (step-refuses m text) (λ l e. tt))
 
 pub write-ends : {out : Bytes} {r : Written} {out′ : Bytes} (table : List Step) → Lends (write table) out r out′
-    → Ends written-is.Wrote written-is.Refused (7 ∷ 18 ∷ []) out r out′
+    → Ends written-is.Wrote textRefusal (7 ∷ 18 ∷ []) out r out′
 unfolding written anyOf write writtenUnless18 Refusing
-write-ends {out} {r} {out′} table p = lent-ends written (7 ∷ 18 ∷ []) refl (write table) out r out′ (go (refusal18 table)) (p .exactly)
+write-ends {out} {r} {out′} table p =
+    lent-ends written textRefusal (λ number place. refl) (λ place offset. refl) (7 ∷ 18 ∷ []) refl (write table) out r out′ (go (refusal18 table)) (p .exactly)
   where
     go : (o : Option ℕ) → Refusing (By (7 ∷ 18 ∷ [])) (writtenUnless18 o (tableWriting table))
     go none = tt

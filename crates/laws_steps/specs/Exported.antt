@@ -60,12 +60,12 @@ not-0 numbers none h z = false≢true (sym none ∙ subst (λ (k : ℕ). anyOf (
 
 -- ---- the text calls, and preparing: what is said of an answer in plain words is its length, and of a refusal its number
 
-module _ {A R : Type 0} (inWords : Reply ℕ → R) (plain : R → Answer) {answer : ℕ → R} {refusal : ℕ → ℕ → R}
-    (says-length : (n : ℕ) → plain (answer n) .length ≡ n) (says-number : (number place : ℕ) → plain (refusal number place) .number ≡ number) where
+module _ {A R : Type 0} (inWords : Reply ℕ → R) (plain : R → Answer) {answer : ℕ → R} {refusal : ℕ → ℕ → ℕ → R}
+    (says-length : (n : ℕ) → plain (answer n) .length ≡ n) (says-number : (number place offset : ℕ) → plain (refusal number place offset) .number ≡ number) where
   is-answer : {numbers : List ℕ} {storage : List A} {w : R} {storage′ : List A} → anyOf (eqb 0) numbers ≡ false
       → Ends answer refusal numbers storage w storage′ → plain w .number ≡ 0 → w ≡ answer (plain w .length)
   is-answer none (Ends.answers n e fits same past) z = e ∙ ap answer (sym (ap (λ (x : R). plain x .length) e ∙ says-length n))
-  is-answer {numbers} none (Ends.refuses number place e h same) z = absurd (not-0 numbers none h (sym (ap (λ (x : R). plain x .number) e ∙ says-number number place) ∙ z))
+  is-answer {numbers} none (Ends.refuses number place offset e h same) z = absurd (not-0 numbers none h (sym (ap (λ (x : R). plain x .number) e ∙ says-number number place offset) ∙ z))
 
   behind-0 : (own : Bytes → Reply (List A)) (numbers : List ℕ) (none : anyOf (eqb 0) numbers ≡ false) (text : Bytes) (storage : List A) (r : Answer) (storage′ : List A)
       → ((w : R) → Promised inWords own text storage w storage′ → Ends answer refusal numbers storage w storage′)
@@ -76,10 +76,11 @@ module _ {A R : Type 0} (inWords : Reply ℕ → R) (plain : R → Answer) {answ
       (b .0, b .1, b .2, λ z. is-answer none (ends (b .0) (b .1)) (sym (ap (λ (x : Answer). x .number) (b .2)) ∙ z) ∙ ap (λ (x : Answer). answer (x .length)) (sym (b .2)))
 
 behind-text : (own : Bytes → Reply Bytes) (numbers : List ℕ) (none : anyOf (eqb 0) numbers ≡ false)
-    → ((text out : Bytes) (w : Written) (out′ : Bytes) → Writes own text out w out′ → Ends written-is.Wrote written-is.Refused numbers out w out′) → ExportsText own
+    → ((text out : Bytes) (w : Written) (out′ : Bytes) → Writes own text out w out′ → Ends written-is.Wrote (λ number place offset. written-is.Refused number place) numbers out w out′)
+    → ExportsText own
 unfolding plainWritten
 behind-text own numbers none ends text out r out′ p =
-    behind-0 written plainWritten (λ n. refl) (λ number place. refl) own numbers none text out r out′ (λ w h. ends text out w out′ h) p
+    behind-0 written plainWritten (λ n. refl) (λ number place offset. refl) own numbers none text out r out′ (λ w h. ends text out w out′ h) p
 
 pub behind-normalise : ExportsText normalise
 unfolding anyOf
@@ -101,14 +102,14 @@ pub behind-prepare : {text : Bytes} {table : List Step} {r : Answer} {table′ :
     → (w : Prepared) × Prepares text table w table′ × (r ≡ plainPrepared w) × (r .number ≡ 0 → w ≡ prepared-is.Steps (r .length))
 unfolding anyOf plainPrepared
 behind-prepare {text} {table} {r} {table′} p =
-    behind-0 prepared plainPrepared (λ n. refl) (λ number place. refl) prepare _ refl
+    behind-0 prepared plainPrepared (λ n. refl) (λ number place offset. refl) prepare _ refl
     text table r table′ (λ w h. prepare-ends h) p
 
 pub behind-prepare-as : (how : Reading) (m : Mode) {text : Bytes} {table : List Step} {r : Answer} {table′ : List Step} → Promised recordCount (prepareAs how m) text table r table′
     → (w : Prepared) × PreparesAs how m text table w table′ × (r ≡ plainPrepared w) × (r .number ≡ 0 → w ≡ prepared-is.Steps (r .length))
 unfolding anyOf plainPrepared
 behind-prepare-as how m {text} {table} {r} {table′} p =
-    behind-0 prepared plainPrepared (λ n. refl) (λ number place. refl) (prepareAs how m) _ refl
+    behind-0 prepared plainPrepared (λ n. refl) (λ number place offset. refl) (prepareAs how m) _ refl
     text table r table′ (λ w h. prepare-as-ends how m h) p
 
 -- ---- the reader

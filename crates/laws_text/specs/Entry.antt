@@ -9,7 +9,7 @@ use lib.ListN.{length, take, drop, length-append}
 use lib.Seq.{take-at, drop-at}
 use lib.Dec.{ltb}
 use Rattle.rules.specs.Text.Bytes.{Bytes, inDomain}
-use Rattle.rules.specs.Text.Refusal.{Reply, answers, refuses, tested, lent, outcome, Promised, written, Writes, Lends}
+use Rattle.rules.specs.Text.Refusal.{Reply, answers, refuses, refuses12, tested, lent, outcome, Promised, written, Writes, Lends}
 use Rattle.rules.specs.declared.Written.{Written}
 use Rattle.rules.specs.declared.Written.the-variants as variant
 use Rattle.laws_lists.specs.Tests.{never}
@@ -52,6 +52,7 @@ lent-told : {A R S : Type 0} (inWords : Reply ℕ → R) (f : R → S) (reply : 
     → lent (λ (x : Reply ℕ). f (inWords x)) reply storage ≡ told f (lent inWords reply storage)
 unfolding lent
 lent-told inWords f (refuses number place) storage = refl
+lent-told inWords f (refuses12 place offset) storage = refl
 lent-told inWords f (answers xs) storage =
     told-cond f (ltb (length storage) (length xs)) (inWords (refuses 7 0), storage) (inWords (answers (length xs)), xs ++ drop (length xs) storage)
 
@@ -152,6 +153,8 @@ unfolding lent written
 picked true text? reply out r out′ e = absurd (never (cc (ap (λ (x : Written × Bytes). x .0) e)))
 picked false false reply out r out′ e = absurd (never (cc (ap (λ (x : Written × Bytes). x .0) e)))
 picked false true (refuses number place) out r out′ e =
+    absurd (never (cc (ap (λ (x : Written × Bytes). x .0) e)))
+picked false true (refuses12 place offset) out r out′ e =
     absurd (never (cc (ap (λ (x : Written × Bytes). x .0) e)))
 picked false true (answers text) out r out′ e = go (ltb (length out) (length text)) refl e
   where

@@ -9,4 +9,7 @@ pub mod Sizes
 pub mod Refusals
 pub mod Separators
 pub mod Table
+pub mod Latest
+pub mod Faults
+pub mod Offsets
 pub mod Walk

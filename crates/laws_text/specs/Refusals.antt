@@ -12,7 +12,7 @@ use lib.Dec.{ltb}
 use Rattle.rules.specs.Text.Ascii.{ascii, is}
 use Rattle.rules.specs.Text.Lists.{anyOf, placeOf}
 use Rattle.rules.specs.Text.Bytes.{Bytes, Steps, inDomain, words, contains}
-use Rattle.rules.specs.Text.Refusal.{Reply, answers, refuses, andThen, tested}
+use Rattle.rules.specs.Text.Refusal.{Reply, answers, refuses, refuses12, andThen, tested}
 use Rattle.rules.specs.Text.Normal.{normal, normalise}
 use Rattle.rules.specs.Text.Split.{onlyModifiers, stepText, steps, splitSteps, split}
 use Rattle.rules.specs.Text.Parameters.{Parameter, tableOf, stepTable, textTable, parametersOf, parameters}
@@ -20,7 +20,7 @@ use Rattle.rules.specs.Proj.Words.{projSteps}
 use Rattle.rules.specs.Proj.Translate.{Pipeline, pipeline, isPipeline, initFirst, onlyInv, firstFault, translation, translated, translate}
 use Rattle.rules.specs.Pipeline.Keys.{kindOf, unknown, misspelt, tooLong}
 use Rattle.rules.specs.Operators.Arguments.{valueOf}
-use Rattle.rules.specs.Pipeline.Prepare.{ownRule, judged14, judged11, named, judged10, judged, atStep, prepareStep, prepareSteps, prepareIn}
+use Rattle.rules.specs.Pipeline.Prepare.{ownRule, judged14, judged11, named, judged10, judged, atStep, prepareStep, prepareSteps, prepareIn, offsetIn}
 use Rattle.rules.specs.declared.Mode.{Mode}
 use Rattle.rules.specs.declared.Step.{Step}
 use Rattle.rules.specs.declared.Named.{Named}
@@ -32,6 +32,7 @@ use Rattle.laws_text.specs.Sizes.{place-within}
 unfoldable pub Refusing : {A : Type 0} → (ℕ → ℕ → Type 0) → Reply A → Type 0
 Refusing P (answers x) = Unit {0}
 Refusing P (refuses number place) = P number place
+Refusing P (refuses12 place offset) = P 12 place
 
 module _ (P : ℕ → ℕ → Type 0) where
   choose : {A : Type 0} (b : Bool) (x y : Reply A) → Refusing P x → Refusing P y → Refusing P (cond b x y)
@@ -42,6 +43,7 @@ module _ (P : ℕ → ℕ → Type 0) where
   unfolding andThen Refusing
   then-refuses (answers x) next h k = k x refl
   then-refuses (refuses number place) next h k = h
+  then-refuses (refuses12 place offset) next h k = h
 
   -- only a short text is asked a call's own rule
   pub tested-refuses : {A : Type 0} (own : Bytes → Reply A) (t : Bytes) → P 1 0 → P 2 0 → (length t ≤ 4096 → Refusing P (own t)) → Refusing P (tested own t)
@@ -135,15 +137,16 @@ module _ (P : ℕ → ℕ → Type 0) (m : Mode) where
           (choose (λ number nowhere. P number place) (anyOf (λ (p : Parameter). tooLong (kindOf n p) (p .value)) ps) _ _ (h .series)
           (by14 (ownRule m n ps))))
 
-  at-refuses : (place : ℕ) (r : Reply Step) → Refusing (λ number nowhere. P number place) r → Refusing P (atStep place r)
+  at-refuses : (place offset : ℕ) (r : Reply Step) → Refusing (λ number nowhere. P number place) r → Refusing P (atStep place offset r)
   unfolding atStep Refusing
-  at-refuses place (answers s) h = tt
-  at-refuses place (refuses number nowhere) h = h
+  at-refuses place offset (answers s) h = tt
+  at-refuses place offset (refuses number nowhere) h = h
+  at-refuses place offset (refuses12 nowhere unknown) h = h
 
   step-refuses : (place : ℕ) (t : Bytes) → OfAStep P place → Refusing P (prepareStep m place t)
   unfolding prepareStep Refusing
   step-refuses place t h =
-      at-refuses place _ (choose (λ number nowhere. P number place) (ltb 4096 (length t)) _ _ (h .long)
+      at-refuses place (offsetIn t) _ (choose (λ number nowhere. P number place) (ltb 4096 (length t)) _ _ (h .long)
       (then-refuses (λ number nowhere. P number place) (parametersOf t) (judged m) (table-refuses (λ number nowhere. P number place) t (h .modifiers) (h .keys))
       (λ ps e. judged-refuses place ps h)))
 

@@ -1,15 +1,73 @@
 -- The parameters' table: "Keys come out in byte order", and "a repeated key takes the last value".
 use mathlib.Core.Path.{_≡_, refl, sym, ap, _∙_}
-use Prim.Native.Nat.{_≤_, _<_}
+use Prim.Native.Nat.{ℕ, _+_, _≤_, _<_}
 use mathlib.Core.Bool.{Bool, true, false, cond, _&&_, _||_, false≢true, or-true}
-use mathlib.Core.List.{List, [], _∷_}
+use mathlib.Core.List.{List, [], _∷_, map}
 use native.Mathlib.Omega.{arith}
 use borrow.Author.Tests.{eqb-true, eqb-false, eq-eqb, ltb-false, lt-ltb}
+use lib.ListN.{length}
 use lib.Dec.{eqb, ltb}
-use Rattle.rules.specs.Text.Lists.{nonEmpty}
-use Rattle.rules.specs.Text.Bytes.{Bytes, same}
-use Rattle.rules.specs.Text.Parameters.{Parameter, precedes, entered, enteredAll}
+use Rattle.rules.specs.Text.Ascii.{is}
+use Rattle.rules.specs.Text.Lists.{anyOf, nonEmpty}
+use Rattle.rules.specs.Text.Bytes.{Bytes, Words, same}
+use Rattle.rules.specs.Text.Split.{turned}
+use Rattle.rules.specs.Text.Parameters.{Parameter, parameter, name, elements, precedes, enteredBy, enteredAllBy, entered, enteredAll, tableOf}
+use Rattle.rules.specs.Text.Parameters.{Placed, placedWord, placedName, placedWords, placedElements, placedTable}
 use Rattle.laws_lists.specs.Tests.{same-self, and-left, and-right, or-left, or-right, same-is}
+
+-- ---- entering, and what keeps the keys
+
+-- To enter a thing, and then to look at each in another way that keeps its key, is to enter it as looked at.
+module _ {A B : Type 0} (k : B → Bytes) (f : A → B) where
+  pub entered-map : (p : A) (l : List A) → map f (enteredBy (λ (x : A). k (f x)) p l) ≡ enteredBy k (f p) (map f l)
+  unfolding enteredBy
+  entered-map p [] = refl
+  entered-map p (q ∷ l) = go (same (k (f p)) (k (f q))) (precedes (k (f p)) (k (f q))) (entered-map p l)
+    where
+      go : (c d : Bool) → map f (enteredBy (λ (x : A). k (f x)) p l) ≡ enteredBy k (f p) (map f l)
+          → map f (cond c (p ∷ l) (cond d (p ∷ (q ∷ l)) (q ∷ enteredBy (λ (x : A). k (f x)) p l)))
+          ≡ cond c (f p ∷ map f l) (cond d (f p ∷ (f q ∷ map f l)) (f q ∷ enteredBy k (f p) (map f l)))
+      go true d h = refl
+      go false true h = refl
+      go false false h = ap (λ (r : List B). f q ∷ r) h
+
+  pub entered-all-map : (ps l : List A) → map f (enteredAllBy (λ (x : A). k (f x)) ps l) ≡ enteredAllBy k (map f ps) (map f l)
+  unfolding enteredAllBy
+  entered-all-map [] l = refl
+  entered-all-map (p ∷ ps) l =
+      entered-all-map ps (enteredBy (λ (x : A). k (f x)) p l) ∙ ap (enteredAllBy k (map f ps)) (entered-map p l)
+
+-- ---- where parameters stand, and what they are without their places
+
+abbrev pub given : Placed → Parameter
+given q = q .given
+
+pub given-name : (at : ℕ) (w : Bytes) → given (placedName at w) ≡ cond (anyOf (is "=") w) (parameter w) (name w)
+unfolding placedName placedWord
+given-name at w = go (anyOf (is "=") w)
+  where
+    go : (b : Bool) → given (cond b (placedWord at w) (record { given = name w; at = at })) ≡ cond b (parameter w) (name w)
+    go true = refl
+    go false = refl
+
+given-words : (at : ℕ) (ws : Words) → map given (placedWords at ws) ≡ map parameter ws
+unfolding placedWords placedWord
+given-words at [] = refl
+given-words at (w ∷ ws) = ap (λ (l : List Parameter). parameter w ∷ l) (given-words (at + length w + 1) ws)
+
+pub given-elements : (ws : Words) → map given (placedElements ws) ≡ elements ws
+unfolding placedElements elements
+given-elements [] = refl
+given-elements (w ∷ ws) =
+    ap (λ (p : Parameter). p ∷ map given (placedWords (length w + 1) ws)) (given-name 0 w)
+    ∙ ap (λ (l : List Parameter). cond (anyOf (is "=") w) (parameter w) (name w) ∷ l) (given-words (length w + 1) ws)
+
+pub given-all : (qs l : List Placed) → map given (enteredAllBy (λ (q : Placed). q .given .key) qs l) ≡ enteredAll (map given qs) (map given l)
+given-all qs l = entered-all-map (λ (p : Parameter). p .key) given qs l
+
+pub given-table : (ws : Words) → map given (placedTable ws) ≡ tableOf ws
+unfolding placedTable tableOf
+given-table ws = given-all (placedElements (turned ws)) [] ∙ ap (λ (ps : List Parameter). enteredAll ps []) (given-elements (turned ws))
 
 -- ---- the order
 
@@ -55,7 +113,7 @@ ordered-rest p [] o = refl
 ordered-rest p (q ∷ l) o = and-right (precedes (p .key) (q .key)) (ordered (q ∷ l)) o
 
 entered-below : (k : Bytes) (p : Parameter) (l : List Parameter) → precedes k (p .key) ≡ true → below k l ≡ true → below k (entered p l) ≡ true
-unfolding below entered
+unfolding below enteredBy
 entered-below k p [] b h = b
 entered-below k p (q ∷ l) b h = go (same (p .key) (q .key)) (precedes (p .key) (q .key))
   where
@@ -65,7 +123,7 @@ entered-below k p (q ∷ l) b h = go (same (p .key) (q .key)) (precedes (p .key)
     go false false = h
 
 pub entered-ordered : (p : Parameter) (l : List Parameter) → ordered l ≡ true → ordered (entered p l) ≡ true
-unfolding entered
+unfolding enteredBy
 entered-ordered p [] o = unfold ordered in refl
 entered-ordered p (q ∷ l) o = go (same (p .key) (q .key)) (precedes (p .key) (q .key)) refl refl (entered-ordered p l (ordered-rest q l o))
   where
@@ -77,7 +135,7 @@ entered-ordered p (q ∷ l) o = go (same (p .key) (q .key)) (precedes (p .key) (
 
 -- "Keys come out in byte order."
 pub table-ordered : (ps l : List Parameter) → ordered l ≡ true → ordered (enteredAll ps l) ≡ true
-unfolding enteredAll
+unfolding enteredAllBy
 table-ordered [] l o = o
 table-ordered (p ∷ ps) l o = table-ordered ps (entered p l) (entered-ordered p l o)
 
@@ -107,7 +165,7 @@ swapped p q k v w r n false true e f = refl
 swapped p q k v w r n false false e f = refl
 
 pub entered-find : (k : Bytes) (p : Parameter) (l : List Parameter) → find k (entered p l) ≡ cond (same (p .key) k) (p .value ∷ []) (find k l)
-unfolding entered find
+unfolding enteredBy find
 entered-find k p [] = refl
 entered-find k p (q ∷ l) = go (same (p .key) (q .key)) (precedes (p .key) (q .key)) refl (entered-find k p l)
   where
@@ -121,7 +179,7 @@ entered-find k p (q ∷ l) = go (same (p .key) (q .key)) (precedes (p .key) (q .
 
 -- "a repeated key takes the last value"; a key that is not given keeps what the table had
 pub table-last : (k : Bytes) (ps l : List Parameter) → find k (enteredAll ps l) ≡ cond (nonEmpty (lastValue k ps)) (lastValue k ps) (find k l)
-unfolding enteredAll lastValue nonEmpty
+unfolding enteredAllBy lastValue nonEmpty
 table-last k [] l = refl
 table-last k (p ∷ ps) l = table-last k ps (entered p l) ∙ rw (entered-find k p l) (go (lastValue k ps) (same (p .key) k))
   where

@@ -1,5 +1,5 @@
 -- Document 01's examples, input beside outcome: P1 to P13 in one table, the line below them in a second, what the program `steps`
--- prints in a third, what `write` answers in a fourth; document 02's, of the reading named PROJ and of the documented mode, in two more; and a few of the words
+-- prints in a third, what `write` answers in a fourth; document 02's, of the reading named PROJ, of the documented mode and of offsets, in three more; and a few of the words
 -- in which the demands are said. That every row of them holds is the one statement of specs/ExamplesHold.antt.
 use mathlib.Core.Path.{_≡_}
 use Prim.Native.Nat.{ℕ}
@@ -11,12 +11,13 @@ use lib.IntN.{ℤ, pos}
 use lib.Ieee.{Float, binary64, ofInt, toBits}
 use Rattle.rules.specs.Text.Ascii.{ascii}
 use Rattle.rules.specs.Text.Bytes.{Bytes}
-use Rattle.rules.specs.Text.Refusal.{Reply, answers, refuses, tested}
+use Rattle.rules.specs.Text.Refusal.{Reply, answers, refuses, refuses12, tested}
 use Rattle.rules.specs.Text.Normal.{normalise}
 use Rattle.rules.specs.Text.Split.{line, split}
 use Rattle.rules.specs.Text.Parameters.{parameters}
 use Rattle.rules.specs.Proj.Translate.{translate}
 use Rattle.rules.specs.Text.Decimal.{signed}
+use Rattle.rules.specs.Pipeline.Offsets.{cutText}
 use Rattle.rules.specs.Pipeline.Prepare.{prepare, prepareAs}
 use Rattle.rules.specs.Operators.Acts.{Act, pushes, popsAll, flips, rolls, swaps, drops, orders}
 use Rattle.rules.specs.Pipeline.Record.{args}
@@ -51,11 +52,19 @@ on call text = tested call (ascii text)
 unfoldable pub refusal : {A : Type 0} → Reply A → ℕ
 refusal (answers x) = 0
 refusal (refuses number place) = number
+refusal (refuses12 place offset) = 12
+
+-- and its offset
+unfoldable pub refusalOf : {A : Type 0} → Reply A → ℕ × ℕ
+refusalOf (answers x) = (0, 0)
+refusalOf (refuses number place) = (number, 0)
+refusalOf (refuses12 place offset) = (12, offset)
 
 -- the records of an answer
 unfoldable pub records : Reply (List Step) → List Step
 records (answers l) = l
 records (refuses number place) = []
+records (refuses12 place offset) = []
 
 -- a run of a definition, with no store or with one; the check's verdict on a definition
 unfoldable pub ran : Direction → String → List Float → List Float → Outcome
@@ -288,6 +297,28 @@ modes =
     ∷ rewritesIn mode.Documented "adapt from=nwuf" "adapt from=enuf to=seuf"
     ∷ rewritesIn mode.Documented "adapt from=unef_deg" "adapt from=uenf_deg to=neuf"
     ∷ rewritesIn mode.Documented "adapt from=dpsw_gon to=wsdp_deg inv" "adapt from=ufen_gon to=neuf_deg inv"
+    ∷ []
+
+-- ---- the offset of refusal 12
+
+-- what is refused of one step, and the step's text, in which the offset is counted
+unfoldable pub refusedAt : String → ℕ → ℕ → Example
+refusedAt text place offset = says text (on prepare text) (refuses12 place offset)
+
+unfoldable pub offsets : List Example
+offsets =
+    refusedAt "inv axisswap order=x" 1 15
+    ∷ says "leading modifiers are turned to the end" (cutText (ascii "inv axisswap order=x")) (ascii "axisswap order=x inv")
+    ∷ refusedAt "push v_1 | :inv axisswap order=1,x" 2 17
+    ∷ refusedAt "stack push=1,2,x,y" 1 15
+    ∷ refusedAt "stack push=1,,2" 1 13
+    ∷ refusedAt "stack push=" 1 11
+    ∷ refusedAt "stack push" 1 10
+    ∷ refusedAt "push v_1=no v_2=x" 1 9
+    ∷ refusedAt "push v_1=" 1 9
+    ∷ refusedAt "axisswap order=1,2,x inv=no" 1 19
+    ∷ refusedAt "axisswap inv=no order=1,2,x" 1 13
+    ∷ says "of a repeated key only the last is judged" (map refusalOf (on prepare "push v_1=no v_1" ∷ on prepare "push v_1 v_1=no" ∷ [])) ((0, 0) ∷ (12, 13) ∷ [])
     ∷ []
 
 -- ---- the words of the demands

@@ -3,10 +3,10 @@
 use mathlib.Core.Bool.{xor}
 use mathlib.Core.List.{flatMap}
 use lib.Ieee.{neg, mul, div, eq, ofInt, ofFields, ofBits, toBits, size}
-use Rattle.rules.specs.Examples.{on, refusal, records, ran, verdictOn, floats, examples, deep, also, printsAs, prints, printed, rewrites, rewritten, checkOn, doesOn, mixed, readings, madeIn, ranIn, recordsIn, rewritesIn, modes, demanded, Holds, AllHold}
+use Rattle.rules.specs.Examples.{on, refusal, refusalOf, records, ran, verdictOn, floats, examples, deep, also, printsAs, prints, printed, rewrites, rewritten, checkOn, doesOn, mixed, readings, madeIn, ranIn, recordsIn, rewritesIn, modes, refusedAt, offsets, demanded, Holds, AllHold}
 use Rattle.rules.specs.Face.Demands.{signAngle}
 use Rattle.rules.specs.Face.Plain.{plainWritten, plainFound, plainPrepared, modeOf, directionOf, plainVerdict, plainCheck, plainRan, plainOutcome}
-use Rattle.rules.specs.Face.Shown.{counted, refusalText, orRefused, called, signedPlace, twoPlaces, fourPlaces, passText, verdictText, verdictLine, bothChecks, shownChecks, heading, headed, shownSteps, translatedLine, shown}
+use Rattle.rules.specs.Face.Shown.{counted, refusalText, offsetText, orRefused, called, signedPlace, twoPlaces, fourPlaces, passText, verdictText, verdictLine, bothChecks, shownChecks, heading, headed, shownSteps, translatedLine, shown}
 use Rattle.rules.specs.Operators.Adapt.{placeIn, axis, ending, wordOf, word, wordGiven, position, outputOf, angles, combined, between, isCode, isAdapt, angle, factor, post, mult, output, sets, stays, noop, adaptedIf, adapted, letter, endingOf, fromWord, toWord}
 use Rattle.rules.specs.Operators.Arguments.{valueOf, isGiven, arg, places, isPlace, isDistinct, isOrder, wholes, spelling, listing, keyValue}
 use Rattle.rules.specs.Operators.Axisswap.{order, swapFrom, unswapFrom, reordered, swapped}
@@ -20,7 +20,8 @@ use Rattle.rules.specs.Operators.Table.{operators, numberOf, withNumber,
 use Rattle.rules.specs.Pipeline.Check.{place, putPlace, turnPlace, adapting, anyAdapt, verdict, only, foretold, answered, checked, check}
 use Rattle.rules.specs.Pipeline.Columns.{rolledOnce, rolled, swappedTop, pushed, popped, topped, flipped, moved, takes, tooFew, after, depths, deepest}
 use Rattle.rules.specs.Pipeline.Keys.{everyKey, ownKeys, kindOf, isLacking, unknown, misspelt, tooLong}
-use Rattle.rules.specs.Pipeline.Prepare.{mark, recordOf, recorded, ownRule, judged14, judged11, named, judged10, judged, atStep, prepareStep, prepareSteps, prepareIn, prepare, prepareAs}
+use Rattle.rules.specs.Pipeline.Offsets.{cutText, faultIn, isFault, faultAt, faults, earliest, offsetBy}
+use Rattle.rules.specs.Pipeline.Prepare.{mark, recordOf, recorded, ownRule, judged14, judged11, named, judged10, judged, offsetOf, offsetIn, atStep, prepareStep, prepareSteps, prepareIn, prepare, prepareAs}
 use Rattle.rules.specs.Pipeline.Record.{readingNumber, readingOf, stepWith, inReading, operator, args, unused, isSet, ofMode, nineDigits, made, tableReading, goodIn, firstBad, refusal18, blank, listed}
 use Rattle.rules.specs.Pipeline.Run.{countFrom, count, passes64, badList, storeAfter, refused, finished, unless16, unless15, unless18, runs}
 use Rattle.rules.specs.Pipeline.Running.{opposite, turns, directed, actOf, act, omitted, ordered, runningFrom, running}
@@ -31,32 +32,33 @@ use Rattle.rules.specs.Proj.Words.{unplussed, isStep, cutAtStep, without
 use Rattle.rules.specs.Text.Ascii.{ascii}
 use Rattle.rules.specs.Text.Bytes.{white, subscript, inDomain, same, starts, contains, replaceFrom, replace, trimStart, trimEnd, trimmed, before, behind, onto, cut, words, afterEach, joinedBy, joined}
 use Rattle.rules.specs.Text.Comments.{newlines, uncommented, lined, stripped}
-use Rattle.rules.specs.Text.Decimal.{digit, digitsTo, spelled, plainForm, plain, decimal, pieces, numberThen, allNumbers, series, isWhole, signed, minus, wholeOf}
+use Rattle.rules.specs.Text.Decimal.{digit, digitsTo, spelled, plainForm, plain, decimal, pieces, numberThen, allNumbers, series, isNumber, brokenFrom, isWhole, signed, minus, wholeOf}
 use Rattle.rules.specs.Text.Lists.{anyOf, allOf, kept, placeOf, nonEmpty, isNone}
 use Rattle.rules.specs.Text.Normal.{run, becomes, subscriptBecomes, replacements, squeezed, continued, normal, normalise}
 use Rattle.rules.specs.Text.Numerals.{digitAt, digitsFrom, digits}
-use Rattle.rules.specs.Text.Parameters.{parameter, name, elements, precedes, entered, enteredAll, tableOf, stepTable, textTable, parametersOf, parameterLine, parameters}
+use Rattle.rules.specs.Text.Parameters.{parameter, name, elements, precedes, enteredBy, enteredAllBy, tableOf, stepTable, textTable, parametersOf, valueIn, placedWord, placedName, placedWords, placedElements, placedTable, parameterLine, parameters}
 use Rattle.rules.specs.Text.Reader.{found, next, walked}
 use Rattle.rules.specs.Text.Refusal.{andThen, tested, lent, outcome, written, prepared}
 use Rattle.rules.specs.Text.Split.{modifier, onlyModifiers, leading, following, turned, stepsOf, steps, stepText, splitSteps, line, split}
 
 unfoldable pub opened : Unit {0}
-unfolding xor flatMap neg mul div eq ofInt ofFields ofBits toBits size on refusal records ran verdictOn floats
-    examples deep also printsAs prints printed rewrites rewritten checkOn doesOn mixed readings madeIn ranIn
-    recordsIn rewritesIn modes demanded Holds AllHold signAngle plainWritten plainFound plainPrepared modeOf
-    directionOf plainVerdict plainCheck plainRan plainOutcome counted refusalText orRefused called signedPlace
-    twoPlaces fourPlaces passText verdictText verdictLine bothChecks shownChecks heading headed shownSteps
-    translatedLine shown placeIn axis ending wordOf word wordGiven position outputOf angles combined between isCode
-    isAdapt angle factor post mult output sets stays noop adaptedIf adapted letter endingOf fromWord toWord valueOf
-    isGiven arg places isPlace isDistinct isOrder wholes spelling listing keyValue order swapFrom unswapFrom
-    reordered swapped choose inputAt outputByAxis carriesAngle angleByAxis combinedByAxis isPair twoAlike
-    isDocumented sendsBack adaptedByAxis codeFrom lettersFor lettersFrom letterOf codeOf fromByAxis toByAxis adaptIn
-    combinedIn isAdaptIn adaptedIn flag numbered worded kindIn number put turn isRising axisKeys flagged axes flagOf
-    isPlaces isRoll isNothing rolling unrolling actionKeys actions actionThen actionsGiven exactlyOne operators
-    numberOf withNumber operatorOf isArgs otherMode isOfMode forward inverse names nameIn nameOf place putPlace
-    turnPlace adapting anyAdapt verdict only foretold answered checked check rolledOnce rolled swappedTop pushed
-    popped topped flipped moved takes tooFew after depths deepest everyKey ownKeys kindOf isLacking unknown misspelt
-    tooLong mark recordOf recorded ownRule judged14 judged11 named judged10 judged atStep prepareStep prepareSteps
+unfolding xor flatMap neg mul div eq ofInt ofFields ofBits toBits size on refusal refusalOf records ran verdictOn
+    floats examples deep also printsAs prints printed rewrites rewritten checkOn doesOn mixed readings madeIn ranIn
+    recordsIn rewritesIn modes refusedAt offsets demanded Holds AllHold signAngle plainWritten plainFound
+    plainPrepared modeOf directionOf plainVerdict plainCheck plainRan plainOutcome counted refusalText offsetText
+    orRefused called signedPlace twoPlaces fourPlaces passText verdictText verdictLine bothChecks shownChecks
+    heading headed shownSteps translatedLine shown placeIn axis ending wordOf word wordGiven position outputOf
+    angles combined between isCode isAdapt angle factor post mult output sets stays noop adaptedIf adapted letter
+    endingOf fromWord toWord valueOf isGiven arg places isPlace isDistinct isOrder wholes spelling listing keyValue
+    order swapFrom unswapFrom reordered swapped choose inputAt outputByAxis carriesAngle angleByAxis combinedByAxis
+    isPair twoAlike isDocumented sendsBack adaptedByAxis codeFrom lettersFor lettersFrom letterOf codeOf fromByAxis
+    toByAxis adaptIn combinedIn isAdaptIn adaptedIn flag numbered worded kindIn number put turn isRising axisKeys
+    flagged axes flagOf isPlaces isRoll isNothing rolling unrolling actionKeys actions actionThen actionsGiven
+    exactlyOne operators numberOf withNumber operatorOf isArgs otherMode isOfMode forward inverse names nameIn
+    nameOf place putPlace turnPlace adapting anyAdapt verdict only foretold answered checked check rolledOnce rolled
+    swappedTop pushed popped topped flipped moved takes tooFew after depths deepest everyKey ownKeys kindOf
+    isLacking unknown misspelt tooLong cutText faultIn isFault faultAt faults earliest offsetBy mark recordOf
+    recorded ownRule judged14 judged11 named judged10 judged offsetOf offsetIn atStep prepareStep prepareSteps
     prepareIn prepare prepareAs readingNumber readingOf stepWith inReading operator args unused isSet ofMode
     nineDigits made tableReading goodIn firstBad refusal18 blank listed countFrom count passes64 badList storeAfter
     refused finished unless16 unless15 unless18 runs opposite turns directed actOf act omitted ordered runningFrom
@@ -67,9 +69,10 @@ unfolding xor flatMap neg mul div eq ofInt ofFields ofBits toBits size on refusa
     isProj firstProj inItsPlace exchanged hasKey lastOf withoutLast composed ellipsoid scale tidied ascii white
     subscript inDomain same starts contains replaceFrom replace trimStart trimEnd trimmed before behind onto cut
     words afterEach joinedBy joined newlines uncommented lined stripped digit digitsTo spelled plainForm plain
-    decimal pieces numberThen allNumbers series isWhole signed minus wholeOf anyOf allOf kept placeOf nonEmpty
-    isNone run becomes subscriptBecomes replacements squeezed continued normal normalise digitAt digitsFrom digits
-    parameter name elements precedes entered enteredAll tableOf stepTable textTable parametersOf parameterLine
-    parameters found next walked andThen tested lent outcome written prepared modifier onlyModifiers leading
-    following turned stepsOf steps stepText splitSteps line split
+    decimal pieces numberThen allNumbers series isNumber brokenFrom isWhole signed minus wholeOf anyOf allOf kept
+    placeOf nonEmpty isNone run becomes subscriptBecomes replacements squeezed continued normal normalise digitAt
+    digitsFrom digits parameter name elements precedes enteredBy enteredAllBy tableOf stepTable textTable
+    parametersOf valueIn placedWord placedName placedWords placedElements placedTable parameterLine parameters found
+    next walked andThen tested lent outcome written prepared modifier onlyModifiers leading following turned stepsOf
+    steps stepText splitSteps line split
 opened = tt

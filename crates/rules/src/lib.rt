@@ -146,10 +146,15 @@ pub enum Written {
     Refused { number: u8, place: usize },
 }
 
-// What preparing answers: how many records it wrote, from the first of the lent table on; or the refusal.
+// What preparing answers: how many records it wrote, from the first of the lent table on; or the refusal's number and place,
+// and the offset that 12 has: the byte of the step's text at which the fault is. Of any other refusal the offset is 0.
 pub enum Prepared {
     Steps(usize),
-    Refused { number: u8, place: usize },
+    Refused {
+        number: u8,
+        place: usize,
+        offset: usize,
+    },
 }
 
 // What the check says of a step table. What a pass foretells stands beside it, in `Foretold`.
@@ -181,12 +186,14 @@ pub enum Ran {
 // ---- the same answers as plain records, which C and Rust can hold (specs/Face/Plain.antt says what each holds)
 
 // What a text call answers: number 0 and the length of the answer, which stands at the front of the lent buffer; or the
-// refusal's number and place, and the buffer is as it was. Of preparing: number 0 and how many records there are.
+// refusal's number and place, and the buffer is as it was. Of preparing: number 0 and how many records there are; and of
+// refusal 12 the offset, which is 0 in every other answer.
 #[repr(C)]
 pub struct Answer {
     pub number: u8,
     pub place: usize,
     pub length: usize,
+    pub offset: usize,
 }
 
 // What a reader finds: 1 for a step, from its first byte up to the byte after its last, and the place from which to go on; 0

@@ -1,15 +1,19 @@
 -- The words of the release's demands: what the page of promises says of a result, and of lent storage before and after.
 use mathlib.Core.Path.{_≡_}
 use Prim.Native.Nat.{ℕ, _+_, _-_, _*_, _^_, _≤_, _<_}
-use mathlib.Core.Bool.{Bool, true, cond}
-use mathlib.Core.List.{List, [], _∷_, _++_}
+use mathlib.Core.Bool.{Bool, true, false, cond, _||_}
+use mathlib.Core.List.{List, [], _∷_, _++_, map, flatMap}
 use lib.Dec.{leb, eqb}
 use lib.ListN.{length, drop, getD}
 use lib.IntN.{ℤ}
 use lib.Ieee.{Float, nan, binary64, neg, nanBits, ofBits}
-use Rattle.rules.specs.Text.Lists.{anyOf}
-use Rattle.rules.specs.Text.Decimal.{minus}
-use Rattle.rules.specs.Operators.Arguments.{arg}
+use Rattle.rules.specs.Text.Ascii.{ascii, is}
+use Rattle.rules.specs.Text.Lists.{anyOf, nonEmpty}
+use Rattle.rules.specs.Text.Decimal.{decimal, pieces, minus}
+use Rattle.rules.specs.Text.Normal.{normal}
+use Rattle.rules.specs.Text.Split.{turned, stepText, steps}
+use Rattle.rules.specs.Text.Parameters.{parameter, valueIn, tableOf}
+use Rattle.rules.specs.Operators.Arguments.{arg, valueOf}
 use Rattle.rules.specs.Operators.Numbers.{turn}
 use Rattle.rules.specs.Operators.Adapt.{Word, one, angle, mult}
 use Rattle.rules.specs.Operators.Documented.{carriesAngle}
@@ -17,17 +21,25 @@ use Rattle.rules.specs.Pipeline.Running.{Numbered}
 use Rattle.rules.specs.Pipeline.Columns.{takes, after}
 use Rattle.rules.specs.Pipeline.Tuples.{acted}
 use Rattle.rules.specs.Pipeline.Run.{start}
-use Rattle.rules.specs.Text.Bytes.{Bytes}
+use Rattle.rules.specs.Pipeline.Keys.{kindOf}
+use Rattle.rules.specs.Pipeline.Offsets.{cutText}
+use Rattle.rules.specs.Pipeline.Prepare.{named}
+use Rattle.rules.specs.Text.Bytes.{Bytes, Words, same, words}
 use Rattle.rules.specs.Text.Refusal.{Reply, Promised, Writes}
 use Rattle.rules.specs.Face.Plain.{plainWritten, replied}
 use Rattle.rules.specs.Text.Reader.{step}
 use Rattle.rules.specs.declared.Written.{Written}
-use Rattle.rules.specs.declared.Written.the-variants.{Wrote}
+use Rattle.rules.specs.declared.Written.the-variants as written-is
 use Rattle.rules.specs.declared.Answer.{Answer}
 use Rattle.rules.specs.declared.Found.{Found}
 use Rattle.rules.specs.declared.Found.the-variants.{End}
 use Rattle.rules.specs.declared.Foretold.{Foretold}
 use Rattle.rules.specs.declared.Verdict.the-variants as verdict-is
+use Rattle.rules.specs.declared.Kind.{Kind}
+use Rattle.rules.specs.declared.Kind.the-variants.{Flag, Series}
+use Rattle.rules.specs.declared.Name.{Name}
+use Rattle.rules.specs.declared.Named.the-variants.{Is}
+use Rattle.rules.specs.declared.Number.the-variants.{Not}
 use Rattle.rules.specs.declared.Ran.{Ran}
 use Rattle.rules.specs.declared.Ran.the-variants.{Done, Refused}
 
@@ -38,12 +50,17 @@ abbrev pub OneOf : List ℕ → ℕ → Type 0
 OneOf numbers number = anyOf (eqb number) numbers ≡ true
 
 -- "It answers, or refuses with a number from the documents' tables, and a refused call alters nothing it was lent": what a call
--- returned, and the storage that it was lent, before and after. An answer of n fits, and "writes nothing past its own end".
-pub data Ends {A R : Type 0} (answer : ℕ → R) (refusal : ℕ → ℕ → R) (numbers : List ℕ) (storage : List A) (result : R) (storage′ : List A) : Type 0 where
+-- returned, and the storage that it was lent, before and after. An answer of n fits, and "writes nothing past its own end". A refusal has a
+-- number and a place, and in the words of some calls an offset.
+pub data Ends {A R : Type 0} (answer : ℕ → R) (refusal : ℕ → ℕ → ℕ → R) (numbers : List ℕ) (storage : List A) (result : R) (storage′ : List A) : Type 0 where
   answers : (n : ℕ) → result ≡ answer n → n ≤ length storage → length storage′ ≡ length storage → drop n storage′ ≡ drop n storage
       → Ends answer refusal numbers storage result storage′
-  refuses : (number place : ℕ) → result ≡ refusal number place → OneOf numbers number → storage′ ≡ storage
+  refuses : (number place offset : ℕ) → result ≡ refusal number place offset → OneOf numbers number → storage′ ≡ storage
       → Ends answer refusal numbers storage result storage′
+
+-- a text call's refusal, in which there is no offset
+abbrev pub textRefusal : ℕ → ℕ → ℕ → Written
+textRefusal number place offset = written-is.Refused number place
 
 -- The same of a run, which is lent a list and a store, and uses the store up to a place.
 pub data RunEnds (numbers : List ℕ) (used : ℕ) (xs store : List Float) (result : Ran) (xs′ store′ : List Float) : Type 0 where
@@ -68,7 +85,7 @@ pub data NextEnds (text : Bytes) (at : ℕ) (r : Found) : Type 0 where
 -- is an answer, of that length.
 abbrev pub ExportsText : (Bytes → Reply Bytes) → Type 0
 ExportsText own = (text out : Bytes) (r : Answer) (out′ : Bytes) → Promised replied own text out r out′
-    → (w : Written) × Writes own text out w out′ × (r ≡ plainWritten w) × (r .number ≡ 0 → w ≡ Wrote (r .length))
+    → (w : Written) × Writes own text out w out′ × (r ≡ plainWritten w) × (r .number ≡ 0 → w ≡ written-is.Wrote (r .length))
 
 -- ---- demand 3: the steps of a run, in running order
 
@@ -138,3 +155,58 @@ pub data IsUnit (x : Float) : Type 0 where
 -- "Where every factor is plus or minus one": the four factors of an `adapt` step with these arguments
 abbrev pub EachUnit : List ℤ → Type 0
 EachUnit l = (i : ℕ) → 1 ≤ i → i ≤ 4 → IsUnit (mult l i)
+
+-- ---- document 02, request 3: where refusal 12 is
+
+-- how many bytes texts take, with a `sep` behind each
+abbrev pub taken : Bytes → List Bytes → ℕ
+taken sep ts = length (flatMap (λ (t : Bytes). t ++ sep) ts)
+
+-- A word of a step's that gives a key its value, and the byte of the step's text at which the word begins, for one space stands between words. "The first
+-- element, if it has no `=`, is the name"; "a repeated key takes the last value".
+pub record Gives (ws : Words) (word : Bytes) (from : ℕ) : Type 0 where
+  pub front : Words
+  pub rest : Words
+  pub in-order : ws ≡ front ++ (word ∷ rest)
+  pub begins : from ≡ taken (ascii " ") front
+  pub not-name : nonEmpty front || anyOf (is "=") word ≡ true
+  pub last : anyOf (λ (w : Bytes). same (parameter word .key) (parameter w .key)) rest ≡ false
+
+-- What refusal 12 is for, by what the word's key takes, and at which byte of the word: a flag's value that is not `true`, where the value begins; or "a series element
+-- not in decimal form", behind the elements in front of it and their commas.
+pub data Breaks (kind : Kind) (word bad : Bytes) (at : ℕ) : Type 0 where
+  flag : kind ≡ Flag → bad ≡ parameter word .value → (bad ≡ ascii "true" → ⊥) → at ≡ valueIn word → Breaks kind word bad at
+  element : kind ≡ Series → (front rest : List Bytes) → pieces (parameter word .value) ≡ front ++ (bad ∷ rest) → decimal bad ≡ Not
+      → at ≡ valueIn word + taken (ascii ",") front → Breaks kind word bad at
+
+-- that there is such a fault at a byte of the step's text
+pub record FaultAt (n : Name) (ws : Words) (offset : ℕ) : Type 0 where
+  pub word : Bytes
+  pub bad : Bytes
+  pub from : ℕ
+  pub at : ℕ
+  pub gives : Gives ws word from
+  pub breaks : Breaks (kindOf n (parameter word)) word bad at
+  pub offset-is : offset ≡ from + at
+
+-- what stands in a text, from a byte on
+pub record StandsAt (text : Bytes) (offset : ℕ) (part : Bytes) : Type 0 where
+  pub front : Bytes
+  pub rest : Bytes
+  pub in-order : text ≡ front ++ (part ++ rest)
+  pub begins : offset ≡ length front
+
+-- The offset of a refusal 12 is right: the step at that place has an operator's name, there is a fault at that byte of "the step's text as cut into parameters", and
+-- none before it. What is bad stands there in the text; of a missing value it is "the byte after its key".
+pub record FirstFault (text : Bytes) (place offset : ℕ) : Type 0 where
+  pub before : List Bytes
+  pub step : Bytes
+  pub rest : List Bytes
+  pub in-order : map stepText (steps text) ≡ before ++ (step ∷ rest)
+  pub at-place : place ≡ length before + 1
+  pub operator : Name
+  pub has-name : named (valueOf (ascii "_name") (tableOf (words (normal step)))) ≡ Is operator
+  pub at-fault : FaultAt operator (turned (words (normal step))) offset
+  pub none-before : (other : ℕ) → FaultAt operator (turned (words (normal step))) other → offset ≤ other
+  pub stands : anyOf (is "=") (at-fault .word) ≡ true → StandsAt (cutText step) offset (at-fault .bad)
+  pub missing : anyOf (is "=") (at-fault .word) ≡ false → (from : ℕ) × StandsAt (cutText step) from (at-fault .word) × (offset ≡ from + length (at-fault .word))

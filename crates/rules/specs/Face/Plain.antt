@@ -35,8 +35,8 @@ use Rattle.rules.specs.declared.Done.{Done}
 
 -- number 0 for an answer, and its length
 unfoldable pub plainWritten : Written → Answer
-plainWritten (Wrote n) = record { number = 0; place = 0; length = n }
-plainWritten (Refused number place) = record { number = number; place = place; length = 0 }
+plainWritten (Wrote n) = record { number = 0; place = 0; length = n; offset = 0 }
+plainWritten (Refused number place) = record { number = number; place = place; length = 0; offset = 0 }
 
 abbrev pub replied : Reply ℕ → Answer
 replied r = plainWritten (written r)
@@ -50,10 +50,10 @@ plainFound found-is.End = record { found = 0; from = 0; to = 0; then = 0 }
 
 -- ---- step tables
 
--- number 0 for an answer, and how many records it has
+-- number 0 for an answer, and how many records it has; of a refusal its offset too
 unfoldable pub plainPrepared : Prepared → Answer
-plainPrepared (prepared-is.Steps n) = record { number = 0; place = 0; length = n }
-plainPrepared (prepared-is.Refused number place) = record { number = number; place = place; length = 0 }
+plainPrepared (prepared-is.Steps n) = record { number = 0; place = 0; length = n; offset = 0 }
+plainPrepared (prepared-is.Refused number place offset) = record { number = number; place = place; length = 0; offset = offset }
 
 abbrev pub recordCount : Reply ℕ → Answer
 recordCount r = plainPrepared (prepared r)

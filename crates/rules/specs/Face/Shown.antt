@@ -7,7 +7,7 @@ use lib.ListN.{length}
 use lib.Dec.{ltb}
 use Rattle.rules.specs.Text.Ascii.{ascii, is}
 use Rattle.rules.specs.Text.Bytes.{Bytes}
-use Rattle.rules.specs.Text.Refusal.{Reply, answers, refuses, andThen, tested}
+use Rattle.rules.specs.Text.Refusal.{Reply, answers, refuses, refuses12, andThen, tested}
 use Rattle.rules.specs.Text.Split.{line, split}
 use Rattle.rules.specs.Proj.Translate.{translate}
 use Rattle.rules.specs.Text.Numerals.{digits}
@@ -32,10 +32,15 @@ counted word n = word ++ digits n
 unfoldable pub refusalText : ℕ → ℕ → Bytes
 refusalText n place = counted (ascii "refused ") n ++ counted (ascii " ") place
 
+-- "`refused 12 2 15`: number, place, offset"
+unfoldable pub offsetText : ℕ → ℕ → Bytes
+offsetText place offset = refusalText 12 place ++ counted (ascii " ") offset
+
 -- what is printed of an answer; "A refusal ends its output with a line"
 unfoldable pub orRefused : {A : Type 0} → Reply A → (A → Bytes) → Bytes
 orRefused (answers x) next = next x
 orRefused (refuses n place) next = line (refusalText n place)
+orRefused (refuses12 place offset) next = line (offsetText place offset)
 
 -- a text call that is lent 65,536 bytes: 7 where "the whole answer is longer than the lent buffer"
 unfoldable pub called : (Bytes → Reply Bytes) → Bytes → Reply Bytes

@@ -9,15 +9,17 @@ use lib.Dec.{ltb}
 use lib.IntN.{ℤ}
 use Rattle.rules.specs.Text.Ascii.{ascii}
 use Rattle.rules.specs.Text.Lists.{anyOf}
-use Rattle.rules.specs.Text.Bytes.{Bytes}
-use Rattle.rules.specs.Text.Refusal.{Reply, answers, refuses, andThen, prepared, Promised}
+use Rattle.rules.specs.Text.Bytes.{Bytes, Words, words}
+use Rattle.rules.specs.Text.Refusal.{Reply, answers, refuses, refuses12, andThen, prepared, Promised}
 use Rattle.rules.specs.Text.Split.{steps, splitSteps}
-use Rattle.rules.specs.Text.Parameters.{Parameter, parametersOf}
+use Rattle.rules.specs.Text.Normal.{normal}
+use Rattle.rules.specs.Text.Parameters.{Parameter, tableOf, parametersOf, placedTable}
 use Rattle.rules.specs.Operators.Arguments.{valueOf, isGiven}
 use Rattle.rules.specs.Operators.Descriptions.{Operator, Chosen}
 use Rattle.rules.specs.Operators.Table.{numberOf, wordingOf, nameOf}
 use Rattle.rules.specs.Pipeline.Record.{stepWith, inReading}
 use Rattle.rules.specs.Pipeline.Keys.{kindOf, unknown, misspelt, tooLong}
+use Rattle.rules.specs.Pipeline.Offsets.{offsetBy}
 use Rattle.rules.specs.declared.Reading.{Reading}
 use Rattle.rules.specs.declared.Mode.{Mode}
 use Rattle.rules.specs.declared.Mode.the-variants as mode
@@ -55,7 +57,7 @@ judged14 (some s) = answers s
 unfoldable pub judged11 : Mode → Name → List Parameter → Reply Step
 judged11 m n ps =
     cond (anyOf (unknown n) ps) (refuses 11 0)
-    (cond (anyOf (λ (p : Parameter). misspelt (kindOf n p) (p .value)) ps) (refuses 12 0)
+    (cond (anyOf (λ (p : Parameter). misspelt (kindOf n p) (p .value)) ps) (refuses12 0 0)
     (cond (anyOf (λ (p : Parameter). tooLong (kindOf n p) (p .value)) ps) (refuses 13 0)
     (judged14 (ownRule m n ps))))
 
@@ -71,16 +73,24 @@ judged10 m (Is n) ps = judged11 m n ps
 unfoldable pub judged : Mode → List Parameter → Reply Step
 judged m ps = judged10 m (named (valueOf (ascii "_name") ps)) ps
 
--- "A refusal returns .. a place: that of the faulty step"
-unfoldable pub atStep : ℕ → Reply Step → Reply Step
-atStep place (answers s) = answers s
-atStep place (refuses number nowhere) = refuses number place
+-- the offset of its refusal 12: of a step's words, and of its text, which is normalised again
+unfoldable pub offsetOf : Words → ℕ
+offsetOf ws = offsetBy (named (valueOf (ascii "_name") (tableOf ws))) (placedTable ws)
+
+unfoldable pub offsetIn : Bytes → ℕ
+offsetIn t = offsetOf (words (normal t))
+
+-- "A refusal returns .. a place: that of the faulty step"; "12 gains the offset"
+unfoldable pub atStep : ℕ → ℕ → Reply Step → Reply Step
+atStep place offset (answers s) = answers s
+atStep place offset (refuses number nowhere) = refuses number place
+atStep place offset (refuses12 nowhere unknown) = refuses12 place offset
 
 -- one step's text at its place: 1, "in preparing one step's text, is over 4,096 bytes"; then 6 and 9 as it is cut into
 -- parameters, then 10 to 14
 unfoldable pub prepareStep : Mode → ℕ → Bytes → Reply Step
 prepareStep m place t =
-    atStep place (cond (ltb 4096 (length t)) (refuses 1 0) (andThen (parametersOf t) (judged m)))
+    atStep place (offsetIn t) (cond (ltb 4096 (length t)) (refuses 1 0) (andThen (parametersOf t) (judged m)))
 
 -- ---- all steps
 

@@ -67,6 +67,16 @@ allNumbers (p ∷ ps) = numberThen (decimal p) (allNumbers ps)
 unfoldable pub series : Bytes → Option (List Decimal)
 series value = allNumbers (pieces value)
 
+-- is it a number?
+unfoldable pub isNumber : Number → Bool
+isNumber (Is d) = true
+isNumber Not = false
+
+-- where the first piece of a series begins that "breaks decimal form": behind those before it, and their commas
+unfoldable pub brokenFrom : List Bytes → ℕ
+brokenFrom [] = 0
+brokenFrom (p ∷ ps) = cond (isNumber (decimal p)) (length p + 1 + brokenFrom ps) 0
+
 -- ---- whole numbers: `1.0` and `01` are 1, and `-0` is 0
 
 unfoldable pub isWhole : Decimal → Bool

@@ -1,4 +1,5 @@
 -- Cutting a step into its parameters.
+use Prim.Native.Nat.{ℕ, _+_}
 use mathlib.Core.Bool.{Bool, true, false, cond, _&&_, _||_}
 use mathlib.Core.List.{List, [], _∷_, _++_, map, flatMap}
 use lib.ListN.{length}
@@ -38,18 +39,27 @@ precedes [] (y ∷ u) = true
 precedes (x ∷ t) [] = false
 precedes (x ∷ t) (y ∷ u) = ltb x y || (eqb x y && precedes t u)
 
--- "a repeated key takes the last value": a parameter entered into a table that is in byte order
-unfoldable pub entered : Parameter → List Parameter → List Parameter
-entered p [] = p ∷ []
-entered p (q ∷ table) =
-    cond (same (p .key) (q .key)) (p ∷ table)
-    (cond (precedes (p .key) (q .key)) (p ∷ (q ∷ table))
-    (q ∷ entered p table))
+-- Tables of things that have a key.
+module _ {A : Type 0} (keyOf : A → Bytes) where
+  -- "a repeated key takes the last value": one entered into a table that is in byte order
+  unfoldable pub enteredBy : A → List A → List A
+  enteredBy p [] = p ∷ []
+  enteredBy p (q ∷ table) =
+      cond (same (keyOf p) (keyOf q)) (p ∷ table)
+      (cond (precedes (keyOf p) (keyOf q)) (p ∷ (q ∷ table))
+      (q ∷ enteredBy p table))
 
--- "Keys come out in byte order": parameters entered into a table, one after the other
-unfoldable pub enteredAll : List Parameter → List Parameter → List Parameter
-enteredAll [] table = table
-enteredAll (p ∷ ps) table = enteredAll ps (entered p table)
+  -- "Keys come out in byte order": several entered into a table, one after the other
+  unfoldable pub enteredAllBy : List A → List A → List A
+  enteredAllBy [] table = table
+  enteredAllBy (p ∷ ps) table = enteredAllBy ps (enteredBy p table)
+
+-- of parameters
+abbrev pub entered : Parameter → List Parameter → List Parameter
+entered p table = enteredBy (λ (q : Parameter). q .key) p table
+
+abbrev pub enteredAll : List Parameter → List Parameter → List Parameter
+enteredAll ps table = enteredAllBy (λ (q : Parameter). q .key) ps table
 
 -- the parameters of a step's words, leading modifiers turned
 unfoldable pub tableOf : Words → List Parameter
@@ -69,6 +79,40 @@ textTable normalised = cond (anyOf (is "|") normalised) (answers (name normalise
 -- "Each step is normalised again when cut into parameters."
 unfoldable pub parametersOf : Bytes → Reply (List Parameter)
 parametersOf t = textTable (normal t)
+
+-- ---- where they stand in the step's text
+
+-- a parameter, and the byte of the step's text at which its value begins
+pub record Placed : Type 0 where
+  pub given : Parameter
+  pub at : ℕ
+
+-- where in a word the value begins: "the byte after its key or `=`"
+unfoldable pub valueIn : Bytes → ℕ
+valueIn w = cond (anyOf (is "=") w) (length (before (is "=") w) + 1) (length w)
+
+-- a word that begins at a byte; the value of a name is the word
+unfoldable pub placedWord : ℕ → Bytes → Placed
+placedWord at w = record { given = parameter w; at = at + valueIn w }
+
+unfoldable pub placedName : ℕ → Bytes → Placed
+placedName at w = cond (anyOf (is "=") w) (placedWord at w) (record { given = name w; at = at })
+
+-- words with one space between, the first of which begins at a byte
+unfoldable pub placedWords : ℕ → Words → List Placed
+placedWords at [] = []
+placedWords at (w ∷ ws) = placedWord at w ∷ placedWords (at + length w + 1) ws
+
+-- the elements of "the step's text as cut into parameters", which is its words with one space between
+unfoldable pub placedElements : Words → List Placed
+placedElements [] = []
+placedElements (w ∷ ws) = placedName 0 w ∷ placedWords (length w + 1) ws
+
+-- the table of a step's words, leading modifiers turned, each parameter in its place
+unfoldable pub placedTable : Words → List Placed
+placedTable ws = enteredAllBy (λ (q : Placed). q .given .key) (placedElements (turned ws)) []
+
+-- ---- the call
 
 -- "parameters as `key=value`, are written each with a newline after it"
 unfoldable pub parameterLine : Parameter → Bytes

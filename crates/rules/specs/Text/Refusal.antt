@@ -11,15 +11,17 @@ use Rattle.rules.specs.declared.Written.the-variants as written-is
 use Rattle.rules.specs.declared.Prepared.{Prepared}
 use Rattle.rules.specs.declared.Prepared.the-variants as prepared-is
 
--- a reply: an answer, or "A refusal returns its number and a place"
+-- a reply: an answer; or "A refusal returns its number and a place"; or refusal 12, at a place and an offset: "12 gains the offset"
 pub data Reply (A : Type 0) : Type 0 where
   answers : A → Reply A
   refuses : ℕ → ℕ → Reply A
+  refuses12 : ℕ → ℕ → Reply A
 
 -- what is done with an answer; a refusal stays
 unfoldable pub andThen : {A B : Type 0} → Reply A → (A → Reply B) → Reply B
 andThen (answers x) next = next x
 andThen (refuses number place) next = refuses number place
+andThen (refuses12 place offset) next = refuses12 place offset
 
 -- "Text calls test 1, 2, then their own." 1: "a text .. is over 4,096 bytes". 2: "a byte is neither ASCII nor part of a
 -- whole subscript digit".
@@ -37,6 +39,7 @@ module _ {A R : Type 0} (inWords : Reply ℕ → R) where
   -- call; an answer writes nothing past its own end." Of an answer, its length is returned.
   unfoldable pub lent : Reply (List A) → List A → R × List A
   lent (refuses number place) storage = (inWords (refuses number place), storage)
+  lent (refuses12 place offset) storage = (inWords (refuses12 place offset), storage)
   lent (answers xs) storage =
       cond (ltb (length storage) (length xs)) (inWords (refuses 7 0), storage)
       (inWords (answers (length xs)), xs ++ drop (length xs) storage)
@@ -50,14 +53,16 @@ module _ {A R : Type 0} (inWords : Reply ℕ → R) where
     pub exactly : _≡_ {A = R × List A} (result, storage′) (outcome own text storage)
 
 -- "Where an answer is an enum, a definition gives this paper's number and values for each of its cases, and the promises
--- use that definition": a text call's answer, and preparing's.
+-- use that definition": a text call's answer, and preparing's. Only preparing refuses 12; of any other refusal the offset is 0.
 unfoldable pub written : Reply ℕ → Written
 written (answers n) = written-is.Wrote n
 written (refuses number place) = written-is.Refused number place
+written (refuses12 place offset) = written-is.Refused 12 place
 
 unfoldable pub prepared : Reply ℕ → Prepared
 prepared (answers n) = prepared-is.Steps n
-prepared (refuses number place) = prepared-is.Refused number place
+prepared (refuses number place) = prepared-is.Refused number place 0
+prepared (refuses12 place offset) = prepared-is.Refused 12 place offset
 
 -- what a text call promises, by its own rule
 abbrev pub Writes : (Bytes → Reply Bytes) → Bytes → Bytes → Written → Bytes → Type 0
