@@ -9,7 +9,7 @@ use lib.Dec.{ltb}
 use lib.ListN.{length, take, drop, length-take}
 use lib.Seq.{take-at}
 use Rattle.rules.specs.Text.Bytes.{Bytes}
-use Rattle.rules.specs.Text.Refusal.{Reply, answers, refuses, tested, lent, outcome, prepared}
+use Rattle.rules.specs.Text.Refusal.{Reply, answers, refuses, refuses12, tested, lent, outcome, prepared}
 use Rattle.rules.specs.Pipeline.Prepare.{prepareAs}
 use Rattle.rules.specs.declared.Mode.{Mode}
 use Rattle.rules.specs.declared.Prepared.{Prepared}
@@ -36,13 +36,13 @@ record Brings (reply : Reply (List Step)) (row : List Step) (p : Plan) : Type 0 
 
 module _ (row : List Step) where
   -- nothing is written
-  leaves : (reply : Reply (List Step)) (number place : ℕ) (steps : List Step)
-      → _≡_ {A = Prepared × List Step} (prepared-is.Refused number place, row) (lent prepared reply row)
-      → Brings reply row (record { answer = prepared-is.Refused number place; steps = steps; n = 0 })
-  leaves reply number place steps e =
+  leaves : (reply : Reply (List Step)) (number place offset : ℕ) (steps : List Step)
+      → _≡_ {A = Prepared × List Step} (prepared-is.Refused number place offset, row) (lent prepared reply row)
+      → Brings reply row (record { answer = prepared-is.Refused number place offset; steps = steps; n = 0 })
+  leaves reply number place offset steps e =
       record {
         fits = record { held = zero-le; room = zero-le };
-        keeps = ap (λ (l : List Step). (prepared-is.Refused number place, l)) (laid-none steps row) ∙ e;
+        keeps = ap (λ (l : List Step). (prepared-is.Refused number place offset, l)) (laid-none steps row) ∙ e;
       }
 
   -- all records are written, from the first on
@@ -59,7 +59,8 @@ module _ (row : List Step) where
 brought : (reply : Reply (List Step)) → ((xs : List Step) → reply ≡ answers xs → length xs ≤ 64) → (row : List Step)
     → Brings reply row (planOf (lentTo reply (emptied (length row))))
 unfolding planOf lentTo withRow countOf lent prepared
-brought (refuses number place) few row = leaves row (refuses number place) number place _ refl
+brought (refuses number place) few row = leaves row (refuses number place) number place 0 _ refl
+brought (refuses12 place offset) few row = leaves row (refuses12 place offset) 12 place offset _ refl
 brought (answers xs) few row = go (ltb (length front) (length xs)) refl
   where
     front : List Step
@@ -72,8 +73,8 @@ brought (answers xs) few row = go (ltb (length front) (length xs)) refl
     small = few xs refl
 
     go : (b : Bool) → ltb (length front) (length xs) ≡ b
-        → Brings (answers xs) row (planOf (withRow (emptied (length row)) (cond b (prepared-is.Refused 7 0, front) (prepared-is.Steps (length xs), xs ++ drop (length xs) front))))
-    go true e = leaves row (answers xs) 7 0 _ (rw (lt-ltb (length row) (length xs) (omega (arith, size, small, ltb-true (length front) (length xs) e))))
+        → Brings (answers xs) row (planOf (withRow (emptied (length row)) (cond b (prepared-is.Refused 7 0 0, front) (prepared-is.Steps (length xs), xs ++ drop (length xs) front))))
+    go true e = leaves row (answers xs) 7 0 0 _ (rw (lt-ltb (length row) (length xs) (omega (arith, size, small, ltb-true (length front) (length xs) e))))
     go false e =
         rw (append-assoc xs (drop (length xs) front) (drop (length row) blanks))
         (writes row xs (drop (length xs) front ++ drop (length row) blanks) small (omega (arith, size, ltb-false (length front) (length xs) e)))

@@ -16,7 +16,7 @@ use Rattle.entry.specs.declared.Plan.{Plan}
 -- how many records an answer writes: "A refusal leaves .. step table .. as they were"
 unfoldable pub countOf : Prepared → ℕ
 countOf (Steps n) = n
-countOf (Refused number place) = 0
+countOf (Refused number place offset) = 0
 
 -- A plan for a row of so many records, in a reading and a mode. Whatever such a row holds, the plan's records have room in it, and laid over its first
 -- ones, with the plan's answer, they are what preparing promises.

@@ -26,7 +26,11 @@ fn count_of(answer: Prepared) -> usize
 {
     match answer {
         Prepared::Steps(n) => n,
-        Prepared::Refused { number, place } => 0,
+        Prepared::Refused {
+            number,
+            place,
+            offset,
+        } => 0,
     }
 }
 

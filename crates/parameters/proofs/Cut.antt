@@ -6,13 +6,14 @@ use Prim.Native.Nat.{ℕ, _+_, _-_, _≤_, _<_}
 use native.Mathlib.Nat.{add-zero}
 use native.Mathlib.Decide.{decLt}
 use native.Mathlib.Omega.{arith}
-use borrow.Author.Tests.{not-false}
+use borrow.Author.Tests.{not-false, lt-ltb, le-ltb}
 use lib.ListN.{length, take, drop, getD, length-drop, drop-of-length-le}
+use lib.Dec.{ltb}
 use lib.Seq.{drop-drop, take-add, take-take, drop-at, length-take-le}
 use Rattle.rules.specs.Text.Ascii.{is}
 use Rattle.rules.specs.Text.Lists.{anyOf, allOf}
 use Rattle.rules.specs.Text.Bytes.{Bytes, before, behind}
-use Rattle.rules.specs.Text.Parameters.{parameter, name}
+use Rattle.rules.specs.Text.Parameters.{parameter, name, valueIn, placedWord, placedName}
 use Rattle.rules.specs.Text.Reader.{part}
 use Rattle.text.specs.Runs.{Run}
 use Rattle.text.proofs.RunEnd.{drop-next, other, part-rest, length-part, run-stops}
@@ -112,50 +113,60 @@ module _ (test : ℕ → Bool) {s : Bytes} {i e : ℕ} (m : Run (other test) s i
   pub run-none : length s ≤ e → anyOf test (drop i s) ≡ false
   run-none h = ap (anyOf test) (whole h) ∙ any-none test (part i e s) (m .whole)
 
--- ---- the parameter that a word is
+-- ---- the parameter that a word is, and where its value begins: the text's last nine bytes are behind the word
 
-module _ (s : Bytes) {from to q : ℕ} (f : from ≤ to) (l : to ≤ length s) (m : Run (other (is "=")) (part from to s) 0 q) where
+module _ (s : Bytes) {from to q n : ℕ} (z : Spelt s n) (f : from ≤ to) (l : to ≤ n) (m : Run (other (is "=")) (part from to s) 0 q) where
+  fits : to ≤ length s
+  fits = omega (arith, z .ends)
+
   size : length (part from to s) ≡ to - from
-  size = length-part s from to f l
+  size = length-part s from to f fits
 
   -- with `=` after q bytes, and before a second one or the end after r
   pub part-cut : {r : ℕ} (first : Bool) → q < to - from → Run (other (is "=")) (part from to s) (q + 1) r
       → IsPart s from to first (record { key = from; «key_end» = from + q; value = from + q + 1; «value_end» = from + r })
-  unfolding element parameter
+  unfolding element placedName placedWord valueIn parameter
   part-cut {r} first h n =
       let g : q < length (part from to s) = omega (arith, size) in
       let a : anyOf (is "=") (part from to s) ≡ true = run-any (is "=") m g in
       let r≤ : r ≤ to - from = omega (arith, n .within, size) in
       let p : from + (q + 1) ≡ from + q + 1 = omega arith in
       let k : before (is "=") (part from to s) ≡ part from (from + q) s =
-      run-before (is "=") m ∙ part-part s from to 0 q (omega arith) (omega arith) f l ∙ ap (λ (j : ℕ). part j (from + q) s) (add-zero from) in
+      run-before (is "=") m ∙ part-part s from to 0 q (omega arith) (omega arith) f fits ∙ ap (λ (j : ℕ). part j (from + q) s) (add-zero from) in
       let v : before (is "=") (behind (is "=") (part from to s)) ≡ part (from + q + 1) (from + r) s =
-      ap (before (is "=")) (run-behind (is "=") m g) ∙ run-before (is "=") n ∙ part-part s from to (q + 1) r (n .ahead) r≤ f l ∙ ap (λ (j : ℕ). part j (from + r) s) p in
+      ap (before (is "=")) (run-behind (is "=") m g) ∙ run-before (is "=") n ∙ part-part s from to (q + 1) r (n .ahead) r≤ f fits ∙ ap (λ (j : ℕ). part j (from + r) s) p in
+      let here : from + (length (part from (from + q) s) + 1) ≡ from + q + 1 = omega (arith, length-part s from (from + q) (omega arith) (omega (arith, fits))) in
+      let in-text : ltb (length s - (from + q + 1)) 9 ≡ false = le-ltb (length s - (from + q + 1)) 9 (omega (arith, z .ends)) in
       record {
-        within = record { key-ahead = omega arith; key-within = omega arith; value-ahead = omega (arith, n .ahead); value-within = omega arith };
-        spells = rw (a, k, v) (go first);
+        within = record { key-ahead = omega arith; key-within = omega (arith, fits); value-ahead = omega (arith, n .ahead); value-within = omega (arith, fits) };
+        spells = rw (in-text, a, k, v, here) (go first);
       }
     where
       go : {A : Type 0} {x : A} (b : Bool) → x ≡ cond b x x
       go true = refl
       go false = refl
 
-  -- without, the first is the name
-  pub part-name : {n : ℕ} → Spelt s n → to - from ≤ q → IsPart s from to true (record { key = n; «key_end» = n + 5; value = from; «value_end» = to })
-  unfolding element name
-  part-name {n} z h =
-      let a : anyOf (is "=") (part from to s) ≡ false = run-none (is "=") m (omega (arith, size)) in
-      record {
-        within = record { key-ahead = omega arith; key-within = omega (arith, z .ends); value-ahead = f; value-within = l };
-        spells = rw (a, z .name-there);
-      }
+  module _ (h : to - from ≤ q) where
+    bare : anyOf (is "=") (part from to s) ≡ false
+    bare = run-none (is "=") m (omega (arith, size))
 
-  -- and another is a key
-  pub part-key : {n : ℕ} → Spelt s n → to - from ≤ q → IsPart s from to false (record { key = from; «key_end» = to; value = n + 5; «value_end» = n + 9 })
-  unfolding element parameter
-  part-key {n} z h =
-      let a : anyOf (is "=") (part from to s) ≡ false = run-none (is "=") m (omega (arith, size)) in
-      record {
-        within = record { key-ahead = f; key-within = l; value-ahead = omega arith; value-within = omega (arith, z .ends) };
-        spells = rw (a, z .true-there);
-      }
+    -- without, the first is the name
+    pub part-name : IsPart s from to true (record { key = n; «key_end» = n + 5; value = from; «value_end» = to })
+    unfolding element placedName name
+    part-name =
+        let in-text : ltb (length s - from) 9 ≡ false = le-ltb (length s - from) 9 (omega (arith, z .ends)) in
+        record {
+          within = record { key-ahead = omega arith; key-within = omega (arith, z .ends); value-ahead = f; value-within = fits };
+          spells = rw (in-text, bare, z .name-there);
+        }
+
+    -- and another is a key
+    pub part-key : IsPart s from to false (record { key = from; «key_end» = to; value = n + 5; «value_end» = n + 9 })
+    unfolding element placedWord valueIn parameter
+    part-key =
+        let behind-it : ltb (length s - (n + 5)) 9 ≡ true = lt-ltb (length s - (n + 5)) 9 (omega (arith, z .ends)) in
+        let here : from + length (part from to s) ≡ to = omega (arith, size) in
+        record {
+          within = record { key-ahead = f; key-within = fits; value-ahead = omega arith; value-within = omega (arith, z .ends) };
+          spells = rw (behind-it, bare, here, z .true-there);
+        }

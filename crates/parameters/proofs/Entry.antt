@@ -1,17 +1,17 @@
 -- Entering a part into a table: what each way of it gives.
 use mathlib.Core.Path.{_≡_, refl, sym, ap, _∙_}
 use mathlib.Core.Bool.{true, false, false≢true}
-use mathlib.Core.List.{List, [], _∷_, _++_, map, map-append}
+use mathlib.Core.List.{List, [], _∷_, _++_}
 use Prim.Native.Nat.{ℕ, zero, suc, _≤_, _<_}
 use native.Mathlib.Decide.{decLt}
 use native.Mathlib.Numerals.{add-one}
 use native.Mathlib.Omega.{arith}
-use lib.ListN.{length, take, drop, set, length-append, length-drop, length-set, length-map, drop-of-length-le}
+use lib.ListN.{length, take, drop, set, length-append, length-drop, length-set, drop-of-length-le}
 use lib.Seq.{length-take-le, take-set-lt, set-split, drop-drop}
 use Rattle.rules.specs.Text.Bytes.{Bytes}
-use Rattle.rules.specs.Text.Parameters.{Parameter, precedes, entered}
+use Rattle.rules.specs.Text.Parameters.{precedes, enteredBy}
 use Rattle.parameters.specs.declared.table.Part.{Part}
-use Rattle.parameters.specs.Parts.{Parts, Entered, keyOf, partOf, held, listed, Within, AllWithin, Good, goesFirst, isFirst, Place, Inserted, Enters}
+use Rattle.parameters.specs.Parts.{Parts, Entered, keyOf, held, Within, AllWithin, Good, goesFirst, isFirst, partsWith, Place, Inserted, Enters}
 use Rattle.parameters.proofs.Places.{held-length}
 
 -- ---- within the text
@@ -35,27 +35,24 @@ within-drop s (x ∷ l) (suc i) a = within-drop s l i (a .1)
 
 -- ---- what is entered, by the place
 
-entered-there : (s : Bytes) (p : Part) (l : List Part) → isFirst s p l ≡ true → entered (partOf s p) (map (partOf s) l) ≡ partOf s p ∷ map (partOf s) (drop 1 l)
-unfolding entered isFirst
+entered-there : (s : Bytes) (p : Part) (l : List Part) → isFirst s p l ≡ true → partsWith s p l ≡ p ∷ drop 1 l
+unfolding enteredBy isFirst
 entered-there s p [] e = absurd (false≢true e)
 entered-there s p (q ∷ l) e = rw e
 
-entered-new : (s : Bytes) (p : Part) (l : List Part) → goesFirst s p l ≡ true → isFirst s p l ≡ false → entered (partOf s p) (map (partOf s) l) ≡ partOf s p ∷ map (partOf s) l
-unfolding entered isFirst goesFirst
+entered-new : (s : Bytes) (p : Part) (l : List Part) → goesFirst s p l ≡ true → isFirst s p l ≡ false → partsWith s p l ≡ p ∷ l
+unfolding enteredBy isFirst goesFirst
 entered-new s p [] e f = refl
 entered-new s p (q ∷ l) e f = let g : precedes (keyOf s p) (keyOf s q) ≡ true = rw f at e in rw (f, g)
 
 -- ---- each way of entering
 
-length-listed : {s : Bytes} {t : Parts} → Good s t → length (listed s t) ≡ t .n
-length-listed {s} {t} g = length-map (held t) (partOf s) ∙ held-length g
-
 -- the table with it is at hand
-enters-of : {s : Bytes} {t u : Parts} {p : Part} → entered (partOf s p) (listed s t) ≡ listed s u → Good s u → Enters s t p (record { full = false; table = u })
+enters-of : {s : Bytes} {t u : Parts} {p : Part} → partsWith s p (held t) ≡ held u → Good s u → Enters s t p (record { full = false; table = u })
 enters-of {s} {t} {u} {p} e g = record { room = λ h. refl; table = λ h. sym e; good = λ h. g; no-room = λ h. absurd (longer h) }
   where
-    longer : 32 < length (entered (partOf s p) (listed s t)) → ⊥
-    longer h = let k : length (entered (partOf s p) (listed s t)) ≡ u .n = ap length e ∙ length-listed g in omega (arith, g .fits)
+    longer : 32 < length (partsWith s p (held t)) → ⊥
+    longer h = let k : length (partsWith s p (held t)) ≡ u .n = ap length e ∙ held-length g in omega (arith, g .fits)
 
 module _ {s : Bytes} {t : Parts} {p : Part} {i : ℕ} (g : Good s t) (w : Within s p) (m : Place s (held t) p i) where
   pub place-within : i ≤ t .n
@@ -71,10 +68,9 @@ module _ {s : Bytes} {t : Parts} {p : Part} {i : ℕ} (g : Good s t) (w : Within
           let f : isFirst s p [] ≡ true = rw (drop-of-length-le (held t) k) at e in
           false≢true f
 
-  -- the parameters with it, and that they are within the text
-  put-in : (k : List Part) → entered (partOf s p) (map (partOf s) (drop i (held t))) ≡ partOf s p ∷ map (partOf s) k
-      → entered (partOf s p) (listed s t) ≡ map (partOf s) (take i (held t) ++ p ∷ k)
-  put-in k e = m .skips ∙ ap (λ (r : List Parameter). map (partOf s) (take i (held t)) ++ r) e ∙ sym (map-append (partOf s) (take i (held t)) (p ∷ k))
+  -- the parts with it, and that they are within the text
+  put-in : (k : List Part) → partsWith s p (drop i (held t)) ≡ p ∷ k → partsWith s p (held t) ≡ take i (held t) ++ p ∷ k
+  put-in k e = m .skips ∙ ap (λ (r : List Part). take i (held t) ++ r) e
 
   all-put-in : (k : List Part) → AllWithin s k → AllWithin s (take i (held t) ++ p ∷ k)
   unfolding AllWithin
@@ -88,50 +84,49 @@ module _ {s : Bytes} {t : Parts} {p : Part} {i : ℕ} (g : Good s t) (w : Within
       let v : held u ≡ take i (held t) ++ p ∷ drop (suc i) (held t) = rw (c .0, c .1, take-set-lt (t .n) (t .parts) i p h) (set-split (held t) i p k) in
       let d : drop 1 (drop i (held t)) ≡ drop (suc i) (held t) = drop-drop 1 i (held t) ∙ rw (add-one i) in
       let z = put-in (drop (suc i) (held t)) (entered-there s p (drop i (held t)) e ∙ rw d) in
-      enters-of (z ∙ ap (map (partOf s)) (sym v)) (record {
+      enters-of (z ∙ sym v) (record {
         fits = omega (arith, c .0, g .fits);
         size = ap length (c .1) ∙ length-set (t .parts) i p ∙ g .size;
         within = rw v (all-put-in (drop (suc i) (held t)) (within-drop s (held t) (suc i) (g .within)));
       })
 
   module _ (e : isFirst s p (drop i (held t)) ≡ false) where
-    new-is : entered (partOf s p) (listed s t) ≡ map (partOf s) (take i (held t) ++ p ∷ drop i (held t))
+    new-is : partsWith s p (held t) ≡ take i (held t) ++ p ∷ drop i (held t)
     new-is = put-in (drop i (held t)) (entered-new s p (drop i (held t)) (m .goes) e)
 
     -- as a new one, where there is room
     pub enters-new : {u : Parts} → t .n < 32 → Inserted t i p u → Enters s t p (record { full = false; table = u })
-    enters-new {u} h c = enters-of (new-is ∙ ap (map (partOf s)) (sym (c .moved))) (record {
+    enters-new {u} h c = enters-of (new-is ∙ sym (c .moved)) (record {
       fits = omega (arith, c .count);
       size = c .size ∙ g .size;
       within = rw (c .moved) (all-put-in (drop i (held t)) (within-drop s (held t) i (g .within)));
     })
 
     -- and where there is none
-    new-length : length (entered (partOf s p) (listed s t)) ≡ suc (t .n)
+    new-length : length (partsWith s p (held t)) ≡ suc (t .n)
     new-length =
         let l = held t in
         ap length new-is
-        ∙ length-map (take i l ++ p ∷ drop i l) (partOf s)
         ∙ length-append (take i l) (p ∷ drop i l)
         ∙ rw (length-take-le i l (m .within), length-drop i l) (omega (arith, m .within, held-length g))
 
     pub enters-full : {u : Parts} → 32 ≤ t .n → Enters s t p (record { full = true; table = u })
     enters-full {u} h = record { room = λ k. absurd (short k); table = λ k. absurd (short k); good = λ k. absurd (short k); no-room = λ k. refl }
       where
-        short : length (entered (partOf s p) (listed s t)) ≤ 32 → ⊥
+        short : length (partsWith s p (held t)) ≤ 32 → ⊥
         short k = omega (arith, new-length)
 
 -- ---- what a caller learns
 
 module _ {s : Bytes} {t : Parts} {p : Part} {r : Entered} (m : Enters s t p r) where
-  pub enters-room : r .full ≡ false → length (entered (partOf s p) (listed s t)) ≤ 32
-  enters-room e = elim (decLt 32 (length (entered (partOf s p) (listed s t)))) [ yes h ↦ absurd (false≢true (sym e ∙ m .no-room h)) | no h ↦ omega arith ]
+  pub enters-room : r .full ≡ false → length (partsWith s p (held t)) ≤ 32
+  enters-room e = elim (decLt 32 (length (partsWith s p (held t)))) [ yes h ↦ absurd (false≢true (sym e ∙ m .no-room h)) | no h ↦ omega arith ]
 
-  pub enters-no-room : r .full ≡ true → 32 < length (entered (partOf s p) (listed s t))
-  enters-no-room e = elim (decLt 32 (length (entered (partOf s p) (listed s t)))) [ yes h ↦ h | no h ↦ absurd (false≢true (sym (m .room (omega arith)) ∙ e)) ]
+  pub enters-no-room : r .full ≡ true → 32 < length (partsWith s p (held t))
+  enters-no-room e = elim (decLt 32 (length (partsWith s p (held t)))) [ yes h ↦ h | no h ↦ absurd (false≢true (sym (m .room (omega arith)) ∙ e)) ]
 
   -- the table, where there is room
-  pub enters-table : r .full ≡ false → listed s (r .table) ≡ entered (partOf s p) (listed s t)
+  pub enters-table : r .full ≡ false → held (r .table) ≡ partsWith s p (held t)
   enters-table e = m .table (enters-room e)
 
   pub enters-good : r .full ≡ false → Good s (r .table)

@@ -10,4 +10,5 @@ pub mod Places
 pub mod Replies
 pub mod Rows
 pub mod Spelt
+pub mod Spots
 pub mod Tabled

@@ -1,7 +1,7 @@
 -- The place where a part goes: the invariant of its loop, and its laws.
 use mathlib.Core.Path.{_≡_, refl, sym, ap, _∙_}
 use mathlib.Core.Bool.{Bool, true, false}
-use mathlib.Core.List.{List, [], _∷_, _++_, map, map-append}
+use mathlib.Core.List.{List, [], _∷_, _++_}
 use Prim.Native.Nat.{ℕ, zero, suc, _+_, _≤_, _<_}
 use native.Mathlib.Nat.{le-of-suc-le-suc, not-suc-le-zero}
 use native.Mathlib.Numerals.{add-one}
@@ -9,10 +9,10 @@ use native.Mathlib.Omega.{arith}
 use lib.ListN.{length, take, drop, getD, drop-of-length-le}
 use lib.Seq.{length-take-le, take-suc, drop-cons, getD-take, append-snoc}
 use Rattle.rules.specs.Text.Bytes.{Bytes, same}
-use Rattle.rules.specs.Text.Parameters.{Parameter, precedes, entered}
+use Rattle.rules.specs.Text.Parameters.{precedes, enteredBy}
 use Rattle.laws_lists.specs.Tests.{or-left, or-right}
 use Rattle.parameters.specs.declared.table.Part.{Part}
-use Rattle.parameters.specs.Parts.{Parts, keyOf, partOf, held, Within, AllWithin, Good, goesAt, goesFirst, isFirst, Skips, Place}
+use Rattle.parameters.specs.Parts.{Parts, keyOf, held, Within, AllWithin, Good, goesAt, goesFirst, isFirst, partsWith, Skips, Place}
 
 -- ---- within the text
 
@@ -35,8 +35,8 @@ module _ {s : Bytes} {t : Parts} (g : Good s t) where
 -- ---- the place
 
 -- a part that p does not go at is passed over
-entered-past : (s : Bytes) (p q : Part) (l : List Parameter) → goesAt s p q ≡ false → entered (partOf s p) (partOf s q ∷ l) ≡ partOf s q ∷ entered (partOf s p) l
-unfolding entered
+entered-past : (s : Bytes) (p q : Part) (l : List Part) → goesAt s p q ≡ false → partsWith s p (q ∷ l) ≡ q ∷ partsWith s p l
+unfolding enteredBy
 entered-past s p q l e =
     rw (
       or-left (same (keyOf s p) (keyOf s q)) (precedes (keyOf s p) (keyOf s q)) e,
@@ -45,14 +45,13 @@ entered-past s p q l e =
 
 skips-more : (s : Bytes) (l : List Part) (p : Part) (i : ℕ) (d : Part) → i < length l → goesAt s p (getD l i d) ≡ false → Skips s l p i → Skips s l p (i + 1)
 skips-more s l p i d h e k =
-    let f = partOf s in
     let q = getD l i d in
-    let a : map f (take (i + 1) l) ≡ map f (take i l) ++ (f q ∷ []) = rw (add-one i, take-suc l i d h) (map-append f (take i l) (q ∷ [])) in
+    let a : take (i + 1) l ≡ take i l ++ (q ∷ []) = rw (add-one i) (take-suc l i d h) in
     let b : drop i l ≡ q ∷ drop (i + 1) l = rw (add-one i) (drop-cons l i d h) in
     k
-    ∙ ap (λ (r : List Part). map f (take i l) ++ entered (f p) (map f r)) b
-    ∙ ap (λ (r : List Parameter). map f (take i l) ++ r) (entered-past s p q (map f (drop (i + 1) l)) e)
-    ∙ sym (rw a (append-snoc (map f (take i l)) (f q) (entered (f p) (map f (drop (i + 1) l)))))
+    ∙ ap (λ (r : List Part). take i l ++ partsWith s p r) b
+    ∙ ap (λ (r : List Part). take i l ++ r) (entered-past s p q (drop (i + 1) l) e)
+    ∙ sym (ap (λ (r : List Part). r ++ partsWith s p (drop (i + 1) l)) a ∙ append-snoc (take i l) q (partsWith s p (drop (i + 1) l)))
 
 -- the first i parts of the table come before p
 pub record Seeks (s : Bytes) (t : Parts) (p : Part) (i : ℕ) : Type 0 where

@@ -1,7 +1,7 @@
 -- What is replied of the table of a step's words.
 use mathlib.Core.Path.{_≡_, refl, sym, ap, _∙_, subst}
 use mathlib.Core.Bool.{true, false, and-false}
-use mathlib.Core.List.{List, [], _∷_, flatMap}
+use mathlib.Core.List.{List, [], _∷_, map, flatMap}
 use Prim.Native.Nat.{ℕ, _+_, _-_, _≤_, _<_}
 use native.Mathlib.Omega.{arith}
 use borrow.Author.Tests.{lt-ltb, le-ltb}
@@ -12,14 +12,14 @@ use Rattle.rules.specs.Text.Lists.{allOf, anyOf, nonEmpty}
 use Rattle.rules.specs.Text.Bytes.{Bytes, white, words}
 use Rattle.rules.specs.Text.Refusal.{Reply, answers, andThen, Lends}
 use Rattle.rules.specs.Text.Split.{modifier, onlyModifiers, leading, following, turned}
-use Rattle.rules.specs.Text.Parameters.{Parameter, elements, name, entered, enteredAll, tableOf, stepTable, textTable, parameterLine}
+use Rattle.rules.specs.Text.Parameters.{Parameter, elements, name, enteredBy, enteredAllBy, tableOf, stepTable, textTable, parameterLine}
 use Rattle.rules.specs.declared.Written.{Written}
 use Rattle.rules.specs.declared.Written.the-variants as variant
 use Rattle.laws_text.specs.Entry.{lends-refusal, lends-no-room, lends-text}
 use Rattle.text.specs.Runs.{Run}
 use Rattle.text.proofs.RunEnd.{other, words-none, words-blank}
 use Rattle.text.specs.Wrote.{Wrote}
-use Rattle.parameters.specs.Parts.{Parts, Entered, partOf, held, listed, Within, Good, Empty, Enters}
+use Rattle.parameters.specs.Parts.{Parts, Entered, partOf, held, Within, Good, Empty, partsWith, Enters}
 use Rattle.parameters.specs.declared.table.Part.{Part}
 use Rattle.parameters.proofs.Places.{held-length}
 use Rattle.parameters.specs.Elements.{Spelt, Tabled}
@@ -39,7 +39,7 @@ module _ (s : Bytes) (t : Parts) (out : Bytes) {m : ℕ} (c : m ≡ length (line
   out-wrote h w = lends-text refl (out-room h) (w .count) (w .whole)
 
 none-reply : stepReply [] ≡ answers []
-unfolding stepTable tableOf turned following leading elements enteredAll onlyModifiers nonEmpty andThen flatMap
+unfolding stepTable tableOf turned following leading elements enteredAllBy onlyModifiers nonEmpty andThen flatMap
 none-reply = refl
 
 module _ (u : Bytes) (out : Bytes) where
@@ -84,11 +84,11 @@ module _ {s : Bytes} {n : ℕ} (z : Spelt s n) where
   whole-is = let k : n - 0 ≡ n = omega arith in rw (z .name-there, k)
 
   module _ {t₀ : Parts} (e : Empty t₀) {r : Entered} (m : Enters s t₀ (whole n) r) where
-    one : entered (partOf s (whole n)) (listed s t₀) ≡ name (take n s) ∷ []
-    unfolding Empty entered
-    one = rw (e s .0, whole-is)
+    one : partsWith s (whole n) (held t₀) ≡ whole n ∷ []
+    unfolding enteredBy
+    one = ap (partsWith s (whole n)) (e .none)
 
-    fits : length (entered (partOf s (whole n)) (listed s t₀)) ≤ 32
+    fits : length (partsWith s (whole n) (held t₀)) ≤ 32
     fits = rw one (omega arith)
 
     pub name-good : Good s (r .table)
@@ -96,7 +96,7 @@ module _ {s : Bytes} {n : ℕ} (z : Spelt s n) where
 
     pub name-so : {out : Bytes} {w : Written} {out′ : Bytes} → Lends (answers (linesOf s (r .table))) out w out′ → Lends (nameReply (take n s)) out w out′
     name-so {out} {w} {out′} x =
-        subst (λ (ps : List Parameter). Lends (answers (flatMap parameterLine ps)) out w out′) (m .table fits ∙ one) x
+        subst (λ (ps : List Parameter). Lends (answers (flatMap parameterLine ps)) out w out′) (ap (map (partOf s)) (m .table fits ∙ one) ∙ ap (λ (q : Parameter). q ∷ []) whole-is) x
 
 -- ---- any normalised text
 

@@ -49,5 +49,5 @@ parts-many (a ∷ b ∷ c ∷ d ∷ l) zero e = absurd (omega (arith, e))
 parts-many (a ∷ b ∷ c ∷ d ∷ l) (suc k) e = ap suc (parts-many l k (omega (arith, e)))
 
 pub empty-row : (row : List ℕ) → length row ≡ 128 → Empty (tableIn row 0)
-unfolding Empty AllWithin
-empty-row row e = λ s. (refl, record { fits = omega arith; size = parts-many row 32 e; within = tt })
+unfolding AllWithin
+empty-row row e = record { none = refl; good = λ s. record { fits = omega arith; size = parts-many row 32 e; within = tt } }

@@ -16,7 +16,7 @@ use Rattle.parameters.specs.Elements.{Spelt}
 abbrev pub spelled : Bytes
 spelled = 95 ∷ 110 ∷ 97 ∷ 109 ∷ 101 ∷ 116 ∷ 114 ∷ 117 ∷ 101 ∷ []
 
-spelt-behind : (t : Bytes) (n : ℕ) → length t ≡ n → Spelt (t ++ spelled) n
+pub spelt-behind : (t : Bytes) (n : ℕ) → length t ≡ n → Spelt (t ++ spelled) n
 unfolding ascii
 spelt-behind t n e =
     let d : drop n (t ++ spelled) ≡ spelled = drop-at t spelled n e in

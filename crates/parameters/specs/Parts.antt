@@ -1,11 +1,12 @@
 -- A table of parameters whose keys and values are parts of one text.
 use mathlib.Core.Path.{_≡_}
-use mathlib.Core.Bool.{Bool, true, false, _||_}
+use mathlib.Core.Bool.{Bool, true, false, cond, _||_}
 use mathlib.Core.List.{List, [], _∷_, _++_, map}
-use Prim.Native.Nat.{ℕ, _+_, _≤_, _<_}
+use Prim.Native.Nat.{ℕ, _+_, _-_, _≤_, _<_}
 use lib.ListN.{length, take, drop}
+use lib.Dec.{ltb}
 use Rattle.rules.specs.Text.Bytes.{Bytes, same}
-use Rattle.rules.specs.Text.Parameters.{Parameter, precedes, entered}
+use Rattle.rules.specs.Text.Parameters.{Parameter, Placed, precedes, enteredBy}
 use Rattle.rules.specs.Text.Reader.{part}
 use Rattle.parameters.specs.declared.table.Part.{Part}
 use Rattle.parameters.specs.declared.table.Entered as code
@@ -47,6 +48,15 @@ valueOf s p = part (p .value) (p .«value_end») s
 abbrev pub partOf : Bytes → Part → Parameter
 partOf s p = record { key = keyOf s p; value = valueOf s p }
 
+-- Where in the text the value begins. The value of a bare word is the `true` among the nine bytes that the text ends with, and its place is
+-- the byte after the key.
+abbrev pub valueAt : Bytes → Part → ℕ
+valueAt s p = cond (ltb (length s - p .value) 9) (p .«key_end») (p .value)
+
+-- the parameter, and where its value begins
+abbrev pub placedOf : Bytes → Part → Placed
+placedOf s p = record { given = partOf s p; at = valueAt s p }
+
 -- the parts in a table
 abbrev pub held : Parts → List Part
 held t = take (t .n) (t .parts)
@@ -54,6 +64,10 @@ held t = take (t .n) (t .parts)
 -- the parameters in a table
 abbrev pub listed : Bytes → Parts → List Parameter
 listed s t = map (partOf s) (held t)
+
+-- each with the place of its value
+abbrev pub placedIn : Bytes → Parts → List Placed
+placedIn s t = map (placedOf s) (held t)
 
 -- both parts are within the text
 pub record Within (s : Bytes) (p : Part) : Type 0 where
@@ -74,8 +88,9 @@ pub record Good (s : Bytes) (t : Parts) : Type 0 where
   pub within : AllWithin s (held t)
 
 -- a table of none, of whatever text
-unfoldable pub Empty : Parts → Type 0
-Empty t = (s : Bytes) → (listed s t ≡ []) × Good s t
+pub record Empty (t : Parts) : Type 0 where
+  pub none : held t ≡ []
+  pub good : (s : Bytes) → Good s t
 
 -- does p go where q is: is its key the same as q's, or before it?
 abbrev pub goesAt : Bytes → Part → Part → Bool
@@ -91,9 +106,13 @@ unfoldable pub isFirst : Bytes → Part → List Part → Bool
 isFirst s p [] = false
 isFirst s p (q ∷ l) = same (keyOf s p) (keyOf s q)
 
--- the table with p is a list's first i parts, and p entered into the others
+-- p entered into a list of parts that is in the order of their keys
+abbrev pub partsWith : Bytes → Part → List Part → List Part
+partsWith s p l = enteredBy (keyOf s) p l
+
+-- the list with p is its first i parts, and p entered into the others
 abbrev pub Skips : Bytes → List Part → Part → ℕ → Type 0
-Skips s l p i = entered (partOf s p) (map (partOf s) l) ≡ map (partOf s) (take i l) ++ entered (partOf s p) (map (partOf s) (drop i l))
+Skips s l p i = partsWith s p l ≡ take i l ++ partsWith s p (drop i l)
 
 -- p goes into a list of parts at place i
 pub record Place (s : Bytes) (l : List Part) (p : Part) (i : ℕ) : Type 0 where
@@ -109,7 +128,7 @@ pub record Inserted (t : Parts) (at : ℕ) (p : Part) (r : Parts) : Type 0 where
 
 -- What entering p gives: the table with it where that has room, and else that it is full.
 pub record Enters (s : Bytes) (t : Parts) (p : Part) (r : Entered) : Type 0 where
-  pub room : length (entered (partOf s p) (listed s t)) ≤ 32 → r .full ≡ false
-  pub table : length (entered (partOf s p) (listed s t)) ≤ 32 → listed s (r .table) ≡ entered (partOf s p) (listed s t)
-  pub good : length (entered (partOf s p) (listed s t)) ≤ 32 → Good s (r .table)
-  pub no-room : 32 < length (entered (partOf s p) (listed s t)) → r .full ≡ true
+  pub room : length (partsWith s p (held t)) ≤ 32 → r .full ≡ false
+  pub table : length (partsWith s p (held t)) ≤ 32 → held (r .table) ≡ partsWith s p (held t)
+  pub good : length (partsWith s p (held t)) ≤ 32 → Good s (r .table)
+  pub no-room : 32 < length (partsWith s p (held t)) → r .full ≡ true

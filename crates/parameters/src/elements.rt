@@ -11,16 +11,16 @@ ghost use mathlib.Core.Bool.{false};
 ghost use Prim.Native.Nat.{_≤_};
 ghost use lib.ListN.{length, take, drop};
 ghost use Rattle.rules.specs.Text.Lists.{allOf};
-ghost use Rattle.rules.specs.Text.Bytes.{words};
+ghost use Rattle.rules.specs.Text.Bytes.{words, joined};
 ghost use Rattle.rules.specs.Text.Split.{modifier};
 ghost use Rattle.parameters.specs.Parts.{Good, tableIn, enteredIn};
-ghost use Rattle.parameters.specs.Elements.{Spelt, IsPart, elementsFrom, EntersAll, Tabled};
+ghost use Rattle.parameters.specs.Elements.{Spelt, IsPart, wordsAt, elementsAt, EntersAll, Tabled, Cut};
 
 // The parameter that the word of s from `from` up to `to` is. At `n` stand `_name` and `true`, for a word without `=`: the
 // first is the name, another has the value `true`.
 fn part_of(s: &[u8], from: usize, to: usize, n: usize, first: bool) -> Part
     requires { ⌜ Spelt (now s) n ⌝ }
-    requires { ⌜ (from ≤ to) × (to ≤ length (now s)) ⌝ }
+    requires { ⌜ (from ≤ to) × (to ≤ n) ⌝ }
     ensures { λ r. ⌜ IsPart (now (s .entry)) from to first r ⌝ }
 {
     let q = run_end(Kind::Key, &s[from..to], 0);
@@ -61,9 +61,9 @@ fn enter_words(
     first: bool,
 ) -> Entered
     requires { ⌜ Spelt (now s) n ⌝ }
-    requires { ⌜ (from ≤ to) × (to ≤ length (now s)) ⌝ }
+    requires { ⌜ (from ≤ to) × (to ≤ n) ⌝ }
     requires { ⌜ Good (now s) (tableIn (now row) count) ⌝ }
-    ensures { λ r. ⌜ EntersAll (now (s .entry)) (tableIn (now (row .entry)) count) (elementsFrom first (words (drop from (take to (now (s .entry)))))) (enteredIn (now (row .exit)) r) ⌝ }
+    ensures { λ r. ⌜ EntersAll (now (s .entry)) (tableIn (now (row .entry)) count) (elementsAt first (wordsAt from (drop from (take to (now (s .entry)))))) (enteredIn (now (row .exit)) r) ⌝ }
 {
     let mut held = count;
     let mut name = first;
@@ -105,4 +105,15 @@ pub fn table_of(s: &[u8], n: usize, row: &mut [usize; 128]) -> Entered
         return first;
     }
     enter_words(s, row, first.n, 0, k, n, false)
+}
+
+// The table of the words in the first n bytes of s, which stand there as they are cut: with one space between, and leading
+// modifiers turned already. It is made in a lent row.
+pub fn words_into(s: &[u8], n: usize, row: &mut [usize; 128]) -> Entered
+    requires { ⌜ Spelt (now s) n ⌝ }
+    requires { ⌜ take n (now s) ≡ joined (words (take n (now s))) ⌝ }
+    requires { ⌜ length (now row) ≡ 128 ⌝ }
+    ensures { λ r. ⌜ Cut (now (s .entry)) (words (take n (now (s .entry)))) (enteredIn (now (row .exit)) r) ⌝ }
+{
+    enter_words(s, row, 0, 0, n, n, true)
 }

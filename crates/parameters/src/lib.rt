@@ -3,11 +3,13 @@ mod elements;
 mod table;
 
 pub use elements::table_of;
+pub use elements::words_into;
 use normalise::normal_of;
 use rules::Written;
 use table::Part;
 use table::enter;
 pub use table::part_at;
+pub use table::value_at;
 use text::Kind;
 use text::first_refusal;
 use text::is_blank;

@@ -6,7 +6,7 @@ ghost use Prim.Native.Nat.{_<_, _+_, _≤_};
 ghost use lib.ListN.{length, getD, set, drop};
 ghost use Rattle.rules.specs.Text.Bytes.{same};
 ghost use Rattle.rules.specs.Text.Parameters.{precedes};
-ghost use Rattle.parameters.specs.Parts.{keyOf, goesAt, Within, noPart, partsIn, isFirst, held, Good, Place, tableIn, enteredIn, Inserted, Enters};
+ghost use Rattle.parameters.specs.Parts.{keyOf, valueAt, goesAt, Within, noPart, partsIn, isFirst, held, Good, Place, tableIn, enteredIn, Inserted, Enters};
 
 // A parameter as two parts of a text: its key and its value, each from a place up to another.
 pub struct Part {
@@ -51,6 +51,18 @@ pub fn put_part(row: &mut [usize; 128], i: usize, p: Part)
     row[k + 1] = p.key_end;
     row[k + 2] = p.value;
     row[k + 3] = p.value_end;
+}
+
+// Where in s the value of p begins: of a bare word the byte after the key, for its value is the `true` in the nine bytes that
+// s ends with.
+pub fn value_at(s: &[u8], p: Part) -> usize
+    requires { ⌜ Within (now s) p ⌝ }
+    ensures { λ r. ⌜ r ≡ valueAt (now (s .entry)) p ⌝ }
+{
+    if s.len() - p.value < 9 {
+        return p.key_end;
+    }
+    p.value
 }
 
 // Does a come before b in byte order?

@@ -21,7 +21,7 @@ use Rattle.rules.specs.declared.Name.{Name}
 use Rattle.rules.specs.declared.Name.the-variants as name
 use Rattle.laws_lists.specs.Tests.{same-self, same-is, or-left, or-right, never}
 use Rattle.prepare.specs.SeriesRead.{argsOf, lowest, Good, Reads, noNumbers}
-use Rattle.prepare.specs.Faults.{isSeries, firstSeries, Lowers}
+use Rattle.prepare.specs.Faults.{Kept, isSeries, firstSeries, Lowers}
 use Rattle.prepare.specs.Actions.{actionAt, keyAt}
 use Rattle.prepare.specs.declared.faults.Lowest.{Lowest}
 use Rattle.prepare.proofs.LowestFault.{Passed, passed}
@@ -112,8 +112,11 @@ module _ {n : Name} {ps : List Parameter} {low : Lowest} (m : Lowers n ps low) (
   well = passed n ps (sym (m .number) ∙ e)
 
   module _ {v : Bytes} (f : firstSeries n ps ≡ some v) where
-    read : Reads v (low .numbers)
-    read = (rw f at (m .series)) .read
+    kept : Kept v low
+    kept = rw f at (m .series)
+
+    read : Reads v (kept .from) (low .numbers)
+    read = kept .read
 
     fine : low .numbers .number ≡ 14
     fine = read .number ∙ first-passed n ps well f

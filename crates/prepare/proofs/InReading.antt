@@ -6,10 +6,10 @@ use mathlib.Core.List.{List, [], _∷_, _++_, map, append-assoc}
 use native.Mathlib.Omega.{arith}
 use native.Mathlib.Numerals.{add-one}
 use lib.Dec.{ltb}
-use lib.ListN.{length, getD, take, drop, set, length-append, length-map}
+use lib.ListN.{length, getD, drop, set, length-append, length-map}
 use lib.Seq.{take-at, drop-at}
 use Rattle.rules.specs.Text.Bytes.{Bytes, inDomain}
-use Rattle.rules.specs.Text.Refusal.{Reply, answers, refuses, andThen, tested, lent, prepared}
+use Rattle.rules.specs.Text.Refusal.{Reply, answers, refuses, refuses12, andThen, tested, lent, prepared}
 use Rattle.rules.specs.Pipeline.Record.{inReading}
 use Rattle.rules.specs.Pipeline.Prepare.{prepareIn, prepareAs}
 use Rattle.rules.specs.declared.Reading.{Reading}
@@ -62,12 +62,13 @@ module _ (r : Reading) where
   lent-named : (o : Reply (List Step)) (t : Table) → lentTo (named o) t ≡ answerNamed r (lentTo o t .answer) (lentTo o t .table)
   unfolding lentTo withRow andThen lent prepared
   lent-named (refuses number place) t = unfold answerNamed in refl
+  lent-named (refuses12 place offset) t = unfold answerNamed in refl
   lent-named (answers l) t =
       go (ltb (length (row t)) (length l)) (ltb (length (row t)) (length (map (inReading r) l))) (ap (ltb (length (row t))) (length-map l (inReading r)))
     where
       go : (a b : Bool) → b ≡ a
-          → withRow t (cond b (prepared-is.Refused 7 0, row t) (prepared-is.Steps (length (map (inReading r) l)), map (inReading r) l ++ drop (length (map (inReading r) l)) (row t)))
-          ≡ (let p = withRow t (cond a (prepared-is.Refused 7 0, row t) (prepared-is.Steps (length l), l ++ drop (length l) (row t))) in answerNamed r (p .answer) (p .table))
+          → withRow t (cond b (prepared-is.Refused 7 0 0, row t) (prepared-is.Steps (length (map (inReading r) l)), map (inReading r) l ++ drop (length (map (inReading r) l)) (row t)))
+          ≡ (let p = withRow t (cond a (prepared-is.Refused 7 0 0, row t) (prepared-is.Steps (length l), l ++ drop (length l) (row t))) in answerNamed r (p .answer) (p .table))
       go true b e = unfold answerNamed in rw e refl
       go false b e =
           unfold answerNamed in rw (e, length-map l (inReading r))
@@ -82,10 +83,11 @@ as-named r mode text t = ap (λ (o : Reply (List Step)). lentTo o t) (tested-nam
 there : (o : Reply (List Step)) (t : Table) {n : ℕ} → lentTo o t .answer ≡ prepared-is.Steps n → n ≤ length (lentTo o t .table .steps)
 unfolding lentTo withRow lent prepared
 there (refuses number place) t h = absurd (never (cc h))
+there (refuses12 place offset) t h = absurd (never (cc h))
 there (answers l) t {n} h = go (ltb (length (row t)) (length l)) h
   where
-    go : (b : Bool) → withRow t (cond b (prepared-is.Refused 7 0, row t) (prepared-is.Steps (length l), l ++ drop (length l) (row t))) .answer ≡ prepared-is.Steps n
-        → n ≤ length (withRow t (cond b (prepared-is.Refused 7 0, row t) (prepared-is.Steps (length l), l ++ drop (length l) (row t))) .table .steps)
+    go : (b : Bool) → withRow t (cond b (prepared-is.Refused 7 0 0, row t) (prepared-is.Steps (length l), l ++ drop (length l) (row t))) .answer ≡ prepared-is.Steps n
+        → n ≤ length (withRow t (cond b (prepared-is.Refused 7 0 0, row t) (prepared-is.Steps (length l), l ++ drop (length l) (row t))) .table .steps)
     go true h = absurd (never (cc h))
     go false h =
         let e : length l ≡ n = cc h in
@@ -104,9 +106,9 @@ module _ (r : Reading) (mode : Mode) (text : Bytes) (t : Table) {p : Preparing} 
   unfolding answerNamed
   answers-named {n} {steps} a h = (λ i. record { answer = prepared-is.Steps n; table = record { steps = h i; n = p .table .n } }) ∙ sym (ap (λ (w : Prepared). answerNamed r w (p .table)) a) ∙ by-answer
 
-  pub refuses-named : {number place : ℕ} → p .answer ≡ prepared-is.Refused number place → refusing number place (p .table) ≡ preparingAs r mode text t
+  pub refuses-named : {number place offset : ℕ} → p .answer ≡ prepared-is.Refused number place offset → refusing number place offset (p .table) ≡ preparingAs r mode text t
   unfolding answerNamed
-  refuses-named {number} {place} a = sym (ap (λ (w : Prepared). answerNamed r w (p .table)) a) ∙ by-answer
+  refuses-named a = sym (ap (λ (w : Prepared). answerNamed r w (p .table)) a) ∙ by-answer
 
   pub counts-records : {n : ℕ} → p .answer ≡ prepared-is.Steps n → n ≤ length (p .table .steps)
   unfolding preparing

@@ -1,4 +1,5 @@
 pub mod DigitsSpelt
+pub mod EarliestFault
 pub mod FirstSeries
 pub mod Judged
 pub mod KeyKind

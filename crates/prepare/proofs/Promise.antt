@@ -10,7 +10,7 @@ use lib.ListN.{length, take, drop, length-append, length-drop, drop-of-length-le
 use lib.Seq.{length-take-le, take-at, drop-at, take-all}
 use lib.Dec.{ltb}
 use Rattle.rules.specs.Text.Bytes.{Bytes}
-use Rattle.rules.specs.Text.Refusal.{Reply, answers, refuses, lent, outcome, tested, prepared}
+use Rattle.rules.specs.Text.Refusal.{Reply, answers, refuses, refuses12, lent, outcome, tested, prepared}
 use Rattle.rules.specs.Pipeline.Prepare.{prepareAs, PreparesAs}
 use Rattle.rules.specs.declared.Mode.{Mode}
 use Rattle.rules.specs.declared.Prepared.{Prepared}
@@ -23,6 +23,7 @@ use Rattle.prepare.specs.Lent.{row, withRow, lentTo, preparingAs}
 lent-length : (reply : Reply (List Step)) (l : List Step) → length (lent prepared reply l .1) ≡ length l
 unfolding lent
 lent-length (refuses number place) l = refl
+lent-length (refuses12 place offset) l = refl
 lent-length (answers xs) l = go (ltb (length l) (length xs)) refl
   where
     go : (b : Bool) → ltb (length l) (length xs) ≡ b

@@ -12,7 +12,7 @@ use lib.Seq.{take-suc-set, length-take-le}
 use lib.IntN.{ℤ, pos}
 use Rattle.rules.specs.Text.Ascii.{ascii}
 use Rattle.rules.specs.Text.Bytes.{Bytes}
-use Rattle.rules.specs.Text.Refusal.{answers, refuses}
+use Rattle.rules.specs.Text.Refusal.{answers}
 use Rattle.rules.specs.Text.Parameters.{Parameter}
 use Rattle.rules.specs.Operators.Arguments.{isGiven}
 use Rattle.rules.specs.Operators.Descriptions.{Operator, choose}
@@ -24,20 +24,20 @@ use Rattle.rules.specs.declared.Step.{Step}
 use Rattle.record.specs.Records.{markOf}
 use Rattle.prepare.specs.Lookup.{given}
 use Rattle.prepare.specs.SeriesRead.{argsOf, Good}
-use Rattle.prepare.specs.Records.{replyIs, recordAt, recordedAt, Axes, Extended, Flagged}
+use Rattle.prepare.specs.Records.{refusedAt, replyIs, recordAt, recordedAt, Axes, Extended, Flagged}
 use Rattle.prepare.specs.declared.series.Args.{Args}
 use Rattle.prepare.proofs.SeriesPieces.{zeros-more}
 
 -- ---- replies
 
-pub refused-is : (number : ℕ) (step : Step) → 0 < number → replyIs (record { number = number; step = step }) ≡ refuses number 0
+pub refused-is : (number at : ℕ) (step : Step) → 0 < number → replyIs (record { number = number; at = at; step = step }) ≡ refusedAt number 0 at
 unfolding replyIs
-refused-is number step h = let n : number ≡ 0 → ⊥ = λ e. no-zero e in rw (ne-eqb number 0 n)
+refused-is number at step h = let n : number ≡ 0 → ⊥ = λ e. no-zero e in rw (ne-eqb number 0 n)
   where
     no-zero : number ≡ 0 → ⊥
     no-zero e = omega arith
 
-pub answered-is : (s : Step) {t : Step} → s ≡ t → replyIs (record { number = 0; step = s }) ≡ answers t
+pub answered-is : (s : Step) {t : Step} → s ≡ t → replyIs (record { number = 0; at = 0; step = s }) ≡ answers t
 unfolding replyIs
 answered-is s e = ap answers e
 

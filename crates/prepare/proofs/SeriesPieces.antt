@@ -15,7 +15,7 @@ use lib.IntN.{ℤ, pos}
 use Rattle.rules.specs.Text.Ascii.{is}
 use Rattle.rules.specs.Text.Lists.{anyOf, allOf, isNone}
 use Rattle.rules.specs.Text.Bytes.{Bytes, before, behind, onto, cut}
-use Rattle.rules.specs.Text.Decimal.{decimal, pieces, numberThen, allNumbers, series, signed, isWhole, wholeOf}
+use Rattle.rules.specs.Text.Decimal.{decimal, pieces, numberThen, allNumbers, series, isNumber, brokenFrom, signed, isWhole, wholeOf}
 use Rattle.rules.specs.Operators.Arguments.{size, wholes}
 use Rattle.rules.specs.Pipeline.Record.{nineDigits}
 use Rattle.rules.specs.Text.Reader.{part}
@@ -24,7 +24,7 @@ use Rattle.rules.specs.declared.Number.the-variants.{Is, Not}
 use Rattle.laws_lists.specs.Tests.{never}
 use Rattle.laws_records.specs.Series.{size-signed, decimal-nine}
 use Rattle.text.specs.Runs.{Run}
-use Rattle.text.proofs.RunEnd.{other}
+use Rattle.text.proofs.RunEnd.{other, length-part}
 use Rattle.parameters.proofs.Cut.{run-before, run-behind, run-any, run-none}
 use Rattle.prepare.specs.SeriesRead.{lowest, Reads}
 
@@ -63,6 +63,15 @@ left-more {v} {at} {e} h m =
 
     outside : length v ≤ e → cond (anyOf (is ",") (drop at v)) (cut (is ",") (behind (is ",") (drop at v))) [] ≡ cond (leb (e + 1) (length v)) (cut (is ",") (drop (e + 1) v)) []
     outside l = let k : length v < e + 1 = omega arith in rw (run-none (is ",") m l, lt-leb (e + 1) (length v) k)
+
+-- the first that breaks decimal form: here, or behind one that does not
+broken-here : (p : Bytes) (ps : List Bytes) → decimal p ≡ Not → brokenFrom (p ∷ ps) ≡ 0
+unfolding brokenFrom isNumber
+broken-here p ps e = rw e
+
+broken-behind : (p : Bytes) (ps : List Bytes) (d : Decimal) → decimal p ≡ Is d → brokenFrom (p ∷ ps) ≡ length p + 1 + brokenFrom ps
+unfolding brokenFrom isNumber
+broken-behind p ps d e = rw e
 
 -- ---- numbers in front of others
 
@@ -107,6 +116,7 @@ pub record Reading (v : Bytes) (list : List ℤ) (whole : Bool) (n at : ℕ) : T
   pub all-whole : whole ≡ allOf isWhole done
   pub numbers : series v ≡ prefixed done (allNumbers (left v at))
   pub many : length (pieces v) ≡ n + length (left v at)
+  pub passed : brokenFrom (pieces v) ≡ at + brokenFrom (left v at)
 
 pub reading-none : (v : Bytes) → Reading v (replicate 8 (pos 0)) true 0 0
 unfolding series allOf
@@ -121,6 +131,7 @@ reading-none v = record {
   all-whole = refl;
   numbers = rw (left-first v) (prefixed-none (allNumbers (pieces v)));
   many = rw (left-first v) (omega arith);
+  passed = rw (left-first v) (omega arith);
 }
 
 -- the next number stands in the list, if there is room
@@ -161,12 +172,18 @@ module _ (list : List ℤ) (n : ℕ) (x : ℤ) (s : length list ≡ 8) where
 
 module _ {v : Bytes} {list : List ℤ} {whole : Bool} {n at : ℕ} (m : Reading v list whole n at) where
   module _ {e : ℕ} (h : at ≤ length v) (p : Run (other (is ",")) v at e) where
-    pub piece-not : decimal (part at e v) ≡ Not → {list′ : List ℤ} {whole′ : Bool} {n′ : ℕ}
-        → Reads v (record { number = 12; whole = whole′; args = record { list = list′; n = n′ } })
+    pub piece-not : decimal (part at e v) ≡ Not → (from : ℕ) {list′ : List ℤ} {whole′ : Bool} {n′ : ℕ}
+        → Reads v from (record { number = 12; at = from + at; whole = whole′; args = record { list = list′; n = n′ } })
     unfolding allNumbers numberThen prefixed lowest isNone
-    piece-not f =
+    piece-not f from =
         let z : series v ≡ none = m .numbers ∙ rw (left-more h p, f) in
-        record { number = sym (rw z); good = λ k. absurd (never (omega arith)); args = λ k. absurd (never (omega arith)) }
+        let b : brokenFrom (left v at) ≡ 0 = ap brokenFrom (left-more h p) ∙ broken-here (part at e v) (left v (e + 1)) f in
+        record {
+          number = sym (rw z);
+          at = λ k. omega (arith, m .passed, b);
+          good = λ k. absurd (never (omega arith));
+          args = λ k. absurd (never (omega arith));
+        }
 
     pub reading-more : {d : Decimal} {x : ℤ} {list′ : List ℤ} {whole′ : Bool} → decimal (part at e v) ≡ Is d → x ≡ signed (d .minus) (d .whole)
         → list′ ≡ set list n x → whole′ ≡ (whole && isWhole d)
@@ -183,6 +200,9 @@ module _ {v : Bytes} {list : List ℤ} {whole : Bool} {n at : ℕ} (m : Reading 
       all-whole = w ∙ rw (m .all-whole) (sym (all-snoc isWhole (m .done) d));
       numbers = m .numbers ∙ rw (left-more h p, f) (prefixed-more (m .done) d (allNumbers (left v (e + 1))));
       many = m .many ∙ rw (left-more h p) (omega arith);
+      passed =
+          let b = ap brokenFrom (left-more h p) ∙ broken-behind (part at e v) (left v (e + 1)) d f in
+          omega (arith, m .passed, b, length-part v at e (p .ahead) (p .within), p .ahead);
     }
 
   module _ (h : length v < at) where
@@ -193,20 +213,26 @@ module _ {v : Bytes} {list : List ℤ} {whole : Bool} {n at : ℕ} (m : Reading 
     so-many : length (pieces v) ≡ n
     so-many = m .many ∙ rw (left-none v at h) (omega arith)
 
-    pub reading-many : 8 < n → Reads v (record { number = 13; whole = whole; args = record { list = list; n = n } })
+    pub reading-many : 8 < n → (from : ℕ) → Reads v from (record { number = 13; at = 0; whole = whole; args = record { list = list; n = n } })
     unfolding lowest isNone
-    reading-many l =
+    reading-many l from =
         let k : 8 < length (pieces v) = omega (arith, so-many) in
-        record { number = sym (rw (all-read, lt-ltb 8 (length (pieces v)) k)); good = λ k. absurd (never (omega arith)); args = λ k. absurd (never (omega arith)) }
+        record {
+          number = sym (rw (all-read, lt-ltb 8 (length (pieces v)) k));
+          at = λ k. absurd (never (omega arith));
+          good = λ k. absurd (never (omega arith));
+          args = λ k. absurd (never (omega arith));
+        }
 
-    pub reading-well : n ≤ 8 → Reads v (record { number = 14; whole = whole; args = record { list = list; n = n } })
+    pub reading-well : n ≤ 8 → (from : ℕ) → Reads v from (record { number = 14; at = 0; whole = whole; args = record { list = list; n = n } })
     unfolding lowest isNone wholes
-    reading-well l =
+    reading-well l from =
         let k : length (pieces v) ≤ 8 = omega (arith, so-many) in
         let e : take 8 (m .done) ≡ m .done = take-all 8 (m .done) (omega (arith, m .count)) in
         let w : take n list ≡ map wholeOf (m .done) = m .kept ∙ rw e in
         record {
           number = sym (rw (all-read, le-ltb 8 (length (pieces v)) k));
+          at = λ k. absurd (never (omega arith));
           good = λ _. record { fits = l; size = m .size; zeros = m .zeros };
           args = λ _ rule. rw (all-read, w, m .all-whole);
         }

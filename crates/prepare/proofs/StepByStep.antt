@@ -2,7 +2,7 @@
 -- known; and each way out of it tells the reply of the whole text.
 use mathlib.Core.Path.{_≡_, refl, sym, ap, _∙_}
 use Prim.Native.Nat.{ℕ, suc, _+_, _-_, _≤_, _<_}
-use mathlib.Core.Bool.{Bool, true, false}
+use mathlib.Core.Bool.{Bool, true, false, cond}
 use mathlib.Core.List.{List, [], _∷_, _++_, append-nil, append-assoc, map}
 use native.Mathlib.Numerals.{add-one}
 use native.Mathlib.Omega.{arith}
@@ -12,10 +12,12 @@ use lib.Seq.{take-at, drop-cons, set-at, append-snoc}
 use lib.Dec.{eqb, ltb}
 use Rattle.rules.specs.Text.Ascii.{ascii}
 use Rattle.rules.specs.Text.Bytes.{Bytes, Words, words}
-use Rattle.rules.specs.Text.Refusal.{Reply, answers, refuses, andThen}
+use Rattle.rules.specs.Text.Normal.{normal}
+use Rattle.rules.specs.Text.Parameters.{textTable, parametersOf}
+use Rattle.rules.specs.Text.Refusal.{Reply, answers, refuses, refuses12, andThen}
 use Rattle.rules.specs.Text.Split.{stepsOf, stepText, line}
 use Rattle.rules.specs.Text.Reader.{next, part}
-use Rattle.rules.specs.Pipeline.Prepare.{atStep, prepareStep, prepareSteps}
+use Rattle.rules.specs.Pipeline.Prepare.{judged, offsetOf, offsetIn, atStep, prepareStep, prepareSteps}
 use Rattle.rules.specs.declared.Cursor.{Cursor}
 use Rattle.rules.specs.declared.Found.the-variants as found
 use Rattle.rules.specs.declared.Mode.{Mode}
@@ -29,18 +31,18 @@ use Rattle.split.specs.Lines.{HasLine, IsLine}
 use Rattle.split.specs.declared.step.Line.{Line}
 use Rattle.split.specs.declared.step.Line.the-variants as line-is
 use Rattle.split.proofs.StepsPassed.{Passed, passed-none, passed-many, passed-well, passed-only, passed-next}
-use Rattle.prepare.specs.Records.{replyIs}
-use Rattle.prepare.specs.StepReply.{Bare, Roomy, stepReply}
+use Rattle.prepare.specs.Records.{refusedAt, replyIs}
+use Rattle.prepare.specs.StepReply.{Bare, Roomy, textReply, stepReply}
 use Rattle.prepare.specs.Lent.{lentTo, stepsReply, normalReply, refusing, answered}
 use Rattle.prepare.specs.declared.Preparing.{Preparing}
 use Rattle.prepare.specs.declared.own.Judged.{Judged}
-use Rattle.prepare.proofs.LentTable.{lent-refused, answered-many, answered-refused, answered-lent}
+use Rattle.prepare.proofs.LentTable.{lent-refused, lent-refused-at, answered-many, answered-refused, answered-lent}
 use Rattle.prepare.proofs.StepWeight.{step-weight, line-length, roomy-for}
 
 -- ---- a step's line in a buffer
 
 module _ (u : Bytes) {c₀ c : Bytes} {end : ℕ} (w : WroteAt (line u) c₀ 0 end c) where
-  line-end : end ≡ suc (length u)
+  pub line-end : end ≡ suc (length u)
   unfolding line ascii
   line-end = omega (arith, w .wrote .count, length-append u (10 ∷ []))
 
@@ -57,7 +59,7 @@ module _ (u : Bytes) {c₀ c : Bytes} {end : ℕ} (w : WroteAt (line u) c₀ 0 e
 
 -- ---- one step's reply
 
-refusal-is : (r : Judged) → (r .number ≡ 0 → ⊥) → replyIs r ≡ refuses (r .number) 0
+refusal-is : (r : Judged) → (r .number ≡ 0 → ⊥) → replyIs r ≡ refusedAt (r .number) 0 (r .at)
 unfolding replyIs
 refusal-is r n = rw (ne-eqb (r .number) 0 n)
 
@@ -65,25 +67,54 @@ answer-is : (r : Judged) → r .number ≡ 0 → replyIs r ≡ answers (r .step)
 unfolding replyIs
 answer-is r e = rw (eq-eqb (r .number) 0 e)
 
-step-at : (mode : Mode) (place : ℕ) (t : Bytes) → prepareStep mode place t ≡ atStep place (stepReply mode t)
-unfolding prepareStep stepReply
-step-at mode place t = refl
+-- a step's reply at a place, its offset being known
+unfoldable pub atPlace : ℕ → Reply Step → Reply Step
+atPlace place (answers s) = answers s
+atPlace place (refuses number nowhere) = refuses number place
+atPlace place (refuses12 nowhere offset) = refuses12 place offset
+
+at-both : (place offset : ℕ) (r : Reply Step) → atStep place offset r ≡ atPlace place (atStep 0 offset r)
+unfolding atStep atPlace
+at-both place offset (answers s) = refl
+at-both place offset (refuses number nowhere) = refl
+at-both place offset (refuses12 nowhere unknown) = refl
+
+step-at : (mode : Mode) (place : ℕ) (t : Bytes) → prepareStep mode place t ≡ atPlace place (stepReply mode t)
+unfolding prepareStep stepReply textReply parametersOf offsetIn
+step-at mode place t = go (ltb 4096 (length t))
+  where
+    go : (b : Bool) → atStep place (offsetOf (words (normal t))) (cond b (refuses 1 0) (andThen (textTable (normal t)) (judged mode)))
+        ≡ atPlace place (cond b (refuses 1 0) (atStep 0 (offsetOf (words (normal t))) (andThen (textTable (normal t)) (judged mode))))
+    go true = unfold atStep atPlace in refl
+    go false = at-both place (offsetOf (words (normal t))) (andThen (textTable (normal t)) (judged mode))
+
+-- a refusal by its number, at a place
+refused-there : (number place at : ℕ) → atPlace place (refusedAt number 0 at) ≡ refusedAt number place at
+unfolding atPlace
+refused-there number place at = go (eqb number 12)
+  where
+    go : (b : Bool) → atPlace place (cond b (refuses12 0 at) (refuses number 0)) ≡ cond b (refuses12 place at) (refuses number place)
+    go true = refl
+    go false = refl
 
 -- ---- records in front of others
 
 unfoldable pub prefixed : List Step → Reply (List Step) → Reply (List Step)
 prefixed done (answers l) = answers (done ++ l)
 prefixed done (refuses number place) = refuses number place
+prefixed done (refuses12 place offset) = refuses12 place offset
 
 prefixed-none : (r : Reply (List Step)) → r ≡ prefixed [] r
 unfolding prefixed
 prefixed-none (answers l) = refl
 prefixed-none (refuses number place) = refl
+prefixed-none (refuses12 place offset) = refl
 
 prefixed-more : (done : List Step) (s : Step) (r : Reply (List Step)) → prefixed done (andThen r (λ l. answers (s ∷ l))) ≡ prefixed (done ++ (s ∷ [])) r
 unfolding prefixed andThen
 prefixed-more done s (answers l) = ap answers (sym (append-snoc done s l))
 prefixed-more done s (refuses number place) = refl
+prefixed-more done s (refuses12 place offset) = refl
 
 -- ---- the invariant
 
@@ -96,7 +127,7 @@ pub record Made (mode : Mode) (normalised : Bytes) (t : Table) (records : List S
 
 -- Of a normalised text, n steps stand before `at`. As long as none of them is refused and they are not too many, their records are made; once one is
 -- refused, that is the reply. The buffers are as long as ever.
-pub record Reaches (mode : Mode) (normalised : Bytes) (t : Table) (a₀ b₀ c₀ a b c : Bytes) (records : List Step) (at n number place : ℕ) : Type 0 where
+pub record Reaches (mode : Mode) (normalised : Bytes) (t : Table) (a₀ b₀ c₀ a b c : Bytes) (records : List Step) (at n number place fault : ℕ) : Type 0 where
   pub bare : Bare normalised
   pub full : length (t .steps) ≡ 64
   pub roomy : Roomy (length normalised) (length a₀) (length b₀)
@@ -106,10 +137,10 @@ pub record Reaches (mode : Mode) (normalised : Bytes) (t : Table) (a₀ b₀ c�
   pub room-c : length c ≡ length c₀
   pub walked : Passed normalised at n
   pub made : number ≡ 0 → n ≤ 64 → Made mode normalised t records at n
-  pub refused : (number ≡ 0 → ⊥) → stepsReply mode normalised ≡ refuses number place
+  pub refused : (number ≡ 0 → ⊥) → stepsReply mode normalised ≡ refusedAt number place fault
 
 pub reaches-none : (mode : Mode) (normalised : Bytes) (t : Table) (a b c : Bytes) → Bare normalised → length (t .steps) ≡ 64 → Roomy (length normalised) (length a) (length b)
-    → length normalised < length c → Reaches mode normalised t a b c a b c (t .steps) 0 0 0 0
+    → length normalised < length c → Reaches mode normalised t a b c a b c (t .steps) 0 0 0 0 0
 reaches-none mode normalised t a b c h f r k = record {
   bare = h;
   full = f;
@@ -123,8 +154,8 @@ reaches-none mode normalised t a b c h f r k = record {
   refused = λ n. absurd (n refl);
 }
 
-module _ {mode : Mode} {normalised : Bytes} {t : Table} {a₀ b₀ c₀ a b c : Bytes} {records : List Step} {at n number place : ℕ}
-    (m : Reaches mode normalised t a₀ b₀ c₀ a b c records at n number place) where
+module _ {mode : Mode} {normalised : Bytes} {t : Table} {a₀ b₀ c₀ a b c : Bytes} {records : List Step} {at n number place fault : ℕ}
+    (m : Reaches mode normalised t a₀ b₀ c₀ a b c records at n number place fault) where
   -- ---- the end
 
   module _ (f : next normalised at ≡ found.End) where
@@ -140,20 +171,20 @@ module _ {mode : Mode} {normalised : Bytes} {t : Table} {a₀ b₀ c₀ a b c : 
     unfolding prepareSteps prefixed
     all-made k = k .same ∙ rw (walk-end normalised at f) (ap answers (append-nil (k .done)))
 
-    pub reaches-end : {r : Preparing} → r ≡ answered t records n number place → r ≡ lentTo (normalReply mode normalised) t
+    pub reaches-end : {r : Preparing} → r ≡ answered t records n number place fault → r ≡ lentTo (normalReply mode normalised) t
     reaches-end e = e ∙ go (ltb 64 n) refl (eqb number 0) refl
       where
-        go : (many : Bool) → ltb 64 n ≡ many → (none : Bool) → eqb number 0 ≡ none → answered t records n number place ≡ lentTo (normalReply mode normalised) t
-        go true h none z = answered-many t records n number place (ltb-true 64 n h) ∙ lent-refused t (too-many (ltb-true 64 n h))
+        go : (many : Bool) → ltb 64 n ≡ many → (none : Bool) → eqb number 0 ≡ none → answered t records n number place fault ≡ lentTo (normalReply mode normalised) t
+        go true h none z = answered-many t records n number place fault (ltb-true 64 n h) ∙ lent-refused t (too-many (ltb-true 64 n h))
         go false h false z =
             let few = ltb-false 64 n h in
             let some = eqb-false number 0 z in
-            answered-refused t records n number place few some ∙ lent-refused t (by-steps few ∙ m .refused some)
+            answered-refused t records n number place fault few some ∙ lent-refused-at t number place fault (by-steps few ∙ m .refused some)
         go false h true z =
             let few = ltb-false 64 n h in
             let zero = eqb-true number 0 z in
             let k = m .made zero few in
-            answered-lent t records n number place few zero (m .full) (by-steps few ∙ all-made k) (k .count) (k .stored)
+            answered-lent t records n number place fault few zero (m .full) (by-steps few ∙ all-made k) (k .count) (k .stored)
 
   -- ---- a step
 
@@ -167,7 +198,7 @@ module _ {mode : Mode} {normalised : Bytes} {t : Table} {a₀ b₀ c₀ a b c : 
 
     module _ (r : Line) (c′ : Bytes) (w : IsLine here c 0 r c′) where
       -- it is modifiers alone
-      pub reaches-only : {p : Preparing} → r ≡ line-is.Modifiers → p ≡ refusing 6 (n + 1) t → p ≡ lentTo (normalReply mode normalised) t
+      pub reaches-only : {p : Preparing} → r ≡ line-is.Modifiers → p ≡ refusing 6 (n + 1) 0 t → p ≡ lentTo (normalReply mode normalised) t
       unfolding normalReply andThen
       reaches-only e h = h ∙ lent-refused t (rw (passed-only (m .walked) f (rw e at w)))
 
@@ -181,7 +212,7 @@ module _ {mode : Mode} {normalised : Bytes} {t : Table} {a₀ b₀ c₀ a b c : 
 
       -- an earlier step is refused, or there are too many: it is passed over
       module _ (kc : length c′ ≡ length c) where
-        pub reaches-refused : (number ≡ 0 → ⊥) → Reaches mode normalised t a₀ b₀ c₀ a b c′ records (then .at) (n + 1) number place
+        pub reaches-refused : (number ≡ 0 → ⊥) → Reaches mode normalised t a₀ b₀ c₀ a b c′ records (then .at) (n + 1) number place fault
         reaches-refused z = record {
           bare = m .bare;
           full = m .full;
@@ -195,7 +226,7 @@ module _ {mode : Mode} {normalised : Bytes} {t : Table} {a₀ b₀ c₀ a b c : 
           refused = m .refused;
         }
 
-        pub reaches-many : 64 < n + 1 → Reaches mode normalised t a₀ b₀ c₀ a b c′ records (then .at) (n + 1) number place
+        pub reaches-many : 64 < n + 1 → Reaches mode normalised t a₀ b₀ c₀ a b c′ records (then .at) (n + 1) number place fault
         reaches-many h = record {
           bare = m .bare;
           full = m .full;
@@ -230,16 +261,21 @@ module _ {mode : Mode} {normalised : Bytes} {t : Table} {a₀ b₀ c₀ a b c : 
         judged-is : replyIs j ≡ stepReply mode (stepText here)
         judged-is = g ∙ ap (stepReply mode) (line-front (stepText here) (l .wrote))
 
-        next-reply : stepsReply mode normalised ≡ prefixed (so-far .done) (andThen (atStep (suc n) (replyIs j)) (λ s. andThen rest (λ l. answers (s ∷ l))))
+        next-reply : stepsReply mode normalised ≡ prefixed (so-far .done) (andThen (atPlace (suc n) (replyIs j)) (λ s. andThen rest (λ l. answers (s ∷ l))))
         unfolding prepareSteps
         next-reply = so-far .same ∙ rw (walk-step normalised at from to then f, step-at mode (suc n) (stepText here), ← judged-is)
 
-        now-refused : (j .number ≡ 0 → ⊥) → stepsReply mode normalised ≡ refuses (j .number) (n + 1)
-        now-refused h = next-reply ∙ rw (refusal-is j h) (unfold atStep andThen prefixed in ap (λ (k : ℕ). refuses (j .number) k) (sym (add-one n)))
+        now-refused : (j .number ≡ 0 → ⊥) → stepsReply mode normalised ≡ refusedAt (j .number) (n + 1) (j .at)
+        now-refused h = next-reply ∙ rw (refusal-is j h, refused-there (j .number) (suc n) (j .at), add-one n) (go (eqb (j .number) 12))
+          where
+            go : (b : Bool) → prefixed (so-far .done) (andThen (cond b (refuses12 (suc n) (j .at)) (refuses (j .number) (suc n))) (λ s. andThen rest (λ l. answers (s ∷ l))))
+                ≡ cond b (refuses12 (suc n) (j .at)) (refuses (j .number) (suc n))
+            go true = unfold andThen prefixed in refl
+            go false = unfold andThen prefixed in refl
 
-        more-reply : prefixed (so-far .done) (andThen (atStep (suc n) (answers (j .step))) (λ s. andThen rest (λ l. answers (s ∷ l))))
+        more-reply : prefixed (so-far .done) (andThen (atPlace (suc n) (answers (j .step))) (λ s. andThen rest (λ l. answers (s ∷ l))))
             ≡ prefixed (so-far .done ++ (j .step ∷ [])) rest
-        unfolding atStep andThen
+        unfolding atPlace andThen
         more-reply = prefixed-more (so-far .done) (j .step) rest
 
         now-made : j .number ≡ 0 → Made mode normalised t (set records n (j .step)) (then .at) (n + 1)
@@ -258,7 +294,7 @@ module _ {mode : Mode} {normalised : Bytes} {t : Table} {a₀ b₀ c₀ a b c : 
             }
 
         pub reaches-more : {a′ b′ : Bytes} → length a′ ≡ length a → length b′ ≡ length b → length c′ ≡ length c
-            → Reaches mode normalised t a₀ b₀ c₀ a′ b′ c′ (set records n (j .step)) (then .at) (n + 1) (j .number) (n + 1)
+            → Reaches mode normalised t a₀ b₀ c₀ a′ b′ c′ (set records n (j .step)) (then .at) (n + 1) (j .number) (n + 1) (j .at)
         reaches-more ka kb kc = record {
           bare = m .bare;
           full = m .full;

@@ -1,39 +1,48 @@
--- One step: from its text to its parameters, and what is refused on the way.
+-- One step: from its text to its parameters, and what is refused on the way. Its text is written out as it is cut, leading modifiers turned: its words
+-- there are the turned words of the text.
 use mathlib.Core.Path.{_≡_, refl, sym, ap, _∙_}
-use Prim.Native.Nat.{ℕ, _+_, _≤_, _<_, min}
-use mathlib.Core.Bool.{Bool, true, false, and-false, true≢false}
+use Prim.Native.Nat.{ℕ, suc, _+_, _-_, _≤_, _<_, min}
+use mathlib.Core.Bool.{Bool, true, false, cond, and-false, true≢false}
 use mathlib.Core.List.{List, [], _∷_, _++_}
 use native.Mathlib.Nat.{le-min}
 use native.Mathlib.Omega.{arith}
 use borrow.Author.Tests.{lt-ltb, le-ltb}
-use lib.ListN.{length, take, length-map}
-use lib.Seq.{length-take-le, take-at}
+use lib.ListN.{length, take, length-map, length-append}
+use lib.Seq.{take-at}
+use lib.Dec.{ltb}
 use Rattle.rules.specs.Text.Ascii.{ascii, is}
 use Rattle.rules.specs.Text.Lists.{anyOf, allOf, nonEmpty}
-use Rattle.rules.specs.Text.Bytes.{Bytes, white, same, trimmed, words}
+use Rattle.rules.specs.Text.Bytes.{Bytes, Words, white, same, trimmed, words, joined}
 use Rattle.rules.specs.Text.Normal.{normal}
-use Rattle.rules.specs.Text.Refusal.{Reply, refuses, andThen}
-use Rattle.rules.specs.Text.Split.{modifier, onlyModifiers, leading, following, turned}
-use Rattle.rules.specs.Text.Parameters.{name, elements, enteredAll, tableOf, stepTable, textTable, parametersOf}
+use Rattle.rules.specs.Text.Refusal.{Reply, answers, refuses, andThen}
+use Rattle.rules.specs.Text.Split.{modifier, onlyModifiers, leading, following, turned, stepText, line}
+use Rattle.rules.specs.Text.Parameters.{name, elements, enteredAllBy, tableOf, placedElements, placedTable, stepTable, textTable}
 use Rattle.rules.specs.Operators.Table.{wordingOf, names, nameIn, nameOf}
 use Rattle.rules.specs.Operators.Arguments.{valueOf}
-use Rattle.rules.specs.Pipeline.Prepare.{named, judged10, judged}
+use Rattle.rules.specs.Pipeline.Prepare.{named, judged10, judged, offsetOf, atStep}
 use Rattle.rules.specs.declared.Mode.{Mode}
 use Rattle.rules.specs.declared.Name.{Name}
 use Rattle.rules.specs.declared.Named.the-variants.{Not}
 use Rattle.rules.specs.declared.Step.{Step}
-use Rattle.laws_lists.specs.Tests.{or-left, or-right, same-is}
+use Rattle.laws_lists.specs.Tests.{and-left, and-right, or-left, or-right, same-is}
 use Rattle.laws_text.specs.Sizes.{weight, trimmed-weight}
+use Rattle.laws_text.specs.Table.{given, given-table}
 use Rattle.text.specs.Wrote.{Wrote, Holds}
 use Rattle.text.proofs.Wrote.{wrote-front}
 use Rattle.text.specs.Runs.{Run}
 use Rattle.text.proofs.RunEnd.{other, words-none, words-blank}
-use Rattle.parameters.specs.Parts.{Entered, partOf, held, listed}
+use Rattle.split.specs.Lines.{HasLine, IsLine}
+use Rattle.split.specs.declared.step.Line.{Line}
+use Rattle.split.specs.declared.step.Line.the-variants as line-is
+use Rattle.split.proofs.Lengths.{line-within}
+use Rattle.parameters.specs.Parts.{Entered, placedOf, held, placedIn}
 use Rattle.parameters.proofs.Places.{held-length}
-use Rattle.parameters.specs.Elements.{Spelt, Tabled}
+use Rattle.parameters.specs.Elements.{Spelt, placedAll, Cut}
 use Rattle.parameters.proofs.Cut.{run-any, run-none}
-use Rattle.parameters.proofs.Tabled.{spelt-fits}
-use Rattle.prepare.specs.StepReply.{Roomy, stepReply}
+use Rattle.parameters.proofs.Spelt.{spelled, spelt-behind}
+use Rattle.parameters.proofs.Spots.{is-word, words-whole, words-joined}
+use Rattle.prepare.specs.StepReply.{Roomy, placedReply, cutReply, textReply, stepReply}
+use Rattle.prepare.proofs.StepByStep.{line-end, line-front}
 use Rattle.prepare.proofs.StepWeight.{normal-fits}
 
 -- ---- no name has a separator
@@ -68,67 +77,154 @@ nothing-named : (mode : Mode) → judged mode [] ≡ refuses 10 0
 unfolding judged judged10 named valueOf
 nothing-named mode = refl
 
--- ---- a normalised text, the first n bytes of s
+-- ---- words in another order
 
-module _ (mode : Mode) {s : Bytes} {n : ℕ} (z : Spelt s n) {e : ℕ} (r : Run (other (is "|")) (take n s) 0 e) where
-  size : length (take n s) ≡ n
-  size = length-take-le n s (spelt-fits z)
+abbrev is-words : Words → Type 0
+is-words ws = allOf is-word ws ≡ true
 
-  pub text-parted : {x : Reply Step} → e < n → x ≡ refuses 10 0 → x ≡ andThen (textTable (take n s)) (judged mode)
-  unfolding textTable andThen
+append-words : (ws us : Words) → is-words ws → is-words us → is-words (ws ++ us)
+unfolding allOf
+append-words [] us h k = k
+append-words (w ∷ ws) us h k = rw (and-left (is-word w) (allOf is-word ws) h) (append-words ws us (and-right (is-word w) (allOf is-word ws) h) k)
+
+leading-words : (ws : Words) → is-words ws → is-words (leading ws)
+unfolding allOf leading
+leading-words [] h = refl
+leading-words (w ∷ ws) h = go (modifier w) (leading-words ws (and-right (is-word w) (allOf is-word ws) h))
+  where
+    go : (b : Bool) → is-words (leading ws) → is-words (cond b (w ∷ leading ws) [])
+    go true k = rw (and-left (is-word w) (allOf is-word ws) h) k
+    go false k = refl
+
+following-words : (ws : Words) → is-words ws → is-words (following ws)
+unfolding allOf following
+following-words [] h = refl
+following-words (w ∷ ws) h = go (modifier w) (following-words ws (and-right (is-word w) (allOf is-word ws) h))
+  where
+    go : (b : Bool) → is-words (following ws) → is-words (cond b (following ws) (w ∷ ws))
+    go true k = k
+    go false k = h
+
+-- the words of a step's text as it is cut
+pub turned-words : (t : Bytes) → words (stepText (words t)) ≡ turned (words t)
+unfolding stepText turned
+turned-words t =
+    let ws = words t in
+    words-joined (following ws ++ leading ws) (append-words (following ws) (leading ws) (following-words ws (words-whole t)) (leading-words ws (words-whole t)))
+
+-- ---- a normalised text
+
+module _ (mode : Mode) {s : Bytes} {e : ℕ} (r : Run (other (is "|")) s 0 e) where
+  pub text-parted : {x : Reply Step} → e < length s → x ≡ refuses 10 0 → x ≡ textReply mode s
+  unfolding textReply textTable andThen atStep
   text-parted h f =
-      let a : anyOf (is "|") (take n s) ≡ true = run-any (is "|") r (omega (arith, size)) in
-      f ∙ sym (rw a (unnamed mode (take n s) (no-name (take n s) a)))
+      let a : anyOf (is "|") s ≡ true = run-any (is "|") r h in
+      f ∙ sym (rw (a, unnamed mode s (no-name s a)))
 
-  module _ (h : n ≤ e) where
-    one-step : textTable (take n s) ≡ stepTable (words (take n s))
+  module _ (h : length s ≤ e) where
+    one-step : textTable s ≡ stepTable (words s)
     unfolding textTable
-    one-step = let a : anyOf (is "|") (take n s) ≡ false = run-none (is "|") r (omega (arith, size)) in rw a
+    one-step = let a : anyOf (is "|") s ≡ false = run-none (is "|") r h in rw a
 
-    pub text-blank : {x : Reply Step} → allOf white (take n s) ≡ true → x ≡ refuses 10 0 → x ≡ andThen (textTable (take n s)) (judged mode)
-    unfolding andThen stepTable tableOf turned following leading elements enteredAll onlyModifiers nonEmpty
-    text-blank w f = f ∙ sym (rw (one-step, words-none (take n s) w) (nothing-named mode))
+    pub text-blank : {x : Reply Step} → allOf white s ≡ true → x ≡ refuses 10 0 → x ≡ textReply mode s
+    unfolding textReply andThen stepTable tableOf turned following leading elements enteredAllBy onlyModifiers nonEmpty atStep
+    text-blank w f = f ∙ sym (rw (one-step, words-none s w, nothing-named mode))
 
-    module _ (w : allOf white (take n s) ≡ false) where
-      pub text-modifiers : {x : Reply Step} → allOf modifier (words (take n s)) ≡ true → x ≡ refuses 6 0 → x ≡ andThen (textTable (take n s)) (judged mode)
-      unfolding andThen stepTable onlyModifiers
-      text-modifiers m f = f ∙ sym (rw (one-step, words-blank (take n s), w, m))
+    module _ (w : allOf white s ≡ false) where
+      pub text-modifiers : {x : Reply Step} → allOf modifier (words s) ≡ true → x ≡ refuses 6 0 → x ≡ textReply mode s
+      unfolding textReply andThen stepTable onlyModifiers atStep
+      text-modifiers m f = f ∙ sym (rw (one-step, words-blank s, w, m))
 
-      module _ (m : allOf modifier (words (take n s)) ≡ false) where
-        other-step : onlyModifiers (words (take n s)) ≡ false
+      module _ (m : allOf modifier (words s) ≡ false) where
+        other-step : onlyModifiers (words s) ≡ false
         unfolding onlyModifiers
-        other-step = rw m (and-false (nonEmpty (words (take n s))))
+        other-step = rw m (and-false (nonEmpty (words s)))
 
-        pub text-full : {x : Reply Step} → 32 < length (tableOf (words (take n s))) → x ≡ refuses 9 0 → x ≡ andThen (textTable (take n s)) (judged mode)
-        unfolding andThen stepTable
-        text-full h f = f ∙ sym (rw (one-step, other-step, lt-ltb 32 (length (tableOf (words (take n s)))) h))
+        -- what its words as they are cut give
+        pub text-cut : {x : Reply Step} {us : Words} → us ≡ turned (words s) → x ≡ cutReply mode us → x ≡ textReply mode s
+        unfolding textReply stepTable cutReply
+        text-cut {x} {us} u f = f ∙ ap (cutReply mode) u ∙ sym whole
+          where
+            ws : Words
+            ws = words s
 
-        pub text-table : {t : Entered} {x : Reply Step} → Tabled s (words (take n s)) t → t .full ≡ false → x ≡ judged mode (listed s (t .table)) → x ≡ andThen (textTable (take n s)) (judged mode)
-        unfolding andThen stepTable
-        text-table {t} k g f =
-            let l : length (tableOf (words (take n s))) ≤ 32 = rw (← k .table g) (omega (arith, length-map (held (t .table)) (partOf s), held-length (k .good g), k .good g .fits)) in
-            f ∙ rw (k .table g) (sym (rw (one-step, other-step, le-ltb 32 (length (tableOf (words (take n s)))) l)))
+            many : length (placedTable ws) ≡ length (tableOf ws)
+            many = sym (length-map (placedTable ws) given) ∙ ap length (given-table ws)
+
+            go : (b : Bool) → atStep 0 (offsetOf ws) (andThen (cond b (refuses 9 0) (answers (tableOf ws))) (judged mode)) ≡ cond b (refuses 9 0) (placedReply mode (placedTable ws))
+            go true = unfold atStep andThen in refl
+            go false = unfold andThen placedReply offsetOf in rw (given-table ws)
+
+            whole : textReply mode s ≡ cutReply mode (turned ws)
+            whole =
+                rw (one-step, other-step)
+                (ap (λ (k : ℕ). atStep 0 (offsetOf ws) (andThen (cond (ltb 32 k) (refuses 9 0) (answers (tableOf ws))) (judged mode))) (sym many)
+                ∙ go (ltb 32 (length (placedTable ws))) ∙ unfold placedTable in refl)
+
+-- ---- as it stands in a buffer, with `_nametrue` behind it
+
+module _ (mode : Mode) {s : Bytes} (n : ℕ) {t : Entered} (k : Cut s (words (take n s)) t) where
+  pub cut-full : {x : Reply Step} → t .full ≡ true → x ≡ refuses 9 0 → x ≡ cutReply mode (words (take n s))
+  unfolding cutReply
+  cut-full h f = f ∙ sym (rw (lt-ltb 32 _ (k .no-room h)))
+
+  pub cut-table : {x : Reply Step} → t .full ≡ false → x ≡ placedReply mode (placedIn s (t .table)) → x ≡ cutReply mode (words (take n s))
+  unfolding cutReply
+  cut-table h f =
+      let l : length (placedAll (placedElements (words (take n s))) []) ≤ 32 =
+      rw (← k .table h) (omega (arith, length-map (held (t .table)) (placedOf s), held-length (k .good h), k .good h .fits)) in
+      f ∙ rw (k .table h) (sym (rw (le-ltb 32 _ l)))
+
+pub line-room : (t : Bytes) {b : ℕ} → length t + 9 ≤ b → 0 + length (line (stepText (words t))) ≤ b
+line-room t h = omega (arith, line-within t, h)
+
+-- what `line_at` leaves, by what it returned
+pub has-line : (ws : Words) (b₀ : Bytes) (r : Line) (b₁ : Bytes) {end : ℕ} → IsLine ws b₀ 0 r b₁ → r ≡ line-is.To end → HasLine ws b₀ 0 end b₁
+has-line ws b₀ r b₁ l e = rw e at l
+
+pub no-line : (ws : Words) (b₀ : Bytes) (r : Line) (b₁ : Bytes) → IsLine ws b₀ 0 r b₁ → r ≡ line-is.Modifiers → allOf modifier ws ≡ true
+no-line ws b₀ r b₁ l e = rw e at l
+
+-- a step's line in a buffer, and `_nametrue` in the place of its newline
+module _ (t : Bytes) {b₀ b₁ : Bytes} {end : ℕ} (l : HasLine (words t) b₀ 0 end b₁) where
+  text-length : end ≡ suc (length (stepText (words t)))
+  text-length = line-end (stepText (words t)) (l .wrote)
+
+  -- there is room for it
+  pub behind-room : {x : ℕ} → length t + 9 ≤ x → length b₁ ≡ x → end - 1 + 9 ≤ length b₁
+  behind-room h e = unfold line ascii in omega (arith, h, e, line-within t, text-length, length-append (stepText (words t)) (10 ∷ []))
+
+  module _ {m : ℕ} {b₂ : Bytes} (w : Wrote (take (end - 1) b₁ ++ spelled) b₁ m b₂) where
+    pub cut-front : take m b₂ ≡ stepText (words t) ++ spelled
+    cut-front = wrote-front w ∙ ap (λ (u : Bytes). u ++ spelled) (line-front (stepText (words t)) (l .wrote))
+
+    pub cut-spelt : Spelt (take m b₂) (end - 1)
+    cut-spelt = rw cut-front (spelt-behind (stepText (words t)) (end - 1) (omega (arith, text-length)))
+
+    pub cut-short : length t ≤ 4096 → length (take m b₂) ≤ 4105
+    cut-short h = unfold line ascii in omega (arith, h, ap length cut-front, length-append (stepText (words t)) spelled, line-within t, length-append (stepText (words t)) (10 ∷ []))
+
+    cut-text : take (end - 1) (take m b₂) ≡ stepText (words t)
+    cut-text = ap (take (end - 1)) cut-front ∙ take-at (stepText (words t)) spelled (end - 1) (omega (arith, text-length))
+
+    -- its words are the text's, turned
+    pub cut-words : words (take (end - 1) (take m b₂)) ≡ turned (words t)
+    cut-words = ap words cut-text ∙ turned-words t
+
+    pub cut-joined : take (end - 1) (take m b₂) ≡ joined (words (take (end - 1) (take m b₂)))
+    cut-joined = cut-text ∙ unfold stepText in ap joined (sym cut-words)
 
 -- ---- a step's text, normalised again
-
--- `_nametrue`
-abbrev spelled : Bytes
-spelled = 95 ∷ 110 ∷ 97 ∷ 109 ∷ 101 ∷ 116 ∷ 114 ∷ 117 ∷ 101 ∷ []
 
 pub trimmed-room : (t : Bytes) {x : ℕ} → weight t ≤ x → weight (trimmed white t) ≤ x
 trimmed-room t h = omega (arith, trimmed-weight white t)
 
-module _ (t : Bytes) {n : ℕ} {a₁ : Bytes} (w : Holds (normal t) n a₁) where
-  pub words-room : {x y : ℕ} → weight t + 9 ≤ x → y ≡ x → n + 9 ≤ y
-  words-room h e = omega (arith, w .count, normal-fits t)
+module _ (t : Bytes) {n : ℕ} {a : Bytes} (w : Holds (normal t) n a) where
+  pub normal-room : {x y : ℕ} → weight t ≤ 4096 → weight t + 9 ≤ x → y ≡ x → (length (take n a) ≤ 4096) × (length (take n a) + 9 ≤ y)
+  normal-room h l e = (omega (arith, ap length (wrote-front w), normal-fits t, h), omega (arith, ap length (wrote-front w), normal-fits t, l, e))
 
-  pub text-so : (mode : Mode) {m : ℕ} {a₂ : Bytes} {x : Reply Step} → Wrote (take n a₁ ++ spelled) a₁ m a₂
-      → x ≡ andThen (textTable (take n (take m a₂))) (judged mode) → x ≡ andThen (parametersOf t) (judged mode)
-  unfolding parametersOf
-  text-so mode {m} {a₂} v f =
-      let whole : take m a₂ ≡ normal t ++ spelled = wrote-front v ∙ ap (λ (u : Bytes). u ++ spelled) (wrote-front w) in
-      let g : take n (take m a₂) ≡ normal t = ap (take n) whole ∙ take-at (normal t) spelled n (sym (w .count)) in
-      f ∙ ap (λ (u : Bytes). andThen (textTable u) (judged mode)) g
+  pub text-so : (mode : Mode) {x : Reply Step} → x ≡ textReply mode (take n a) → x ≡ textReply mode (normal t)
+  text-so mode h = h ∙ ap (textReply mode) (wrote-front w)
 
 -- ---- a step's text of any length
 
@@ -137,12 +233,12 @@ module _ (t : Bytes) where
   unfolding stepReply
   step-long mode h f = f ∙ sym (rw (lt-ltb 4096 (length t) h))
 
-  pub step-so : (mode : Mode) {x : Reply Step} → length t ≤ 4096 → x ≡ andThen (parametersOf t) (judged mode) → x ≡ stepReply mode t
+  pub step-so : (mode : Mode) {x : Reply Step} → length t ≤ 4096 → x ≡ textReply mode (normal t) → x ≡ stepReply mode t
   unfolding stepReply
   step-so mode h f = f ∙ sym (rw (le-ltb 4096 (length t) h))
 
   -- its weight is its length, so its normal form has room
-  pub step-room : {a b : ℕ} → weight t ≤ length t → length t ≤ 4096 → Roomy (length t) a b → (weight t + 9 ≤ a) × (weight t ≤ b)
+  pub step-room : {a b : ℕ} → weight t ≤ length t → length t ≤ 4096 → Roomy (length t) a b → (weight t ≤ 4096) × ((weight t ≤ a) × (weight t + 9 ≤ b))
   step-room h l r =
       let k : weight t ≤ min (length t) 4096 = le-min h (omega arith) in
-      (omega (arith, k, r .first), omega (arith, k, r .second))
+      (omega (arith, h, l), (omega (arith, k, r .first), omega (arith, k, r .second)))

@@ -40,7 +40,7 @@ module _ (text : Bytes) (t : Table) where
       go false true e = absurd (n e)
       go false false e = rw e
 
-  pub prepare-first : (mode : Mode) {number : ℕ} {r : Preparing} → RefusedFirst text number → (number ≡ 0 → ⊥) → r ≡ refusing number 0 t → r ≡ preparing mode text t
+  pub prepare-first : (mode : Mode) {number : ℕ} {r : Preparing} → RefusedFirst text number → (number ≡ 0 → ⊥) → r ≡ refusing number 0 0 t → r ≡ preparing mode text t
   unfolding preparing
   prepare-first mode f n h = h ∙ lent-refused t (first-is mode f n)
 
@@ -54,9 +54,9 @@ module _ (text : Bytes) (t : Table) where
     pub normal-room : {x y : ℕ} → 10 * length text < x → y ≡ x → length (take n a) < y
     normal-room h e = omega (arith, normal-short)
 
-    pub normal-roomy : {x y z : ℕ} → min (10 * length text) 4096 + 9 ≤ x → 10 * length text ≤ y → z ≡ y → Roomy (length (take n a)) x z
+    pub normal-roomy : {x y z : ℕ} → min (10 * length text) 4096 + 9 ≤ x → 10 * length text ≤ y → z ≡ y → Roomy (length (take n a)) z x
     normal-roomy {x} {y} h l e =
-        roomy-for (length (take n a)) normal-short refl e (record { first = h; second = omega (arith, l, min-le-left (10 * length text) 4096) })
+        roomy-for (length (take n a)) normal-short e refl (record { first = omega (arith, l, min-le-left (10 * length text) 4096); second = h })
 
     pub prepare-so : (mode : Mode) {r : Preparing} → length text ≤ 4096 → inDomain text ≡ true → r ≡ lentTo (normalReply mode (take n a)) t
         → r ≡ preparing mode text t

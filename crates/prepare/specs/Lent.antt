@@ -48,7 +48,7 @@ firstNamed r n steps = map (inReading r) (take n steps) ++ drop n steps
 -- those that an answer counts
 unfoldable pub answerNamed : Reading → Prepared → Table → Preparing
 answerNamed r (prepared-is.Steps n) t = record { answer = prepared-is.Steps n; table = record { steps = firstNamed r n (t .steps); n = t .n } }
-answerNamed r (prepared-is.Refused number place) t = record { answer = prepared-is.Refused number place; table = t }
+answerNamed r (prepared-is.Refused number place offset) t = record { answer = prepared-is.Refused number place offset; table = t }
 
 -- ---- a normalised text
 
@@ -61,14 +61,18 @@ normalReply mode normalised = andThen (splitSteps (stepsOf normalised)) (prepare
 
 -- ---- as the code has them
 
--- a refusal, which leaves the table as it was
-abbrev pub refusing : ℕ → ℕ → Table → Preparing
-refusing number place t = record { answer = prepared-is.Refused number place; table = t }
+-- the byte of a fault, if the refusal is 12
+unfoldable pub offsetIf : ℕ → ℕ → ℕ
+offsetIf number at = cond (eqb number 12) at 0
 
--- the answer after n steps, by the first refusal of one of them, which is 0 where there is none
-unfoldable pub answered : Table → List Step → ℕ → ℕ → ℕ → Preparing
-answered t steps n number place =
-    cond (ltb 64 n) (refusing 8 0 t)
-    (cond (not (eqb number 0)) (refusing number place t)
-    (cond (ltb (t .n) n) (refusing 7 0 t)
+-- a refusal, which leaves the table as it was
+abbrev pub refusing : ℕ → ℕ → ℕ → Table → Preparing
+refusing number place offset t = record { answer = prepared-is.Refused number place offset; table = t }
+
+-- the answer after n steps, by the first refusal of one of them, which is 0 where there is none, and the byte of its fault
+unfoldable pub answered : Table → List Step → ℕ → ℕ → ℕ → ℕ → Preparing
+answered t steps n number place at =
+    cond (ltb 64 n) (refusing 8 0 0 t)
+    (cond (not (eqb number 0)) (refusing number place (offsetIf number at) t)
+    (cond (ltb (t .n) n) (refusing 7 0 0 t)
     (record { answer = prepared-is.Steps n; table = record { steps = steps; n = t .n } })))

@@ -7,7 +7,7 @@ use mathlib.Core.List.{List}
 use lib.ListN.{length}
 use Rattle.rules.specs.Text.Lists.{isNone}
 use Rattle.rules.specs.Text.Bytes.{Bytes}
-use Rattle.rules.specs.Text.Parameters.{Parameter}
+use Rattle.rules.specs.Text.Parameters.{Parameter, Placed}
 use Rattle.rules.specs.Text.Reader.{part}
 use Rattle.rules.specs.Operators.Arguments.{valueOf}
 use Rattle.parameters.specs.Parts as parts
@@ -19,6 +19,10 @@ IsTable s row n = parts.Good s (parts.tableIn row n)
 
 abbrev pub paramsIn : Bytes → List ℕ → ℕ → List Parameter
 paramsIn s row n = parts.listed s (parts.tableIn row n)
+
+-- the same in their places
+abbrev pub placedIn : Bytes → List ℕ → ℕ → List Placed
+placedIn s row n = parts.placedIn s (parts.tableIn row n)
 
 -- is the key given?
 unfoldable pub given : Bytes → List Parameter → Bool

@@ -7,7 +7,7 @@ use mathlib.Core.List.{List, [], _∷_, _++_}
 use lib.Dec.{eqb}
 use lib.IntN.{ℤ, pos}
 use Rattle.rules.specs.Text.Ascii.{ascii}
-use Rattle.rules.specs.Text.Refusal.{Reply, answers, refuses}
+use Rattle.rules.specs.Text.Refusal.{Reply, answers, refuses, refuses12}
 use Rattle.rules.specs.Text.Parameters.{Parameter}
 use Rattle.rules.specs.Operators.Table.{operatorOf, isArgs}
 use Rattle.rules.specs.Pipeline.Record.{stepWith}
@@ -19,9 +19,13 @@ use Rattle.prepare.specs.declared.own.Judged.{Judged}
 use Rattle.prepare.specs.declared.series.Args.{Args}
 use Rattle.prepare.specs.declared.series.Numbers.{Numbers}
 
+-- a refusal by its number, at a place; where it is 12, at a byte
+abbrev pub refusedAt : {A : Type 0} → ℕ → ℕ → ℕ → Reply A
+refusedAt number place at = cond (eqb number 12) (refuses12 place at) (refuses number place)
+
 -- what judging gives, as a reply
 unfoldable pub replyIs : Judged → Reply Step
-replyIs r = cond (eqb (r .number) 0) (answers (r .step)) (refuses (r .number) 0)
+replyIs r = cond (eqb (r .number) 0) (answers (r .step)) (refusedAt (r .number) 0 (r .at))
 
 -- the record of the operator of that number
 unfoldable pub recordAt : ℕ → List Parameter → List ℤ → Step

@@ -1,6 +1,6 @@
 -- What reading digits and series gives, in the words of the code.
 use mathlib.Core.Path.{_≡_}
-use Prim.Native.Nat.{ℕ, _-_, _≤_}
+use Prim.Native.Nat.{ℕ, _+_, _-_, _≤_}
 use mathlib.Core.Bool.{Bool, true, cond, _&&_}
 use mathlib.Core.Option.{none, some}
 use mathlib.Core.List.{List}
@@ -9,7 +9,7 @@ use lib.Dec.{ltb}
 use lib.IntN.{ℤ, pos}
 use Rattle.rules.specs.Text.Lists.{isNone}
 use Rattle.rules.specs.Text.Bytes.{Bytes}
-use Rattle.rules.specs.Text.Decimal.{digitsTo, spelled, pieces, series}
+use Rattle.rules.specs.Text.Decimal.{digitsTo, spelled, pieces, series, brokenFrom}
 use Rattle.rules.specs.Operators.Arguments.{wholes}
 use Rattle.prepare.specs.declared.decimal.Spelled.{Spelled}
 use Rattle.prepare.specs.declared.decimal.Spelled.the-variants.{Are, Not}
@@ -38,14 +38,16 @@ pub record Good (a : Args) : Type 0 where
 unfoldable pub lowest : Bytes → ℕ
 lowest v = cond (isNone (series v)) 12 (cond (ltb 8 (length (pieces v))) 13 14)
 
--- What reading a series gives. Where each element is a number and there are at most eight, its numbers are arguments if they are
+-- What reading a series gives, whose first byte is byte `from` of the step's text: where it is refused 12, the byte at which the first
+-- element begins that breaks decimal form. Where each element is a number and there are at most eight, its numbers are arguments if they are
 -- whole and keep a rule.
-pub record Reads (v : Bytes) (r : Numbers) : Type 0 where
+pub record Reads (v : Bytes) (from : ℕ) (r : Numbers) : Type 0 where
   pub number : r .number ≡ lowest v
+  pub at : r .number ≡ 12 → r .at ≡ from + brokenFrom (pieces v)
   pub good : r .number ≡ 14 → Good (r .args)
   pub args : r .number ≡ 14 → (rule : List ℤ → Bool)
       → wholes rule (series v) ≡ cond ((r .whole) && rule (argsOf (r .args))) (some (argsOf (r .args))) none
 
 -- no numbers at all
 abbrev pub noNumbers : Numbers
-noNumbers = record { number = 14; whole = true; args = record { list = replicate 8 (pos 0); n = 0 } }
+noNumbers = record { number = 14; at = 0; whole = true; args = record { list = replicate 8 (pos 0); n = 0 } }

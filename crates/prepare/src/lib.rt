@@ -26,7 +26,7 @@ ghost use Prim.Native.Nat.{_+_, _*_, _<_, _≤_, min};
 ghost use lib.ListN.{length};
 ghost use Rattle.rules.specs.Text.Bytes.{inDomain};
 ghost use Rattle.prepare.specs.StepReply.{Bare, Roomy};
-ghost use Rattle.prepare.specs.Lent.{normalReply, lentTo, preparing, preparingAs, refusing, answered, firstNamed};
+ghost use Rattle.prepare.specs.Lent.{normalReply, lentTo, preparing, preparingAs, offsetIf, refusing, answered, firstNamed};
 
 // A text of so few bytes, ten times as long, has room in 1,024, in 4,096, or in 16,384, and one to spare.
 const FEW: usize = 102;
@@ -42,31 +42,49 @@ pub struct Preparing {
 }
 
 // A refusal, which leaves the table as it was.
-fn refusing(number: u8, place: usize, table: Table) -> Preparing
-    ensures { λ r. ⌜ r ≡ refusing number place table ⌝ }
+fn refusing(number: u8, place: usize, offset: usize, table: Table) -> Preparing
+    ensures { λ r. ⌜ r ≡ refusing number place offset table ⌝ }
 {
     Preparing {
         answer: Prepared::Refused {
             number: number,
             place: place,
+            offset: offset,
         },
         table: table,
     }
 }
 
+// "12 gains the offset": the byte of a fault, or 0 for any other number.
+fn offset_of(number: u8, at: usize) -> usize
+    ensures { λ r. ⌜ r ≡ offsetIf number at ⌝ }
+{
+    if number == 12 {
+        return at;
+    }
+    0
+}
+
 // The answer once all n steps are read: 8; the first refusal of one of them, if its number is not 0; 7; or their records in front of the
 // table's.
-fn answer_of(table: Table, steps: [Step; 64], n: usize, number: u8, place: usize) -> Preparing
-    ensures { λ r. ⌜ r ≡ answered table steps n number place ⌝ }
+fn answer_of(
+    table: Table,
+    steps: [Step; 64],
+    n: usize,
+    number: u8,
+    place: usize,
+    at: usize,
+) -> Preparing
+    ensures { λ r. ⌜ r ≡ answered table steps n number place at ⌝ }
 {
     if 64 < n {
-        return refusing(8, 0, table);
+        return refusing(8, 0, 0, table);
     }
     if number != 0 {
-        return refusing(number, place, table);
+        return refusing(number, place, offset_of(number, at), table);
     }
     if table.n < n {
-        return refusing(7, 0, table);
+        return refusing(7, 0, 0, table);
     }
     Preparing {
         answer: Prepared::Steps(n),
@@ -98,6 +116,7 @@ fn prepare_steps(
     let mut n = 0;
     let mut number = 0;
     let mut place = 0;
+    let mut fault = 0;
     loop {
         let found = next_from(normal, at);
         let Found::Step { from, to, then } = found else {
@@ -108,7 +127,7 @@ fn prepare_steps(
         at = then.at;
         let line = line_at(&normal[from..to], c, 0);
         let Line::To(end) = line else {
-            return refusing(6, n, table);
+            return refusing(6, n, 0, table);
         };
         if number != 0 {
             continue;
@@ -121,8 +140,9 @@ fn prepare_steps(
         steps[i] = step;
         number = judged.number;
         place = n;
+        fault = judged.at;
     }
-    answer_of(table, steps, n, number, place)
+    answer_of(table, steps, n, number, place, fault)
 }
 
 // The answer for a text that is neither too long nor outside the domain; a, b, c and d are room to work in.
@@ -145,7 +165,7 @@ fn answer(
     ensures { λ r. ⌜ r ≡ preparing mode (now (text .entry)) table ⌝ }
 {
     let n = clean_into(text, a, b, c);
-    prepare_steps(&a[..n], mode, table, d, b, c)
+    prepare_steps(&a[..n], mode, table, b, d, c)
 }
 
 // The same over buffers of its own, for a text of a few steps, for a short one, for a longer one and for any.
@@ -208,7 +228,7 @@ fn prepare_in(text: &[u8], mode: Mode, table: Table) -> Preparing
 {
     let number = first_refusal(text);
     if number != 0 {
-        return refusing(number, 0, table);
+        return refusing(number, 0, 0, table);
     }
     if text.len() <= FEW {
         return brief(text, mode, table);
@@ -255,6 +275,10 @@ pub fn prepare_as(text: &[u8], reading: Reading, mode: Mode, table: Table) -> Pr
                 },
             }
         }
-        Prepared::Refused { number, place } => refusing(number, place, made),
+        Prepared::Refused {
+            number,
+            place,
+            offset,
+        } => refusing(number, place, offset, made),
     }
 }

@@ -27,7 +27,7 @@ use rules::Step;
 ghost use mathlib.Core.Path.{_≡_};
 ghost use mathlib.Core.List.{[]};
 ghost use Prim.Native.Nat.{_-_, _≤_, _<_};
-ghost use Rattle.rules.specs.Text.Refusal.{answers, refuses};
+ghost use Rattle.rules.specs.Text.Refusal.{answers};
 ghost use Rattle.rules.specs.Operators.Adapt.{wordGiven};
 ghost use Rattle.rules.specs.Operators.Arguments.{valueOf};
 ghost use Rattle.rules.specs.Operators.PushPop.{axes};
@@ -38,22 +38,25 @@ ghost use Rattle.adapt.specs.Words.{IsRead};
 ghost use Rattle.prepare.specs.Lookup.{IsTable, paramsIn, given};
 ghost use Rattle.prepare.specs.SeriesRead.{argsOf, Good};
 ghost use Rattle.prepare.specs.Faults.{Lowers};
-ghost use Rattle.prepare.specs.Records.{replyIs, recordAt, recordedAt, keptBy, Axes, Extended, Flagged, fourAxes};
+ghost use Rattle.prepare.specs.Records.{replyIs, refusedAt, recordAt, recordedAt, keptBy, Axes, Extended, Flagged, fourAxes};
 ghost use Rattle.prepare.specs.Actions.{keyAt, Chosen};
 
-// What judging a step gives: 0 and its record, or the number that it is refused by.
+// What judging a step gives: 0 and its record, or the number that it is refused by, and of 12 the byte of the step's text at which the
+// fault is.
 pub struct Judged {
     pub number: u8,
+    pub at: usize,
     pub step: Step,
 }
 
-// A refusal.
-pub fn refused(number: u8) -> Judged
+// A refusal, and where it is if it is 12.
+pub fn refused(number: u8, at: usize) -> Judged
     requires { ⌜ 0 < number ⌝ }
-    ensures { λ r. ⌜ replyIs r ≡ refuses number 0 ⌝ }
+    ensures { λ r. ⌜ replyIs r ≡ refusedAt number 0 at ⌝ }
 {
     Judged {
         number: number,
+        at: at,
         step: blank(),
     }
 }
@@ -72,6 +75,7 @@ fn recorded(s: &[u8], row: &[usize; 128], n: usize, operator: u8, a: Args) -> Ju
     let list = a.list;
     Judged {
         number: 0,
+        at: 0,
         step: step_of(operator, list, a.n, inv, omit_fwd, omit_inv),
     }
 }
@@ -83,13 +87,13 @@ fn own_series(s: &[u8], row: &[usize; 128], n: usize, operator: u8, numbers: Num
     ensures { λ r. ⌜ replyIs r ≡ judged14 (recordedAt operator (paramsIn (now (s .entry)) (now (row .entry)) n) (keptBy operator numbers)) ⌝ }
 {
     if !numbers.whole {
-        return refused(14);
+        return refused(14, 0);
     }
     let a = numbers.args;
     let l = a.list;
     let m = a.n;
     if !is_args(operator, &l[..m]) {
-        return refused(14);
+        return refused(14, 0);
     }
     recorded(s, row, n, operator, a)
 }
@@ -198,9 +202,9 @@ fn own_stack(s: &[u8], row: &[usize; 128], n: usize, low: Lowest) -> Judged
     let numbers = low.numbers;
     let choice = action_of(s, row, n);
     match choice {
-        Choice::None => refused(14),
+        Choice::None => refused(14, 0),
         Choice::One(operator) => own_series(s, row, n, operator, numbers),
-        Choice::More => refused(14),
+        Choice::More => refused(14, 0),
     }
 }
 
@@ -254,10 +258,10 @@ fn own_adapt(s: &[u8], row: &[usize; 128], n: usize, mode: Mode) -> Judged
     let from = word_given(s, row, n, b"from");
     let to = word_given(s, row, n, b"to");
     if !from.is {
-        return refused(14);
+        return refused(14, 0);
     }
     if !to.is {
-        return refused(14);
+        return refused(14, 0);
     }
     let list = between(from, to, mode);
     recorded(s, row, n, operator_in(mode), Args { list: list, n: 8 })

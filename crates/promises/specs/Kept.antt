@@ -26,12 +26,13 @@ use Rattle.rules.specs.declared.Ran.{Ran}
 use Rattle.rules.specs.declared.Ran.the-variants.{Done}
 use Rattle.rules.specs.declared.Verdict.the-variants.{Passes}
 use Rattle.laws_text.specs.Entry.{answers-so}
+use Rattle.laws_text.specs.Offsets.{offset-of-12, offset-of-12-as, no-other-offset, no-other-offset-as}
 use Rattle.laws_text.specs.Once.{once, lends-once, check-once, run-once, plain-check-once, plain-run-once}
 use Rattle.laws_records.specs.Readings.{inv-turns}
 use Rattle.laws_records.specs.Made.{prepare-as-made, table-prepared, check-never-18, run-never-18}
 use Rattle.laws_records.specs.Exact.{prepare-is-crates, crates-prepare, made-exactly}
 use Rattle.laws_records.specs.ReadBack.{written-returns, not-18-exactly, not-18-each}
-use Rattle.laws_records.specs.Modes.{same-refusal}
+use Rattle.laws_records.specs.Modes.{same-refusal, same-refusal-12}
 use Rattle.laws_records.specs.Operators.Adapt.Restores.{RunsBothWays, restores}
 use Rattle.laws_records.specs.Operators.Adapt.FactorsByAxis.{same-axis, forward-in-words, inverse-in-words}
 use Rattle.laws_records.specs.Ieee.{turn-mul}
@@ -45,7 +46,7 @@ use Rattle.laws_steps.specs.Exported.{behind-normalise, behind-split, behind-pa
 use Rattle.sakondreno.proofs as code
 use Rattle.reader.proofs as reading
 use Rattle.show.proofs as program
-use Rattle.promises.specs.Promises.{Calls, Demand1, Demand2, AsForetold, FromThePlacesNamed, Demand3, Readings, Modes, Exports, Promises}
+use Rattle.promises.specs.Promises.{Calls, Demand1, Demand2, AsForetold, FromThePlacesNamed, Demand3, Readings, Modes, Offsets, Exports, Promises}
 
 pub calls : (w : World) → Calls w
 calls w = record {
@@ -194,10 +195,19 @@ pub modes : Modes
 modes = record {
   records-of-the-mode = λ how mode p. prepare-as-made how mode _ _ (table-prepared how mode p) .3;
   refuses-the-same = same-refusal;
+  refuses-12-the-same = same-refusal-12;
   same-axis = same-axis;
   forward-in-words = forward-in-words;
   inverse-in-words = inverse-in-words;
   restores = λ s m o f b u. returned (record { is-made = m; is-documented = o; forward-too = f; inverse-too = b }) u;
+}
+
+pub offsets : Offsets
+offsets = record {
+  prepare-offset = offset-of-12;
+  prepare-as-offset = λ how mode p. offset-of-12-as how mode p;
+  no-other = no-other-offset;
+  no-other-as = λ how mode p h. no-other-offset-as how mode p h;
 }
 
 pub exports : Exports
@@ -217,4 +227,4 @@ exports = record {
 }
 
 pub kept : (w : World) → Promises w
-kept w = record { calls = calls w; demand1 = demand1; demand2 = demand2; demand3 = demand3; readings = readings; modes = modes; exports = exports }
+kept w = record { calls = calls w; demand1 = demand1; demand2 = demand2; demand3 = demand3; readings = readings; modes = modes; offsets = offsets; exports = exports }

@@ -14,7 +14,7 @@ use borrow.Fn.World.{World}
 use denote.Ref.{now}
 use Rattle.rules.specs.Text.Bytes.{Bytes}
 use Rattle.rules.specs.Text.Lists.{allOf}
-use Rattle.rules.specs.Text.Refusal.{Reply, answers, refuses, Promised, Writes, Lends, Wrote}
+use Rattle.rules.specs.Text.Refusal.{Reply, answers, refuses, refuses12, Promised, Writes, Lends, Wrote}
 use Rattle.rules.specs.Text.Normal.{normalise}
 use Rattle.rules.specs.Text.Split.{split}
 use Rattle.rules.specs.Text.Parameters.{parameters}
@@ -34,7 +34,7 @@ use Rattle.rules.specs.Pipeline.Run.{start, count, Runs}
 use Rattle.rules.specs.Pipeline.Check.{place, anyAdapt, Checks}
 use Rattle.rules.specs.Pipeline.Write.{write}
 use Rattle.rules.specs.Face.Plain.{plainPrepared, replied, recordCount, plainFound, modeOf, directionOf, plainCheck, PlainChecks, plainRan, PlainRuns}
-use Rattle.rules.specs.Examples.{examples, also, printed, rewritten, readings, modes, demanded, AllHold}
+use Rattle.rules.specs.Examples.{examples, also, printed, rewritten, readings, modes, offsets, demanded, AllHold}
 use Rattle.rules.specs.declared.Mode.{Mode}
 use Rattle.rules.specs.declared.Mode.the-variants as mode-is
 use Rattle.rules.specs.declared.Reading.{Reading}
@@ -67,7 +67,7 @@ use Rattle.laws_records.specs.Operators.Adapt.Words.{IsWord}
 use Rattle.sakondreno.proofs as calls
 use Rattle.reader.proofs as reading
 use Rattle.show.proofs as program
-use Rattle.rules.specs.Face.Demands.{Ends, RunEnds, CheckEnds, NextEnds, ExportsText, EachWell, Few, Many, FirstAtFault, numberAt, Bits, Alike, signAngle, EachUnit}
+use Rattle.rules.specs.Face.Demands.{Ends, textRefusal, RunEnds, CheckEnds, NextEnds, ExportsText, EachWell, Few, Many, FirstAtFault, numberAt, Bits, Alike, signAngle, EachUnit, FirstFault}
 
 -- ==== The public calls. "Every entry point ends on every text, step table and list .. No caller is asked to have looked first": each call's own code,
 -- whatever it is given, returns; its contract asks nothing; and what it says is one equation with the written rule, of the result and of all that was lent.
@@ -128,15 +128,15 @@ pub record Calls (w : World) : Type 1 where
 pub record Demand1 : Type 1 where
   -- the text calls, each with its numbers; an answer writes nothing past its own end
   pub normalise-ends : {text out : Bytes} {r : Written} {out′ : Bytes} → Writes normalise text out r out′
-      → Ends written-is.Wrote written-is.Refused (1 ∷ 2 ∷ 7 ∷ []) out r out′
+      → Ends written-is.Wrote textRefusal (1 ∷ 2 ∷ 7 ∷ []) out r out′
   pub split-ends : {text out : Bytes} {r : Written} {out′ : Bytes} → Writes split text out r out′
-      → Ends written-is.Wrote written-is.Refused (1 ∷ 2 ∷ 6 ∷ 7 ∷ 8 ∷ []) out r out′
+      → Ends written-is.Wrote textRefusal (1 ∷ 2 ∷ 6 ∷ 7 ∷ 8 ∷ []) out r out′
   pub parameters-ends : {text out : Bytes} {r : Written} {out′ : Bytes} → Writes parameters text out r out′
-      → Ends written-is.Wrote written-is.Refused (1 ∷ 2 ∷ 6 ∷ 7 ∷ 9 ∷ []) out r out′
+      → Ends written-is.Wrote textRefusal (1 ∷ 2 ∷ 6 ∷ 7 ∷ 9 ∷ []) out r out′
   pub translate-ends : {text out : Bytes} {r : Written} {out′ : Bytes} → Writes translate text out r out′
-      → Ends written-is.Wrote written-is.Refused (1 ∷ 2 ∷ 3 ∷ 4 ∷ 5 ∷ 7 ∷ []) out r out′
+      → Ends written-is.Wrote textRefusal (1 ∷ 2 ∷ 3 ∷ 4 ∷ 5 ∷ 7 ∷ []) out r out′
   pub write-ends : {out : Bytes} {r : Written} {out′ : Bytes} (table : List Step) → Lends (write table) out r out′
-      → Ends written-is.Wrote written-is.Refused (7 ∷ 18 ∷ []) out r out′
+      → Ends written-is.Wrote textRefusal (7 ∷ 18 ∷ []) out r out′
   -- the calls on step tables, and the reader
   pub prepare-ends : {text : Bytes} {table : List Step} {r : Prepared} {table′ : List Step} → Prepares text table r table′
       → Ends prepared-is.Steps prepared-is.Refused (1 ∷ 2 ∷ 6 ∷ 7 ∷ 8 ∷ 9 ∷ 10 ∷ 11 ∷ 12 ∷ 13 ∷ 14 ∷ []) table r table′
@@ -170,7 +170,7 @@ pub record Demand2 : Type 0 where
   -- a sign that is turned or kept is the Rust's product with -1 or 1, for every f64 (IEEE 754 as the kit defines it)
   pub sign-is-product : (minus : Bool) (x : Float) → T (fits binary64 x) → turn minus x ≡ mul binary64 x (turn minus one)
   -- and the documents' examples are so
-  pub examples-hold : AllHold examples × AllHold also × AllHold printed × AllHold rewritten × AllHold readings × AllHold modes × AllHold demanded
+  pub examples-hold : AllHold examples × AllHold also × AllHold printed × AllHold rewritten × AllHold readings × AllHold modes × AllHold offsets × AllHold demanded
 
 -- ==== Demand 3. "A check reads a prepared pipeline and a direction, never the data."
 
@@ -254,6 +254,8 @@ pub record Modes : Type 0 where
   -- "Refusals: none new.": what one mode refuses, the other refuses, with the same number at the same place
   pub refuses-the-same : (mode other : Mode) (how : Reading) (text : Bytes) (number place : ℕ)
       → prepareAs how mode text ≡ refuses number place → prepareAs how other text ≡ refuses number place
+  pub refuses-12-the-same : (mode other : Mode) (how : Reading) (text : Bytes) (place offset : ℕ)
+      → prepareAs how mode text ≡ refuses12 place offset → prepareAs how other text ≡ refuses12 place offset
   -- "each output place takes the input place of the same axis", for any two words v and w that `from` and `to` can be
   pub same-axis : (v w : Word) → IsWord v → IsWord w → (i : ℕ) → 1 ≤ i → i ≤ 4 → size (arg (inputAt v w i) (v .axes)) ≡ size (arg i (w .axes))
   -- "times the input's sign and angle factor over the output's"
@@ -269,6 +271,20 @@ pub record Modes : Type 0 where
       → (d : Direction) {xs store : List Float} {c n : ℕ} {xs′ store′ : List Float} → Runs d (s ∷ []) xs store (ran-is.Done c n) xs′ store′
       → {store₂ : List Float} {c₂ n₂ : ℕ} {xs″ store₂′ : List Float} → Runs (opposite d) (s ∷ []) xs′ store₂ (ran-is.Done c₂ n₂) xs″ store₂′
       → (i : ℕ) → i < length xs / 4 → (j : ℕ) → 1 ≤ j → j ≤ 4 → (p q : ℕ) → Bits p (numberAt xs i j) → Bits q (numberAt xs″ i j) → Alike false p q
+
+-- ==== Document 02, request 3. "Tell me where the bad number is."
+
+pub record Offsets : Type 0 where
+  -- "The series reading must return the byte offset .. Preparation passes the offset on": where preparing answers 12 at a place and an offset, the byte at the offset of that
+  -- step's text begins a piece, or a flag's value, that breaks the rule, and nothing before it does
+  pub prepare-offset : {text : Bytes} {table table′ : List Step} {place offset : ℕ} → Prepares text table (prepared-is.Refused 12 place offset) table′ → FirstFault text place offset
+  pub prepare-as-offset : (how : Reading) (mode : Mode) {text : Bytes} {table table′ : List Step} {place offset : ℕ}
+      → PreparesAs how mode text table (prepared-is.Refused 12 place offset) table′ → FirstFault text place offset
+  -- "12 gains the offset", and no other refusal has one
+  pub no-other : {text : Bytes} {table table′ : List Step} {number place offset : ℕ} → Prepares text table (prepared-is.Refused number place offset) table′
+      → (number ≡ 12 → ⊥) → offset ≡ 0
+  pub no-other-as : (how : Reading) (mode : Mode) {text : Bytes} {table table′ : List Step} {number place offset : ℕ}
+      → PreparesAs how mode text table (prepared-is.Refused number place offset) table′ → (number ≡ 12 → ⊥) → offset ≡ 0
 
 -- ==== From C and from Rust: behind each answer of an export there is one of the call that it exports, with the same storage afterwards, so all of the above
 -- holds there too. Number 0 is an answer, a pass, or a run that is done; and a reader that finds nothing is at the end.
@@ -303,4 +319,5 @@ pub record Promises (w : World) : Type 1 where
   pub demand3 : Demand3
   pub readings : Readings
   pub modes : Modes
+  pub offsets : Offsets
   pub exports : Exports

@@ -45,18 +45,18 @@ module _ {A : Type 0} (inWords : Reply ℕ → Answer) (own : Bytes → Reply (L
 
   -- what tells: the empty text, whose answer is empty, and a text whose answer alters the storage
   pub record Telling : Type 0 where
-    pub nothing : _≡_ {A = Answer × List A} (outcome inWords own [] []) (record { number = 0; place = 0; length = 0 }, [])
+    pub nothing : _≡_ {A = Answer × List A} (outcome inWords own [] []) (record { number = 0; place = 0; length = 0; offset = 0 }, [])
     pub text : Bytes
     pub storage : List A
     pub more : ℕ
     pub after : List A
-    pub something : _≡_ {A = Answer × List A} (outcome inWords own text storage) (record { number = 0; place = 0; length = suc more }, after)
+    pub something : _≡_ {A = Answer × List A} (outcome inWords own text storage) (record { number = 0; place = 0; length = suc more; offset = 0 }, after)
     pub altered : storage ≡ after → ⊥
 
-  -- Refusing everything, with any number but 0 and any place
-  pub refusing-everything : Telling → (number place : Bytes → List A → ℕ) → ((t : Bytes) (storage : List A) → number t storage ≡ 0 → ⊥)
-      → Meets (λ t storage. (record { number = number t storage; place = place t storage; length = 0 }, storage)) → ⊥
-  refusing-everything by number place positive meets = positive [] [] (ap (λ (x : Answer × List A). x .0 .number) (meets [] [] .exactly ∙ by .nothing))
+  -- Refusing everything, with any number but 0, any place and any offset
+  pub refusing-everything : Telling → (number place offset : Bytes → List A → ℕ) → ((t : Bytes) (storage : List A) → number t storage ≡ 0 → ⊥)
+      → Meets (λ t storage. (record { number = number t storage; place = place t storage; length = 0; offset = offset t storage }, storage)) → ⊥
+  refusing-everything by number place offset positive meets = positive [] [] (ap (λ (x : Answer × List A). x .0 .number) (meets [] [] .exactly ∙ by .nothing))
 
   -- One fixed answer, whatever is left in the storage
   pub one-fixed-answer : Telling → (answer : Answer) (left : Bytes → List A → List A) → Meets (λ t storage. (answer, left t storage)) → ⊥
@@ -121,8 +121,8 @@ module _ (how : Reading) (mode : Mode) where
   abbrev own : Bytes → Reply (List Step)
   own = prepareAs how mode
 
-  tells-pop : _≡_ {A = Answer × List Step} (outcome recordCount own [] []) (record { number = 0; place = 0; length = 0 }, [])
-      → _≡_ {A = Answer × List Step} (outcome recordCount own (ascii "pop") (blank ∷ [])) (record { number = 0; place = 0; length = 1 }, records (on own "pop"))
+  tells-pop : _≡_ {A = Answer × List Step} (outcome recordCount own [] []) (record { number = 0; place = 0; length = 0; offset = 0 }, [])
+      → _≡_ {A = Answer × List Step} (outcome recordCount own (ascii "pop") (blank ∷ [])) (record { number = 0; place = 0; length = 1; offset = 0 }, records (on own "pop"))
       → operatorOfFirst (records (on own "pop")) ≡ 1 → Telling recordCount own
   unfolding operatorOfFirst blank stepWith
   tells-pop e f g =
@@ -165,6 +165,24 @@ mode-forgotten program meets =
   where
     ten-eleven : _≡_ {A = ℕ} 10 11 → ⊥
     ten-eleven z = omega arith
+
+-- The offset forgotten: never one but 0
+pub offset-forgotten : (program : Bytes → List Step → Answer × List Step) → ((t : Bytes) (storage : List Step) → program t storage .0 .offset ≡ 0)
+    → Meets recordCount prepare program → ⊥
+unfolding opened plainPrepared
+offset-forgotten program forgotten meets =
+    no (sym (forgotten (ascii "push v_1=no") []) ∙ ap (λ (x : Answer × List Step). x .0 .offset) (meets (ascii "push v_1=no") [] .exactly))
+
+-- The place for the offset: the two of them alike
+pub place-for-offset : (program : Bytes → List Step → Answer × List Step) → ((t : Bytes) (storage : List Step) → program t storage .0 .offset ≡ program t storage .0 .place)
+    → Meets recordCount prepare program → ⊥
+unfolding opened plainPrepared
+place-for-offset program alike meets =
+    nine-one (sym (ap (λ (x : Answer × List Step). x .0 .offset) (meets (ascii "push v_1=no") [] .exactly)) ∙ alike (ascii "push v_1=no") []
+    ∙ ap (λ (x : Answer × List Step). x .0 .place) (meets (ascii "push v_1=no") [] .exactly))
+  where
+    nine-one : _≡_ {A = ℕ} 9 1 → ⊥
+    nine-one z = omega arith
 
 -- ---- the walk over the steps
 

@@ -27,11 +27,13 @@ pub fn answered(w: Written) -> Answer
             number: 0,
             place: 0,
             length: bytes,
+            offset: 0,
         },
         Written::Refused { number, place } => Answer {
             number: number,
             place: place,
             length: 0,
+            offset: 0,
         },
     }
 }
@@ -67,11 +69,17 @@ pub fn counted(p: Prepared) -> Answer
             number: 0,
             place: 0,
             length: steps,
+            offset: 0,
         },
-        Prepared::Refused { number, place } => Answer {
+        Prepared::Refused {
+            number,
+            place,
+            offset,
+        } => Answer {
             number: number,
             place: place,
             length: 0,
+            offset: offset,
         },
     }
 }

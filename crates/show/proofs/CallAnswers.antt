@@ -9,7 +9,7 @@ use lib.ListN.{length, take, drop}
 use lib.Seq.{length-take-le}
 use lib.Dec.{ltb}
 use Rattle.rules.specs.Text.Bytes.{Bytes}
-use Rattle.rules.specs.Text.Refusal.{Reply, answers, refuses, andThen, tested, lent, outcome, written, Writes}
+use Rattle.rules.specs.Text.Refusal.{Reply, answers, refuses, refuses12, andThen, tested, lent, outcome, written, Writes}
 use Rattle.rules.specs.Text.Split.{line, split}
 use Rattle.rules.specs.Proj.Translate.{translate}
 use Rattle.rules.specs.Pipeline.Prepare.{prepareAs}
@@ -20,8 +20,10 @@ use Rattle.rules.specs.declared.Step.{Step}
 use Rattle.rules.specs.declared.Written.{Written}
 use Rattle.rules.specs.declared.Written.the-variants as variant
 use Rattle.laws_text.specs.Entry.{answers-so}
+use Rattle.laws_text.specs.Refusals.{Refusing, tested-refuses}
 use Rattle.text.specs.Wrote.{Wrote, WroteAt}
-use Rattle.rules.specs.Face.Shown.{refusalText, headed, orRefused, called, shownChecks, shownSteps, translatedLine, shown, bothChecks}
+use Rattle.rules.specs.Face.Shown.{refusalText, offsetText, headed, orRefused, called, shownChecks, shownSteps, translatedLine, shown, bothChecks}
+use Rattle.show.proofs.Located.{Other}
 
 -- a piece by another name
 module _ (x y d : Bytes) (at : ℕ) (e : x ≡ y) where
@@ -41,15 +43,17 @@ abbrev same? : Written × Bytes → Written × Bytes → Type 0
 same? x y = x ≡ y
 
 -- 7 where the answer is longer, by either of the two
-refused-by : (buf : Bytes) → length buf ≡ 65536 → (reply : Reply Bytes) (n place : ℕ) (buf′ : Bytes) → same? (variant.Refused n place, buf′) (lent written reply buf)
+refused-by : (buf : Bytes) → length buf ≡ 65536 → (reply : Reply Bytes) → Refusing Other reply → (n place : ℕ) (buf′ : Bytes)
+    → same? (variant.Refused n place, buf′) (lent written reply buf)
     → andThen reply (λ t. cond (ltb 65536 (length t)) (refuses 7 0) (answers t)) ≡ refuses n place
-unfolding andThen lent written
-refused-by buf l (refuses m q) n place buf′ e =
+unfolding andThen lent written Refusing
+refused-by buf l (refuses12 q o) h n place buf′ e = absurd (h refl)
+refused-by buf l (refuses m q) h n place buf′ e =
     let f : variant.Refused n place ≡ variant.Refused m q = ap (λ (x : Written × Bytes). x .0) e in
     let a : n ≡ m = cc f in
     let b : place ≡ q = cc f in
     rw (a, b)
-refused-by buf l (answers xs) n place buf′ e = go (ltb (length buf) (length xs)) refl e
+refused-by buf l (answers xs) h n place buf′ e = go (ltb (length buf) (length xs)) refl e
   where
     go : (b : Bool) → ltb (length buf) (length xs) ≡ b
         → same? (variant.Refused n place, buf′) (cond b (variant.Refused 7 0, buf) (variant.Wrote (length xs), xs ++ drop (length xs) buf))
@@ -79,13 +83,14 @@ module _ {own : Bytes → Reply Bytes} {t buf : Bytes} {r : Written} {buf′ : B
       let m : length (take n buf′) ≤ 65536 = omega (arith, called-counts, called-fits, l, k) in
       rw (le-ltb 4096 (length t) (a .short), a .domain, a .answer, le-ltb 65536 (length (take n buf′)) m)
 
--- where it refused
-pub called-refused : {own : Bytes → Reply Bytes} {t buf : Bytes} {r : Written} {buf′ : Bytes} {n place : ℕ} → r ≡ variant.Refused n place → Writes own t buf r buf′
-    → length buf ≡ 65536 → called own t ≡ refuses n place
+-- where it refused, which is not with 12
+pub called-refused : {own : Bytes → Reply Bytes} {t buf : Bytes} {r : Written} {buf′ : Bytes} {n place : ℕ} → Refusing Other (own t) → r ≡ variant.Refused n place
+    → Writes own t buf r buf′ → length buf ≡ 65536 → called own t ≡ refuses n place
 unfolding called outcome
-called-refused {own} {t} {buf} {r} {buf′} {n} {place} e w l =
+called-refused {own} {t} {buf} {r} {buf′} {n} {place} h e w l =
     let v : Writes own t buf (variant.Refused n place) buf′ = subst (λ (x : Written). Writes own t buf x buf′) e w in
-    refused-by buf l (tested own t) n place buf′ (v .exactly)
+    let k = tested-refuses Other own t (λ z. omega (arith, z)) (λ z. omega (arith, z)) (λ s. h) in
+    refused-by buf l (tested own t) k n place buf′ (v .exactly)
 
 -- ---- what is printed then
 
@@ -109,6 +114,10 @@ module _ (r : Reading) (mode : Mode) (t : Bytes) where
   pub checks-refused : {n place : ℕ} → tested (prepareAs r mode) t ≡ refuses n place → shownChecks r mode t ≡ line (refusalText n place)
   unfolding shownChecks orRefused
   checks-refused e = rw e
+
+  pub checks-located : {place offset : ℕ} → tested (prepareAs r mode) t ≡ refuses12 place offset → shownChecks r mode t ≡ line (offsetText place offset)
+  unfolding shownChecks orRefused
+  checks-located e = rw e
 
   pub checks-told : {ss : List Step} → tested (prepareAs r mode) t ≡ answers ss → shownChecks r mode t ≡ bothChecks ss
   unfolding shownChecks orRefused

@@ -1,5 +1,6 @@
 -- The laws that the proofs of what is printed share.
 pub mod TwoPieces
+pub mod Located
 pub mod CallAnswers
 pub mod HeadedLines
 pub mod PreparedTable

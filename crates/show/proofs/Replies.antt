@@ -8,7 +8,7 @@ use lib.ListN.{length, length-map}
 use lib.Dec.{ltb}
 use Rattle.rules.specs.Text.Lists.{anyOf, placeOf}
 use Rattle.rules.specs.Text.Bytes.{Bytes, Steps, inDomain}
-use Rattle.rules.specs.Text.Refusal.{Reply, answers, refuses, andThen, tested}
+use Rattle.rules.specs.Text.Refusal.{Reply, answers, refuses, refuses12, andThen, tested}
 use Rattle.rules.specs.Text.Split.{onlyModifiers, stepText, splitSteps}
 use Rattle.rules.specs.Pipeline.Prepare.{prepareAs}
 use Rattle.laws_records.specs.Made.{prepare-as-made}
@@ -19,6 +19,7 @@ use Rattle.rules.specs.declared.Step.{Step}
 unfoldable pub Of : {A : Type 0} → (A → Type 0) → Reply A → Type 0
 Of P (answers x) = P x
 Of P (refuses n place) = 0 ≤ n
+Of P (refuses12 place offset) = 0 ≤ offset
 
 pub of-refusal : {A : Type 0} (P : A → Type 0) (n place : ℕ) → Of P (refuses n place)
 unfolding Of
@@ -28,12 +29,14 @@ pub of-answers : {A : Type 0} (P : A → Type 0) (r : Reply A) → ((x : A) → 
 unfolding Of
 of-answers P (answers x) h = h x refl
 of-answers P (refuses n place) h = zero-le
+of-answers P (refuses12 place offset) h = zero-le
 
 -- of an answer that something is done with
 pub of-then : {A B : Type 0} (P : A → Type 0) (Q : B → Type 0) (r : Reply A) (next : A → Reply B) → Of P r → ((x : A) → P x → Of Q (next x)) → Of Q (andThen r next)
 unfolding Of andThen
 of-then P Q (answers x) next h go = go x h
 of-then P Q (refuses n place) next h go = zero-le
+of-then P Q (refuses12 place offset) next h go = zero-le
 
 -- of a text call
 pub of-tested : {A : Type 0} (P : A → Type 0) (own : Bytes → Reply A) (t : Bytes) → Of P (own t) → Of P (tested own t)

@@ -9,7 +9,7 @@ use lib.ListN.{length, length-append}
 use lib.Dec.{ltb}
 use Rattle.rules.specs.Text.Ascii.{ascii}
 use Rattle.rules.specs.Text.Bytes.{Bytes}
-use Rattle.rules.specs.Text.Refusal.{Reply, answers, refuses, tested}
+use Rattle.rules.specs.Text.Refusal.{Reply, answers, refuses, refuses12, tested}
 use Rattle.rules.specs.Text.Normal.{normal}
 use Rattle.rules.specs.Text.Comments.{stripped}
 use Rattle.rules.specs.Text.Split.{line, steps, splitSteps, split}
@@ -26,7 +26,7 @@ use Rattle.rules.specs.declared.Verdict.{Verdict}
 use Rattle.rules.specs.declared.Verdict.the-variants.{Passes, TooFew, TooMany, Refused}
 use Rattle.rules.specs.declared.Foretold.{Foretold}
 use Rattle.rules.specs.Text.Numerals.{digits}
-use Rattle.rules.specs.Face.Shown.{counted, refusalText, heading, headed, orRefused, called, shownChecks, shownSteps, translatedLine, shown, signedPlace, twoPlaces, fourPlaces}
+use Rattle.rules.specs.Face.Shown.{counted, refusalText, offsetText, heading, headed, orRefused, called, shownChecks, shownSteps, translatedLine, shown, signedPlace, twoPlaces, fourPlaces}
 use Rattle.rules.specs.Face.Shown.{passText, verdictText, verdictLine, bothChecks}
 use Rattle.laws_text.specs.Numerals.{digits-length}
 use Rattle.laws_text.specs.Sizes.{steps-few, proj-few}
@@ -35,6 +35,7 @@ use Rattle.laws_steps.specs.Named.{Named, FourNamed}
 use Rattle.laws_steps.specs.Foretold.{foretells}
 use Rattle.laws_records.specs.Made.{prepare-as-made, check-never-18, tested-answers}
 use Rattle.laws_steps.specs.Limits.{few-within, many-within, pass-within}
+use Rattle.show.proofs.Located.{Other, Located, split-other, translate-other, prepare-located}
 use Rattle.show.proofs.Replies.{Of, of-refusal, of-answers, of-then, of-tested, Made, split-made}
 use Rattle.show.specs.Lines.{numbered, steps-numbered}
 
@@ -56,6 +57,12 @@ refused-length : (n place : ℕ) → Small n → Small place → length (refusal
 unfolding refusalText ascii
 refused-length n place h k =
     omega (arith, length-append (counted (ascii "refused ") n) (counted (ascii " ") place), counted-length (ascii "refused ") n h, counted-length (ascii " ") place k)
+
+-- (an offset has six digits at most)
+offset-length : (place offset : ℕ) → Small place → offset < 10 ^ 6 → length (offsetText place offset) ≤ 26
+unfolding offsetText counted ascii
+offset-length place offset h k =
+    omega (arith, length-append (refusalText 12 place) (counted (ascii " ") offset), refused-length 12 place (omega arith) h, length-append (ascii " ") (digits offset), digits-length 5 offset k)
 
 -- ---- a check's line
 
@@ -171,25 +178,40 @@ called-fits P own t h =
     go x p true e = of-refusal (Fits P) 7 0
     go x p false e = unfold Of in record { size = ltb-false 65536 (length x) e; holds = p }
 
--- what is printed of a reply: so much of an answer, and 20 bytes of a refusal
+-- what is printed of a reply: so much of an answer, and 27 bytes of a refusal
 abbrev BothSmall : ℕ → ℕ → Type 0
 BothSmall n place = Small n × Small place
 
-printed : {A : Type 0} (P : A → Type 0) (r : Reply A) (next : A → Bytes) (m : ℕ) → 20 ≤ m → Refusing BothSmall r → Of P r → ((x : A) → P x → length (next x) ≤ m)
-    → length (orRefused r next) ≤ m
-unfolding orRefused Of Refusing
-printed P (answers x) next m k w h f = f x h
-printed P (refuses n place) next m k w h f = omega (arith, line-length (refusalText n place), refused-length n place (w .0) (w .1))
+printed : {A : Type 0} (P : A → Type 0) (r : Reply A) (next : A → Bytes) (m : ℕ) → 27 ≤ m → Refusing BothSmall r → Located r → Of P r
+    → ((x : A) → P x → length (next x) ≤ m) → length (orRefused r next) ≤ m
+unfolding orRefused Of Refusing Located
+printed P (answers x) next m k w l h f = f x h
+printed P (refuses n place) next m k w l h f = omega (arith, line-length (refusalText n place), refused-length n place (w .0) (w .1))
+printed P (refuses12 place offset) next m k w l h f = omega (arith, line-length (offsetText place offset), offset-length place offset (w .1) l)
+
+module _ (P : ℕ → ℕ → Type 0) (own : Bytes → Reply Bytes) (t : Bytes) where
+  called-refuses : P 1 0 → P 2 0 → P 7 0 → (length t ≤ 4096 → Refusing P (own t)) → Refusing P (called own t)
+  unfolding Refusing called
+  called-refuses one two seven h =
+      then-refuses P (tested own t) (λ x. cond (ltb 65536 (length x)) (refuses 7 0) (answers x)) (tested-refuses P own t one two h) (λ x e. go x (ltb 65536 (length x)))
+    where
+      go : (x : Bytes) (b : Bool) → Refusing P (cond b (refuses 7 0) (answers x))
+      go x true = seven
+      go x false = tt
 
 called-small : (own : Bytes → Reply Bytes) (t : Bytes) → (length t ≤ 4096 → Refusing BothSmall (own t)) → Refusing BothSmall (called own t)
-unfolding Refusing called
-called-small own t h =
-    then-refuses BothSmall (tested own t) (λ x. cond (ltb 65536 (length x)) (refuses 7 0) (answers x)) (tested-refuses BothSmall own t (omega arith) (omega arith) h)
-    (λ x e. go x (ltb 65536 (length x)))
-  where
-    go : (x : Bytes) (b : Bool) → Refusing BothSmall (cond b (refuses 7 0) (answers x))
-    go x true = omega arith
-    go x false = tt
+called-small own t h = called-refuses BothSmall own t (omega arith) (omega arith) (omega arith) h
+
+-- no refusal of a text call is 12
+others-located : (r : Reply Bytes) → Refusing Other r → Located r
+unfolding Refusing Located
+others-located (answers x) h = tt
+others-located (refuses n place) h = h
+others-located (refuses12 place offset) h = absurd (h refl)
+
+called-located : (own : Bytes → Reply Bytes) (t : Bytes) → Refusing Other (own t) → Located (called own t)
+called-located own t h =
+    others-located (called own t) (called-refuses Other own t (λ e. omega (arith, e)) (λ e. omega (arith, e)) (λ e. omega (arith, e)) (λ l. h))
 
 -- Of 4,096 bytes, at most 40,961 steps are tried.
 translate-small : (t : Bytes) → length t ≤ 4096 → Refusing BothSmall (translate t)
@@ -222,7 +244,7 @@ unfolding shownChecks
 shown-checks-length r mode t =
     let reply = tested (prepareAs r mode) t in
     let Is : List Step → Type 0 = λ ss. reply ≡ answers ss in
-    printed Is reply bothChecks 138 (omega arith) (tested-refuses BothSmall (prepareAs r mode) t (omega arith) (omega arith) (prepare-small r mode t))
+    printed Is reply bothChecks 138 (omega arith) (tested-refuses BothSmall (prepareAs r mode) t (omega arith) (omega arith) (prepare-small r mode t)) (prepare-located r mode t)
     (of-answers Is reply (λ ss e. e))
     (λ ss e. checks-length r mode t ss (tested-answers (prepareAs r mode) t ss e))
 
@@ -230,6 +252,7 @@ shown-steps-length : (r : Reading) (mode : Mode) (t : Bytes) → length (shownSt
 unfolding shownSteps
 shown-steps-length r mode t =
     printed (Fits Lines) (called split t) (λ lines. headed 1 false lines ++ shownChecks r mode t) 66442 (omega arith) (called-small split t (split-small t))
+    (called-located split t (split-other t))
     (called-fits Lines split t (split-lines t))
     (λ lines m. omega (arith, length-append (headed 1 false lines) (shownChecks r mode t), m .size, m .holds .fits, shown-checks-length r mode t))
 
@@ -238,6 +261,7 @@ any-text : (r : Reply Bytes) → Of (λ t. 0 ≤ length t) r
 unfolding Of
 any-text (answers t) = omega arith
 any-text (refuses n place) = omega arith
+any-text (refuses12 place offset) = omega arith
 
 translation-length : (t : Bytes) → length (translatedLine t) ≡ length t + 13
 unfolding translatedLine ascii
@@ -247,7 +271,7 @@ pub shown-length : (r : Reading) (mode : Mode) (text : Bytes) → length (shown 
 unfolding shown
 shown-length r mode text =
     printed (Fits (λ t. 0 ≤ length t)) (called translate text) (λ t. translatedLine t ++ shownSteps r mode t) 139264 (omega arith)
-    (called-small translate text (translate-small text))
+    (called-small translate text (translate-small text)) (called-located translate text (translate-other text))
     (called-fits (λ t. 0 ≤ length t) translate text (any-text (translate text)))
     (λ t m. omega (arith, length-append (translatedLine t) (shownSteps r mode t), translation-length t, m .size, shown-steps-length r mode t))
 

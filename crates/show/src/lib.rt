@@ -5,6 +5,7 @@ mod pieces;
 mod places;
 
 use checks::say_checks;
+use pieces::say_offset;
 use pieces::say_refusal;
 use pieces::say_steps;
 use prepare::prepare_as;
@@ -46,7 +47,16 @@ fn show_checks(text: &[u8], reading: Reading, mode: Mode, out: &mut [u8], at: us
             let steps = first_of(table, n);
             say_checks(steps, out, at)
         }
-        Prepared::Refused { number, place } => say_refusal(number, place, out, at),
+        Prepared::Refused {
+            number,
+            place,
+            offset,
+        } => {
+            if number == 12 {
+                return say_offset(place, offset, out, at);
+            }
+            say_refusal(number, place, out, at)
+        }
     }
 }
 

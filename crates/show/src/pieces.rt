@@ -10,7 +10,7 @@ ghost use lib.ListN.{length};
 ghost use Rattle.rules.specs.Text.Ascii.{ascii};
 ghost use Rattle.rules.specs.Text.Split.{line};
 ghost use Rattle.text.specs.Wrote.{WroteAt};
-ghost use Rattle.rules.specs.Face.Shown.{counted, refusalText, headed};
+ghost use Rattle.rules.specs.Face.Shown.{counted, refusalText, offsetText, headed};
 
 // A word and a number behind it.
 pub fn say_counted(word: &[u8], n: usize, out: &mut [u8], at: usize) -> usize
@@ -44,6 +44,25 @@ pub fn say_refusal(number: u8, place: usize, out: &mut [u8], at: usize) -> usize
     ensures { λ r. ⌜ WroteAt (line (refusalText number place)) (now (out .entry)) at r (now (out .exit)) ⌝ }
 {
     let o = say_refused(number, place, out, at);
+    out[o] = 10;
+    o + 1
+}
+
+// The refusal that has an offset: its number 12, its place and the offset.
+fn say_faulty(place: usize, offset: usize, out: &mut [u8], at: usize) -> usize
+    requires { ⌜ at + length (offsetText place offset) ≤ length (now out) ⌝ }
+    ensures { λ r. ⌜ WroteAt (offsetText place offset) (now (out .entry)) at r (now (out .exit)) ⌝ }
+{
+    let o = say_refused(12, place, out, at);
+    say_counted(b" ", offset, out, o)
+}
+
+// The same as a line.
+pub fn say_offset(place: usize, offset: usize, out: &mut [u8], at: usize) -> usize
+    requires { ⌜ at + length (line (offsetText place offset)) ≤ length (now out) ⌝ }
+    ensures { λ r. ⌜ WroteAt (line (offsetText place offset)) (now (out .entry)) at r (now (out .exit)) ⌝ }
+{
+    let o = say_faulty(place, offset, out, at);
     out[o] = 10;
     o + 1
 }

@@ -8,7 +8,7 @@ use native.Mathlib.Omega.{arith}
 use lib.ListN.{length, length-append}
 use Rattle.rules.specs.Text.Ascii.{is, ascii}
 use Rattle.rules.specs.Text.Lists.{kept, nonEmpty}
-use Rattle.rules.specs.Text.Bytes.{Bytes, Words, onto, cut, words, joined}
+use Rattle.rules.specs.Text.Bytes.{Bytes, Words, onto, cut, words, joinedBy, joined}
 use Rattle.rules.specs.Text.Split.{modifier, leading, following, turned, stepsOf, stepText, line}
 use Rattle.split.specs.Lines.{linesOf}
 use Rattle.laws_text.specs.Words.{size, size-append, joined-size, some-size, words-size}
@@ -45,6 +45,14 @@ line-size ws e =
     let text = joined-size (turned ws) in
     let some = some-size (turned ws) (turned-some ws e) in
     omega (arith, length-append (joined (turned ws)) (10 ∷ []), text, some, size-append (following ws) (leading ws), halves ws)
+
+-- and at most a byte longer than the text that its words are of
+pub line-within : (t : Bytes) → length (line (stepText (words t))) ≤ suc (length t)
+line-within t = go (words t) (words-size t)
+  where
+    go : (ws : Words) → size ws ≤ suc (length t) → length (line (stepText ws)) ≤ suc (length t)
+    go [] h = unfold line stepText turned following leading joined joinedBy ascii in omega arith
+    go (w ∷ ws) h = omega (arith, h, line-size (w ∷ ws) (unfold nonEmpty in refl))
 
 -- ---- all steps
 

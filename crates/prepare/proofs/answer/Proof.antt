@@ -41,7 +41,7 @@ same-length-2 : tie.Need-same-length-2
 same-length-2 c =
     let prepared = c .before .before .before .before .before .before in
     let cleaned = prepared .before .before .before .before .before .before .before .before .before .before .before in
-    prepared .prepare-steps .kept .1 .1 .1 .1 .0 ∙ cleaned .clean-into .kept .1 .1 .0
+    prepared .prepare-steps .kept .1 .1 .1 .0 ∙ cleaned .clean-into .kept .1 .1 .0
 
 same-length-3 : tie.Need-same-length-3
 same-length-3 c =
@@ -52,7 +52,7 @@ same-length-3 c =
 same-length-4 : tie.Need-same-length-4
 same-length-4 c =
     let prepared = c .before .before .before .before .before .before in
-    prepared .prepare-steps .kept .1 .1 .1 .0
+    prepared .prepare-steps .kept .1 .1 .1 .1 .0
 
 returns : tie.Need-returns
 returns c =

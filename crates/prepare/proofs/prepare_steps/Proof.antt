@@ -14,10 +14,10 @@ use Rattle.prepare.proofs.prepare_steps.Statement.{statement}
 use Rattle.prepare.proofs.prepare_steps.Tie as tie
 
 abbrev Inv-loop : tie.InvT-loop
-Inv-loop normal mode table a₀ b₀ c₀ steps₀ at₀ n₀ number₀ place₀ a b c steps at n number place = Reaches mode normal table a₀ b₀ c₀ a b c steps at n number place
+Inv-loop normal mode table a₀ b₀ c₀ steps₀ at₀ n₀ number₀ place₀ fault₀ a b c steps at n number place fault = Reaches mode normal table a₀ b₀ c₀ a b c steps at n number place fault
 
 abbrev μ-loop : tie.MeasureT-loop
-μ-loop normal mode table a₀ b₀ c₀ steps₀ at₀ n₀ number₀ place₀ a b c steps at n number place = length normal - at
+μ-loop normal mode table a₀ b₀ c₀ steps₀ at₀ n₀ number₀ place₀ fault₀ a b c steps at n number place fault = length normal - at
 
 loop-holds : tie.Need-loop-holds Inv-loop μ-loop
 loop-holds c =

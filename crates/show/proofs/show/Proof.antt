@@ -1,4 +1,5 @@
 -- By what translating answers; no text is longer than out has room for.
+use Rattle.show.proofs.Located.{translate-other}
 use Rattle.show.proofs.CallAnswers.{room-so, said-so, front-so, called-fits, called-counts, called-wrote, called-refused, text-refused, text-wrote}
 use Rattle.show.proofs.Sizes.{shown-room}
 use Rattle.rules.specs.Face.Shown.{refusalText, shownSteps, translatedLine, shown}
@@ -46,7 +47,7 @@ say-refusal-requires c κs =
     room-so (shown (t .args .reading) (t .args .mode) (t .args .text .now))
     (line (refusalText (c .before .before .written2 .given .0 .0) (c .before .before .written2 .given .0 .1 .0))) (t .args .out .now) 0
     (text-refused (t .args .reading) (t .args .mode) (t .args .text .now)
-    (called-refused (c .before .before .written2 .given .1) (c .before .before .before .before .before .before .translate .ensures) (t .pre .0)))
+    (called-refused (translate-other (t .args .text .now)) (c .before .before .written2 .given .1) (c .before .before .before .before .before .before .translate .ensures) (t .pre .0)))
     (shown-room (t .args .reading) (t .args .mode) (t .args .text .now) (t .args .out .now) (t .pre .1 .1))
 
 same-length : tie.Need-same-length
@@ -84,7 +85,8 @@ returns-2 c =
     front-so (said-so (shown (t .args .reading) (t .args .mode) (t .args .text .now))
     (line (refusalText (c .before .before .before .before .before .written2 .given .0 .0) (c .before .before .before .before .before .written2 .given .0 .1 .0))) (t .args .out .now) 0
     (text-refused (t .args .reading) (t .args .mode) (t .args .text .now)
-    (called-refused (c .before .before .before .before .before .written2 .given .1) (c .before .before .before .before .before .before .before .before .before .translate .ensures) (t .pre .0)))
+    (called-refused (translate-other (t .args .text .now)) (c .before .before .before .before .before .written2 .given .1)
+    (c .before .before .before .before .before .before .before .before .before .translate .ensures) (t .pre .0)))
     (c .before .before .say-refusal .ensures))
 
 pub show-spec : {M : Type 1} → statement M

@@ -1,4 +1,5 @@
 -- By what splitting answers, for which 65,536 bytes are room enough.
+use Rattle.show.proofs.Located.{split-other}
 use Rattle.show.proofs.CallAnswers.{room-so, said-so, called-fits, called-counts, called-wrote, called-refused, steps-refused, steps-wrote}
 use Rattle.rules.specs.Face.Shown.{refusalText, headed, shownChecks, shownSteps}
 use Rattle.rules.specs.Text.Split.{line}
@@ -43,7 +44,7 @@ say-refusal-requires c κs =
     (line (refusalText (c .before .before .written2 .given .0 .0) (c .before .before .written2 .given .0 .1 .0)))
     (t .args .out .now) (t .args .at)
     (steps-refused (t .args .reading) (t .args .mode) (t .args .text .now)
-    (called-refused (c .before .before .written2 .given .1) (c .before .before .before .before .before .before .split .ensures) (t .pre .0)))
+    (called-refused (split-other (t .args .text .now)) (c .before .before .written2 .given .1) (c .before .before .before .before .before .before .split .ensures) (t .pre .0)))
     (t .pre .1)
 
 same-length : tie.Need-same-length
@@ -75,7 +76,8 @@ returns-2 c =
     said-so (shownSteps (t .args .reading) (t .args .mode) (t .args .text .now))
     (line (refusalText (c .before .before .before .before .before .written2 .given .0 .0) (c .before .before .before .before .before .written2 .given .0 .1 .0))) (t .args .out .now) (t .args .at)
     (steps-refused (t .args .reading) (t .args .mode) (t .args .text .now)
-    (called-refused (c .before .before .before .before .before .written2 .given .1) (c .before .before .before .before .before .before .before .before .before .split .ensures) (t .pre .0)))
+    (called-refused (split-other (t .args .text .now)) (c .before .before .before .before .before .written2 .given .1)
+    (c .before .before .before .before .before .before .before .before .before .split .ensures) (t .pre .0)))
     (c .before .before .say-refusal .ensures)
 
 pub show-steps-spec : {M : Type 1} → statement M

@@ -5,7 +5,7 @@ use Prim.Native.Nat.{_-_}
 use native.Mathlib.Omega.{arith}
 use lib.Seq.{length-take-le}
 use Rattle.parameters.specs.Parts.{tableIn}
-use Rattle.parameters.proofs.EnterAll.{Words-left, words-all, words-end, words-none, word-ends, words-full, words-more}
+use Rattle.parameters.proofs.EnterAll.{Words-left, in-front, words-all, words-end, words-none, word-ends, words-full, words-more}
 use borrow.Author.Needs.{needs}
 use Rattle.parameters.proofs.elements.enter_words.Statement.{statement}
 use Rattle.parameters.proofs.elements.enter_words.Tie as tie
@@ -17,18 +17,18 @@ abbrev μ-loop : tie.MeasureT-loop
 μ-loop s row₀ count from to n first held₀ name₀ k₀ row held name k = to - k
 
 loop-holds : tie.Need-loop-holds Inv-loop μ-loop
-loop-holds c = words-all (c .before .pre .1 .0 .0) (c .before .pre .1 .0 .1) (c .before .pre .1 .1)
+loop-holds c = words-all (c .before .pre .1 .0 .0) (in-front (c .before .pre .0) (c .before .pre .1 .0 .1)) (c .before .pre .1 .1)
 
 slice-aggregate-run-end : tie.Need-slice-aggregate-run-end Inv-loop μ-loop
-slice-aggregate-run-end c = sym (length-take-le _ _ (c .before .before .before .before .pre .1 .0 .1))
+slice-aggregate-run-end c = let s = c .before .before .before .before in sym (length-take-le _ _ (in-front (s .pre .0) (s .pre .1 .0 .1)))
 
 run-end-requires : tie.Need-run-end-requires Inv-loop μ-loop
 run-end-requires c κs =
     let s = c .before .before .before .before in
-    omega (arith, length-take-le (s .args .to) (s .args .s .now) (s .pre .1 .0 .1), c .before .before .loop .inv .within)
+    omega (arith, length-take-le (s .args .to) (s .args .s .now) (in-front (s .pre .0) (s .pre .1 .0 .1)), c .before .before .loop .inv .within)
 
 slice-aggregate-run-end-2 : tie.Need-slice-aggregate-run-end-2 Inv-loop μ-loop
-slice-aggregate-run-end-2 c = sym (length-take-le _ _ (c .before .before .before .before .before .before .pre .1 .0 .1))
+slice-aggregate-run-end-2 c = let s = c .before .before .before .before .before .before in sym (length-take-le _ _ (in-front (s .pre .0) (s .pre .1 .0 .1)))
 
 run-end-requires-2 : tie.Need-run-end-requires-2 Inv-loop μ-loop
 run-end-requires-2 c κs = search needs

@@ -51,7 +51,7 @@ returns : tie.Need-returns
 returns c =
     let ran = c .before .before .before in
     let s = ran .before .before .before in
-    part-cut _ (s .pre .1 .0) (s .pre .1 .1) (ran .run-end .ensures) _ (c .before .before .if1 .taken) (c .run-end2 .ensures)
+    part-cut _ (s .pre .0) (s .pre .1 .0) (s .pre .1 .1) (ran .run-end .ensures) _ (c .before .before .if1 .taken) (c .run-end2 .ensures)
 
 add-t22 : tie.Need-add-t22
 add-t22 c = search needs
@@ -59,7 +59,7 @@ add-t22 c = search needs
 returns-2 : tie.Need-returns-2
 returns-2 c =
     let s = c .before .before .before .before .before in
-    rw (c .if2 .taken) (part-name _ (s .pre .1 .0) (s .pre .1 .1) (c .before .before .run-end .ensures) (s .pre .0) (c .before .if1 .left))
+    rw (c .if2 .taken) (part-name _ (s .pre .0) (s .pre .1 .0) (s .pre .1 .1) (c .before .before .run-end .ensures) (c .before .if1 .left))
 
 add-t10 : tie.Need-add-t10
 add-t10 c = search needs
@@ -70,7 +70,7 @@ add-t23 c = search needs
 returns-3 : tie.Need-returns-3
 returns-3 c =
     let s = c .before .before .before .before .before in
-    rw (c .if2 .left) (part-key _ (s .pre .1 .0) (s .pre .1 .1) (c .before .before .run-end .ensures) (s .pre .0) (c .before .if1 .left))
+    rw (c .if2 .left) (part-key _ (s .pre .0) (s .pre .1 .0) (s .pre .1 .1) (c .before .before .run-end .ensures) (c .before .if1 .left))
 
 pub part-of-spec : {M : Type 1} → statement M
 part-of-spec =

@@ -18,7 +18,7 @@ enter-words-requires : tie.Need-enter-words-requires
 enter-words-requires c κs =
     let s = c .before .before .before .before in
     let l = spelt-fits (s .pre .0) in
-    (s .pre .0, ((lead-within _ _ l (c .before .lead-end .ensures) .0, l), empty-good _ (empty-row _ (s .pre .1 .1))))
+    (s .pre .0, ((lead-within _ _ l (c .before .lead-end .ensures) .0, omega arith), empty-good _ (empty-row _ (s .pre .1 .1))))
 
 returns : tie.Need-returns
 returns c =
@@ -30,7 +30,7 @@ enter-words-requires-2 : tie.Need-enter-words-requires-2
 enter-words-requires-2 c κs =
     let led = c .before .before .before .before in
     let s = led .before .before .before in
-    (s .pre .0, ((omega arith, lead-within _ _ (spelt-fits (s .pre .0)) (led .lead-end .ensures) .1), c .before .before .enter-words .ensures .good (c .before .if1 .left)))
+    (s .pre .0, ((omega arith, lead-within _ _ (spelt-fits (s .pre .0)) (led .lead-end .ensures) .0), c .before .before .enter-words .ensures .good (c .before .if1 .left)))
 
 returns-2 : tie.Need-returns-2
 returns-2 c =

@@ -1,6 +1,6 @@
 -- What a parameter may be refused by goes by what its key takes.
 use mathlib.Core.Path.{sym, _∙_}
-use Rattle.prepare.proofs.LowestFault.{fault-lacking, fault-flag, fault-word, fault-series}
+use Rattle.prepare.proofs.EarliestFault.{finds-lacking, finds-flag, finds-word, finds-series}
 use borrow.Author.Needs.{needs}
 use Rattle.prepare.proofs.faults.fault_of.Statement.{statement}
 use Rattle.prepare.proofs.faults.fault_of.Tie as tie
@@ -36,20 +36,20 @@ series-requires : tie.Need-series-requires
 series-requires c κs = search needs
 
 returns : tie.Need-returns
-returns c = rw (c .without-series .ensures) (fault-lacking (sym (c .before .enum-told .given .1) ∙ c .before .before .before .kind-of .ensures))
+returns c = rw (c .without-series .ensures) (finds-lacking _ (sym (c .before .enum-told .given .1) ∙ c .before .before .before .kind-of .ensures))
 
 returns-2 : tie.Need-returns-2
 returns-2 c =
     let enum-told2 = c .before .before .enum-told2 in
     let kind-of = c .before .before .before .before .kind-of in
     let fault-of-flag = c .before .fault-of-flag in
-    rw (c .without-series2 .ensures) (fault-flag (sym (enum-told2 .given .1) ∙ kind-of .ensures) (fault-of-flag .ensures))
+    rw (c .without-series2 .ensures) (finds-flag _ (sym (enum-told2 .given .1) ∙ kind-of .ensures) (fault-of-flag .ensures))
 
 returns-3 : tie.Need-returns-3
-returns-3 c = rw (c .without-series3 .ensures) (fault-word (sym (c .before .enum-told3 .given .1) ∙ c .before .before .before .kind-of .ensures))
+returns-3 c = rw (c .without-series3 .ensures) (finds-word _ (sym (c .before .enum-told3 .given .1) ∙ c .before .before .before .kind-of .ensures))
 
 returns-4 : tie.Need-returns-4
-returns-4 c = fault-series (sym (c .before .enum-told4 .given .1) ∙ c .before .before .before .kind-of .ensures) (c .series .ensures)
+returns-4 c = finds-series _ (sym (c .before .enum-told4 .given .1) ∙ c .before .before .before .kind-of .ensures) (c .series .ensures)
 
 pub fault-of-spec : {M : Type 1} → statement M
 fault-of-spec =

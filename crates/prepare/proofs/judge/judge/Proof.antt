@@ -2,7 +2,9 @@
 use mathlib.Core.Path.{sym, _∙_}
 use borrow.Author.Tests.{not-true, not-false}
 use Rattle.rules.specs.Text.Ascii.{ascii}
-use Rattle.prepare.proofs.Judged.{judged-unnamed, judged-other, judged-named}
+use denote.Ref.{now}
+use Rattle.parameters.specs.Parts.{tableIn}
+use Rattle.prepare.proofs.Judged.{in-places, judged-unnamed, judged-other, judged-named}
 use borrow.Author.Needs.{needs}
 use Rattle.prepare.proofs.judge.judge.Statement.{statement}
 use Rattle.prepare.proofs.judge.judge.Tie as tie
@@ -18,7 +20,10 @@ refused-requires c κs = search needs
 
 returns : tie.Need-returns
 unfolding ascii
-returns c = judged-unnamed _ (c .before .before .before .value-of .ensures) (not-true _ (c .before .if1 .taken)) (c .refused .ensures)
+returns c =
+    let looked = c .before .before .before in
+    let start = looked .before .before .before in
+    judged-unnamed _ _ (in-places (tableIn (now (start .args .row)) (start .args .n)) _ (looked .value-of .ensures)) (not-true _ (c .before .if1 .taken)) (c .refused .ensures)
 
 sub-name-of : tie.Need-sub-name-of
 sub-name-of c = search needs
@@ -48,19 +53,24 @@ returns-2 : tie.Need-returns-2
 unfolding ascii
 returns-2 c =
     let known = c .before .before in
-    let read = known .before .before in
-    let first = read .before .before in
+    let named-so = known .before .before in
+    let first = named-so .before .before in
     let looked = first .before .before in
-    judged-named _ (looked .value-of .ensures) (not-false _ (first .if1 .left)) (sym (read .name-of .ensures) ∙ known .named .given .1) (c .judge-named .ensures)
+    let start = looked .before .before .before in
+    let named = known .named in
+    let there = in-places (tableIn (now (start .args .row)) (start .args .n)) _ (looked .value-of .ensures) in
+    judged-named _ _ there (not-false _ (first .if1 .left)) (sym (named-so .name-of .ensures) ∙ named .given .1) (c .judge-named .ensures)
 
 returns-3 : tie.Need-returns-3
 unfolding ascii
 returns-3 c =
-    let ended = c .before in
-    let read = ended .before .before in
-    let first = read .before .before in
+    let named = c .before .before .before in
+    let first = named .before .before in
     let looked = first .before .before in
-    judged-other _ (looked .value-of .ensures) (not-false _ (first .if1 .left)) (sym (read .name-of .ensures) ∙ ended .enum-told .given .1) (c .refused2 .ensures)
+    let start = looked .before .before .before in
+    let told = c .before .enum-told in
+    let there = in-places (tableIn (now (start .args .row)) (start .args .n)) _ (looked .value-of .ensures) in
+    judged-other _ _ there (not-false _ (first .if1 .left)) (sym (named .name-of .ensures) ∙ told .given .1) (c .refused2 .ensures)
 
 pub judge-spec : {M : Type 1} → statement M
 judge-spec =

@@ -1,7 +1,11 @@
--- `judge_named`: the number that `lowest_of` finds is 11 to 14, so it refuses by one below 14, and where it is 14 the operator's own rule says the rest.
+-- `judge_named`: the number that `lowest_of` finds is 11 to 14, so it refuses by one below 14, at the byte that it finds, and where it is 14 the
+-- operator's own rule says the rest.
 use native.Mathlib.Omega.{arith}
 use denote.Ref.{now}
-use Rattle.prepare.specs.Lookup.{paramsIn}
+use Rattle.parameters.specs.Parts.{tableIn}
+use Rattle.prepare.specs.Lookup.{placedIn}
+use Rattle.prepare.specs.Faults.{unplaced}
+use Rattle.prepare.proofs.EarliestFault.{given-in}
 use Rattle.prepare.proofs.Judged.{lowest-least, lowest-most, judged-low, judged-own}
 use borrow.Author.Needs.{needs}
 use Rattle.prepare.proofs.judge.judge_named.Statement.{statement}
@@ -12,22 +16,25 @@ lowest-of-requires c κs = search needs
 
 refused-requires : tie.Need-refused-requires
 refused-requires c κs =
-    let low = c .before in
-    let start = low .before .before in
-    omega (arith, low .lowest-of .ensures .number, lowest-least (start .args .name) (paramsIn (now (start .args .s)) (now (start .args .row)) (start .args .n)))
+    let low = c .before .lowest-of in
+    let t = c .before .before .before .args in
+    omega (arith, low .ensures .lowers .number, lowest-least (t .name) (unplaced (placedIn (now (t .s)) (now (t .row)) (t .n))))
 
 returns : tie.Need-returns
-returns c = judged-low _ _ (c .before .before .lowest-of .ensures .number) _ (c .before .if1 .taken) (c .refused .ensures)
+returns c = judged-low _ _ (c .before .before .lowest-of .ensures) _ (c .before .if1 .taken) (c .refused .ensures)
 
 own-rule-requires : tie.Need-own-rule-requires
 own-rule-requires c κs =
-    let low = c .before in
-    let start = low .before .before in
-    let most = lowest-most (start .args .name) (paramsIn (now (start .args .s)) (now (start .args .row)) (start .args .n)) in
-    (start .pre, (low .lowest-of .ensures, omega (arith, low .lowest-of .ensures .number, c .if1 .left, most)))
+    let start = c .before .before .before in
+    let low = c .before .lowest-of in
+    let t = start .args in
+    let most = lowest-most (t .name) (unplaced (placedIn (now (t .s)) (now (t .row)) (t .n))) in
+    (start .pre .0, (rw (given-in (now (t .s)) (tableIn (now (t .row)) (t .n))) at (low .ensures .lowers), omega (arith, low .ensures .lowers .number, c .if1 .left, most)))
 
 returns-2 : tie.Need-returns-2
-returns-2 c = judged-own _ _ (c .before .before .lowest-of .ensures .number) _ (c .before .if1 .left) (c .own-rule .ensures)
+returns-2 c =
+    let t = c .before .before .before .before .args in
+    judged-own _ _ (c .before .before .lowest-of .ensures) _ (c .before .if1 .left) (rw (given-in (now (t .s)) (tableIn (now (t .row)) (t .n))) (c .own-rule .ensures))
 
 pub judge-named-spec : {M : Type 1} → statement M
 judge-named-spec =

@@ -1,13 +1,13 @@
--- `judge_text`: each test that a text does not pass is one that the table of its parameters makes too; what passes them all is judged by its table.
-use mathlib.Core.Path.{refl, sym, _∙_}
-use Rattle.parameters.proofs.Tabled.{spelt-front}
-use Rattle.prepare.proofs.StepText.{text-parted, text-blank, text-modifiers, text-full, text-table}
+-- `judge_text`: each test that a text does not pass is one that the table of its parameters makes too; what passes them all is judged by its words as
+-- they are cut, which stand in b with `_nametrue` behind them.
+use mathlib.Core.Path.{sym, _∙_}
+use denote.Ref.{now}
+use Rattle.text.proofs.Wrote.{wrote-fits, wrote-counts}
+use Rattle.prepare.proofs.StepByStep.{line-some}
+use Rattle.prepare.proofs.StepText.{text-parted, text-blank, text-modifiers, text-cut, line-room, has-line, no-line, behind-room, cut-spelt, cut-short, cut-words, cut-joined}
 use borrow.Author.Needs.{needs}
 use Rattle.prepare.proofs.judge.judge_text.Statement.{statement}
 use Rattle.prepare.proofs.judge.judge_text.Tie as tie
-
-slice-aggregate-run-end : tie.Need-slice-aggregate-run-end
-slice-aggregate-run-end c = spelt-front (c .before .before .pre)
 
 run-end-requires : tie.Need-run-end-requires
 run-end-requires c κs = search needs
@@ -16,16 +16,7 @@ refused-requires : tie.Need-refused-requires
 refused-requires c κs = search needs
 
 returns : tie.Need-returns
-returns c =
-    let first = c .before in
-    let ran = first .before in
-    let start = ran .before .before .before in
-    text-parted _ (start .pre) (ran .run-end .ensures) (first .if1 .taken) (c .refused .ensures)
-
-slice-aggregate-is-blank : tie.Need-slice-aggregate-is-blank
-slice-aggregate-is-blank c =
-    let start = c .before .before .before .before .before in
-    spelt-front (start .pre)
+returns c = text-parted _ (c .before .before .run-end .ensures) (c .before .if1 .taken) (c .refused .ensures)
 
 is-blank-requires : tie.Need-is-blank-requires
 is-blank-requires c κs = search needs
@@ -35,97 +26,109 @@ refused-requires-2 c κs = search needs
 
 returns-2 : tie.Need-returns-2
 returns-2 c =
-    let second = c .before in
-    let blank = second .before in
-    let first = blank .before .before in
+    let blank = c .before .before in
+    let first = blank .before in
     let ran = first .before in
-    let start = ran .before .before .before in
-    text-blank _ (start .pre) (ran .run-end .ensures) (first .if1 .left) (sym (blank .is-blank .ensures) ∙ second .if2 .taken) (c .refused2 .ensures)
+    text-blank _ (ran .run-end .ensures) (first .if1 .left) (sym (blank .is-blank .ensures) ∙ c .before .if2 .taken) (c .refused2 .ensures)
 
-slice-aggregate-is-lead : tie.Need-slice-aggregate-is-lead
-slice-aggregate-is-lead c =
-    let start = c .before .before .before .before .before .before .before .before in
-    spelt-front (start .pre)
+line-at-requires : tie.Need-line-at-requires
+line-at-requires c κs =
+    let start = c .before .before .before .before .before .before .before in
+    line-room (now (start .args .s)) (start .pre .1)
 
-is-lead-requires : tie.Need-is-lead-requires
-is-lead-requires c κs = search needs
+enum-known-line : tie.Need-enum-known-line
+enum-known-line c = search needs
+
+enum-told : tie.Need-enum-told
+enum-told c = search needs
 
 refused-requires-3 : tie.Need-refused-requires-3
 refused-requires-3 c κs = search needs
 
+same-length : tie.Need-same-length
+same-length c = search needs
+
 returns-3 : tie.Need-returns-3
 returns-3 c =
-    let third = c .before in
-    let lead = third .before in
-    let second = lead .before .before in
+    let wrote = c .before .before .before .before .before in
+    let second = wrote .before .before in
     let blank = second .before in
-    let first = blank .before .before in
+    let first = blank .before in
     let ran = first .before in
-    let start = ran .before .before .before in
-    let whole = sym (blank .is-blank .ensures) ∙ second .if2 .left in
-    text-modifiers _ (start .pre) (ran .run-end .ensures) (first .if1 .left) whole (sym (lead .is-lead .ensures) ∙ third .if3 .taken) (c .refused3 .ensures)
+    let told = c .before .enum-told in
+    text-modifiers _ (ran .run-end .ensures) (first .if1 .left) (sym (blank .is-blank .ensures) ∙ second .if2 .left) (no-line _ _ _ _ (wrote .line-at .ensures) (told .given .1)) (c .refused3 .ensures)
 
-table-of-requires : tie.Need-table-of-requires
-table-of-requires c κs =
-    let third = c .before in
-    let lead = third .before in
-    let start = lead .before .before .before .before .before .before .before .before .before in
-    (start .pre, (sym (lead .is-lead .ensures) ∙ third .if3 .left, refl))
+sub-n : tie.Need-sub-n
+sub-n c = let line = c .before .line in line-some _ (has-line _ _ _ _ (c .before .before .before .before .before .line-at .ensures) (line .given .1) .wrote)
 
-refused-requires-4 : tie.Need-refused-requires-4
-refused-requires-4 c κs = search needs
+slice-aggregate-put : tie.Need-slice-aggregate-put
+slice-aggregate-put c = search needs
+
+put-requires : tie.Need-put-requires
+put-requires c κs =
+    let lined = c .before .before .before in
+    let wrote = lined .before .before .before .before in
+    let start = wrote .before .before .before .before .before .before .before .before in
+    let line = lined .line in
+    behind-room (now (start .args .s)) (has-line _ _ _ _ (wrote .line-at .ensures) (line .given .1)) (start .pre .1) (wrote .line-at .kept .1 .0)
+
+slice-reshare-prefix-judge-cut : tie.Need-slice-reshare-prefix-judge-cut
+slice-reshare-prefix-judge-cut c = wrote-fits (c .before .before .put .ensures)
+
+slice-aggregate-judge-cut : tie.Need-slice-aggregate-judge-cut
+slice-aggregate-judge-cut c = wrote-counts (c .before .before .before .put .ensures)
+
+judge-cut-requires : tie.Need-judge-cut-requires
+judge-cut-requires c κs =
+    let spelt = c .before .before .before in
+    let lined = spelt .before .before .before .before in
+    let wrote = lined .before .before .before .before in
+    let start = wrote .before .before .before .before .before .before .before .before in
+    let line = lined .line in
+    let text = now (start .args .s) in
+    let has = has-line _ _ _ _ (wrote .line-at .ensures) (line .given .1) in
+    let put = spelt .put .ensures in
+    (cut-spelt text has put, (cut-short text has put (start .pre .0), cut-joined text has put))
+
+same-length-2 : tie.Need-same-length-2
+same-length-2 c = search needs
 
 returns-4 : tie.Need-returns-4
 returns-4 c =
-    let fourth = c .before in
-    let tabled = fourth .before in
-    let third = tabled .before .before in
-    let lead = third .before in
-    let second = lead .before .before in
+    let spelt = c .before .before .before .before in
+    let lined = spelt .before .before .before .before in
+    let wrote = lined .before .before .before .before in
+    let second = wrote .before .before in
     let blank = second .before in
-    let first = blank .before .before in
+    let first = blank .before in
     let ran = first .before in
     let start = ran .before .before .before in
-    let whole = sym (blank .is-blank .ensures) ∙ second .if2 .left in
-    let other = sym (lead .is-lead .ensures) ∙ third .if3 .left in
-    text-full _ (start .pre) (ran .run-end .ensures) (first .if1 .left) whole other (tabled .table-of .ensures .no-room (fourth .if4 .taken)) (c .refused4 .ensures)
-
-judge-requires : tie.Need-judge-requires
-judge-requires c κs = c .before .before .table-of .ensures .good (c .before .if4 .left)
-
-returns-5 : tie.Need-returns-5
-returns-5 c =
-    let fourth = c .before .before in
-    let tabled = fourth .before in
-    let third = tabled .before .before in
-    let lead = third .before in
-    let second = lead .before .before in
-    let blank = second .before in
-    let first = blank .before .before in
-    let ran = first .before in
-    let start = ran .before .before .before in
-    let whole = sym (blank .is-blank .ensures) ∙ second .if2 .left in
-    let other = sym (lead .is-lead .ensures) ∙ third .if3 .left in
-    text-table _ (start .pre) (ran .run-end .ensures) (first .if1 .left) whole other (tabled .table-of .ensures) (fourth .if4 .left) (c .judge .ensures)
+    let line = lined .line in
+    let text = now (start .args .s) in
+    let has = has-line _ _ _ _ (wrote .line-at .ensures) (line .given .1) in
+    text-cut _ (ran .run-end .ensures) (first .if1 .left) (sym (blank .is-blank .ensures) ∙ second .if2 .left) (has .other) (cut-words text has (spelt .put .ensures)) (c .judge-cut .ensures)
 
 pub judge-text-spec : {M : Type 1} → statement M
 judge-text-spec =
     tie.close
     (tie.spec
-    slice-aggregate-run-end
     run-end-requires
     refused-requires
     returns
-    slice-aggregate-is-blank
     is-blank-requires
     refused-requires-2
     returns-2
-    slice-aggregate-is-lead
-    is-lead-requires
+    line-at-requires
+    enum-known-line
+    enum-told
     refused-requires-3
+    same-length
     returns-3
-    table-of-requires
-    refused-requires-4
-    returns-4
-    judge-requires
-    returns-5)
+    sub-n
+    slice-aggregate-put
+    put-requires
+    slice-reshare-prefix-judge-cut
+    slice-aggregate-judge-cut
+    judge-cut-requires
+    same-length-2
+    returns-4)

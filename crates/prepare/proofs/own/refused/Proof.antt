@@ -8,7 +8,7 @@ blank-requires : tie.Need-blank-requires
 blank-requires c κs = search needs
 
 returns : tie.Need-returns
-returns c = refused-is _ _ (c .before .pre)
+returns c = refused-is _ _ _ (c .before .pre)
 
 pub refused-spec : {M : Type 1} → statement M
 refused-spec = tie.close (tie.spec blank-requires returns)

@@ -11,10 +11,10 @@ use Rattle.prepare.proofs.series.series.Statement.{statement}
 use Rattle.prepare.proofs.series.series.Tie as tie
 
 abbrev Inv-loop : tie.InvT-loop
-Inv-loop value list₀ whole₀ n₀ at₀ list whole n at = Reading value list whole n at
+Inv-loop value from list₀ whole₀ n₀ at₀ list whole n at = Reading value list whole n at
 
 abbrev μ-loop : tie.MeasureT-loop
-μ-loop value list₀ whole₀ n₀ at₀ list whole n at = length value + 1 - at
+μ-loop value from list₀ whole₀ n₀ at₀ list whole n at = length value + 1 - at
 
 loop-holds : tie.Need-loop-holds Inv-loop μ-loop
 loop-holds c = reading-none _
@@ -40,13 +40,18 @@ enum-known-number c = search needs
 enum-told : tie.Need-enum-told Inv-loop μ-loop
 enum-told c = search needs
 
+add-t16 : tie.Need-add-t16 Inv-loop μ-loop
+add-t16 c =
+    let turn = c .before .before .before .before .before in
+    omega (arith, turn .before .before .before .pre, turn .before .loop .inv .within, turn .loop-test .taken)
+
 returns : tie.Need-returns Inv-loop μ-loop
 returns c =
     let loop = c .before .before .before .before .before .before .loop in
     let loop-test = c .before .before .before .before .before .loop-test in
     let byte-end = c .before .before .before .before .byte-end in
     let decimal = c .before .before .decimal in
-    piece-not (loop .inv) (loop-test .taken) (byte-end .ensures) (sym (decimal .ensures) ∙ c .enum-told .given .1)
+    piece-not (loop .inv) (loop-test .taken) (byte-end .ensures) (sym (decimal .ensures) ∙ c .enum-told .given .1) _
 
 signed-requires : tie.Need-signed-requires Inv-loop μ-loop
 signed-requires c κs = digits-fit _ _ (sym (c .before .before .before .before .decimal .ensures) ∙ c .before .before .number .given .1)
@@ -84,10 +89,10 @@ loop-again c =
     reading-more (loop .inv) inside comma (sym piece ∙ number .1) x list whole
 
 returns-2 : tie.Need-returns-2 Inv-loop μ-loop
-returns-2 c = reading-many (c .before .before .loop .inv) (c .before .loop-test .left) (c .if3 .taken)
+returns-2 c = reading-many (c .before .before .loop .inv) (c .before .loop-test .left) (c .if3 .taken) _
 
 returns-3 : tie.Need-returns-3 Inv-loop μ-loop
-returns-3 c = reading-well (c .before .before .loop .inv) (c .before .loop-test .left) (c .if3 .left)
+returns-3 c = reading-well (c .before .before .loop .inv) (c .before .loop-test .left) (c .if3 .left) _
 
 pub series-spec : {M : Type 1} → statement M
 series-spec =
@@ -103,6 +108,7 @@ series-spec =
     decimal-requires
     enum-known-number
     enum-told
+    add-t16
     returns
     cast-signed
     signed-requires
