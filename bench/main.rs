@@ -21,12 +21,13 @@ mod token;
 
 // ----- the static library --------------------------------------------------------------------------------------------
 
-// What a call of the static library answers: number 0 and the answer's length, or the refusal's number and place.
+// What a call of the static library answers: number 0 and the answer's length, or the refusal's number, place and offset.
 #[repr(C)]
 struct Reply {
     number: u8,
     place: usize,
     length: usize,
+    offset: usize,
 }
 
 #[repr(C)]

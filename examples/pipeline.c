@@ -4,7 +4,7 @@
  *     pipeline [-p | -m] [-d] -x   the same for each line of standard input, which holds a definition in hexadecimal digits
  *
  * With -p the definition is read in PROJ's reading. With -m the first record is then marked as of the crate's: a mixture, which is
- * refused. With -d it is prepared in the documented mode.
+ * refused. With -d it is prepared in the documented mode. A number that is none is underlined in its step (not with -x).
  *
  * examples/run builds it.
  */
@@ -39,6 +39,23 @@ static void say_run(const char *direction, const sakondreno_step *table, size_t 
         printf("%s: %.17g,%.17g,%.17g,%.17g count %zu left %zu\n", direction, tuple[0], tuple[1], tuple[2], tuple[3], d.count, d.left);
 }
 
+/* The text of the step at a place, and a mark under one of its bytes. Splitting gives the steps, a line each. A step is normalised
+ * again when it is cut into parameters, so its line is split once more. */
+static void underline(const uint8_t *text, size_t length, size_t place, size_t offset)
+{
+    static uint8_t lines[65536], cut[65536];
+    sakondreno_answer all = sakondreno_split(text, length, lines, sizeof lines);
+    const uint8_t *line = lines, *end = memchr(line, '\n', all.length);
+    for (size_t i = 1; i < place; i++) {
+        line = end + 1;
+        end = memchr(line, '\n', (size_t)(lines + all.length - line));
+    }
+    sakondreno_answer one = sakondreno_split(line, (size_t)(end - line), cut, sizeof cut);
+    int label = printf("step %zu: ", place);
+    fwrite(cut, 1, one.length, stdout);
+    printf("%*s^\n", label + (int)offset, "");
+}
+
 /* How a definition is prepared. */
 typedef struct {
     uint8_t reading, mode;
@@ -52,10 +69,16 @@ static sakondreno_answer prepare(const uint8_t *text, size_t length, way how, sa
     return sakondreno_prepare_as(text, length, how.reading, how.mode, table, 64);
 }
 
-static void say(const uint8_t *text, size_t length, way how)
+static void say(const uint8_t *text, size_t length, way how, bool underlined)
 {
     sakondreno_step table[64];
     sakondreno_answer p = prepare(text, length, how, table);
+    if (p.number == SAKONDRENO_NUMBER) {
+        printf("refused 12 %zu %zu\n", p.place, p.offset);
+        if (underlined)
+            underline(text, length, p.place, p.offset);
+        return;
+    }
     if (p.number != 0) {
         printf("refused %u %zu\n", p.number, p.place);
         return;
@@ -92,14 +115,14 @@ int main(int argc, char **argv)
         .mixed = mixed,
     };
     if (!given(argc, argv, "-x")) {
-        say(text, fread(text, 1, sizeof text, stdin), how);
+        say(text, fread(text, 1, sizeof text, stdin), how, true);
         return 0;
     }
     while (fgets((char *)line, sizeof line, stdin)) {
         size_t n = strcspn((char *)line, "\n") / 2;
         for (size_t i = 0; i < n; i++)
             text[i] = (uint8_t)(digit(line[2 * i]) << 4 | digit(line[2 * i + 1]));
-        say(text, n, how);
+        say(text, n, how, false);
     }
     return 0;
 }

@@ -4,7 +4,7 @@
 //!     pipeline [-p | -m] [-d] -x   the same for each line of standard input, which holds a definition in hexadecimal digits
 //!
 //! With -p the definition is read in PROJ's reading. With -m the first record is then marked as of the crate's: a mixture, which is
-//! refused. With -d it is prepared in the documented mode.
+//! refused. With -d it is prepared in the documented mode. A number that is none is underlined in its step (not with -x).
 //!
 //! examples/run builds it. `mod sakondreno` is what a Rust program needs of the library: the records and the calls, each in
 //! a safe wrapper. The calls keep no reference, write only to what they are lent, and end on every input.
@@ -41,6 +41,7 @@ mod sakondreno {
         number: u8,
         place: usize,
         length: usize,
+        offset: usize,
     }
 
     #[repr(C)]
@@ -75,26 +76,35 @@ mod sakondreno {
         left: usize,
     }
 
-    /// A refusal: its number and its place.
+    /// A refusal: its number and its place, and the offset of 12, which is 0 of any other.
     pub struct Refused {
         pub number: u8,
         pub place: usize,
+        pub offset: usize,
     }
 
     unsafe extern "C" {
+        fn sakondreno_split(text: *const u8, length: usize, out: *mut u8, room: usize) -> Answer;
         fn sakondreno_prepare(text: *const u8, length: usize, table: *mut Step, room: usize) -> Answer;
         fn sakondreno_prepare_as(text: *const u8, length: usize, reading: u8, mode: u8, table: *mut Step, room: usize) -> Answer;
         fn sakondreno_check(table: *const Step, steps: usize, inverse: u8) -> Checked;
         fn sakondreno_run(table: *const Step, steps: usize, inverse: u8, tuples: *mut f64, numbers: usize, store: *mut f64, room: usize) -> Done;
     }
 
-    /// The first records of a row, or the refusal, as the answer has it.
-    fn answered(a: Answer, mut table: Vec<Step>) -> Result<Vec<Step>, Refused> {
+    /// The first of a row that was lent, or the refusal, as the answer has it.
+    fn answered<T>(a: Answer, mut row: Vec<T>) -> Result<Vec<T>, Refused> {
         if a.number != 0 {
-            return Err(Refused { number: a.number, place: a.place });
+            return Err(Refused { number: a.number, place: a.place, offset: a.offset });
         }
-        table.truncate(a.length);
-        Ok(table)
+        row.truncate(a.length);
+        Ok(row)
+    }
+
+    /// The steps of a definition, each with a newline after it.
+    pub fn split(text: &[u8]) -> Result<Vec<u8>, Refused> {
+        let mut out = vec![0; 65536];
+        let a = unsafe { sakondreno_split(text.as_ptr(), text.len(), out.as_mut_ptr(), out.len()) };
+        answered(a, out)
     }
 
     /// The records of a definition, in the crate's reading and the crate's mode.
@@ -120,13 +130,13 @@ mod sakondreno {
     pub fn run(table: &[Step], inverse: bool, tuples: &mut [f64], store: &mut [f64]) -> Result<(usize, usize), Refused> {
         let d = unsafe { sakondreno_run(table.as_ptr(), table.len(), inverse as u8, tuples.as_mut_ptr(), tuples.len(), store.as_mut_ptr(), store.len()) };
         if d.number != 0 {
-            return Err(Refused { number: d.number, place: d.place });
+            return Err(Refused { number: d.number, place: d.place, offset: 0 });
         }
         Ok((d.count, d.left))
     }
 }
 
-use sakondreno::{Mode, Reading, Refused, Step, check, run};
+use sakondreno::{Mode, Reading, Refused, Step, check, run, split};
 use std::io::{BufRead, Read, Write};
 
 fn say_check(out: &mut impl Write, direction: &str, table: &[Step], inverse: bool) -> std::io::Result<()> {
@@ -157,6 +167,18 @@ fn say_run(out: &mut impl Write, direction: &str, table: &[Step], inverse: bool)
     }
 }
 
+/// The text of the step that is refused, and a mark under the byte at the offset. Splitting gives the steps, a line each. A step is
+/// normalised again when it is cut into parameters, so its line is split once more.
+fn underline(out: &mut impl Write, text: &[u8], r: &Refused) -> std::io::Result<()> {
+    let Ok(lines) = split(text) else { return Ok(()) };
+    let Some(line) = lines.split(|b| *b == b'\n').nth(r.place - 1) else { return Ok(()) };
+    let Ok(cut) = split(line) else { return Ok(()) };
+    let label = format!("step {}: ", r.place);
+    write!(out, "{label}")?;
+    out.write_all(&cut)?;
+    writeln!(out, "{}^", " ".repeat(label.len() + r.offset))
+}
+
 /// How a definition is prepared.
 #[derive(Clone, Copy)]
 struct Way {
@@ -172,8 +194,12 @@ fn prepare(text: &[u8], way: Way) -> Result<Vec<Step>, Refused> {
     sakondreno::prepare_as(text, way.reading, way.mode)
 }
 
-fn say(out: &mut impl Write, text: &[u8], way: Way) -> std::io::Result<()> {
+fn say(out: &mut impl Write, text: &[u8], way: Way, underlined: bool) -> std::io::Result<()> {
     let mut table = match prepare(text, way) {
+        Err(r) if r.number == 12 => {
+            writeln!(out, "refused 12 {} {}", r.place, r.offset)?;
+            return if underlined { underline(out, text, &r) } else { Ok(()) };
+        }
         Err(r) => return writeln!(out, "refused {} {}", r.number, r.place),
         Ok(table) => table,
     };
@@ -199,12 +225,12 @@ fn main() -> std::io::Result<()> {
     if !given("-x") {
         let mut text = Vec::new();
         std::io::stdin().read_to_end(&mut text)?;
-        return say(&mut out, &text, way);
+        return say(&mut out, &text, way, true);
     }
     for line in std::io::stdin().lock().lines() {
         let line = line?;
         let text: Vec<u8> = line.as_bytes().chunks_exact(2).map(|d| u8::from_str_radix(std::str::from_utf8(d).unwrap(), 16).unwrap()).collect();
-        say(&mut out, &text, way)?;
+        say(&mut out, &text, way, false)?;
     }
     Ok(())
 }

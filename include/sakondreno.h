@@ -10,6 +10,12 @@
  * place; then all that it was lent is as it was at the call. An answer writes nothing past its own end. A place is that of the
  * faulty step or record, counted from 1, or 0 where none is at fault.
  *
+ * OFFSETS. Refusal 12 also says at which byte of the step's text the fault is, counted from 0: where the first element of a
+ * series begins that is no number, where the value of a bad flag begins, or where a missing value would begin, which may be the
+ * end of the text. Of several faults it is the first. An editor underlines there. The text is the one that is cut into
+ * parameters: words one space apart, leading modifiers turned to the end. To have it, take the step's line from
+ * `sakondreno_split` and split that line once more, since a step is normalised again when it is cut.
+ *
  * TEXTS are bytes, without a zero at the end: ASCII and the ten subscript digits, at most 4,096 bytes.
  */
 #ifndef SAKONDRENO_H
@@ -104,6 +110,7 @@ typedef struct {
     uint8_t number; /* 0: an answer; else the refusal's number */
     size_t place;   /* of the refusal */
     size_t length;  /* of the answer: bytes, or records */
+    size_t offset;  /* of refusal 12, which is preparing's: the byte of the step's text at which the fault is; else 0 */
 } sakondreno_answer;
 
 /* The definition in its normal form. */

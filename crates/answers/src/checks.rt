@@ -5,7 +5,7 @@ use crate::given::Source;
 use crate::given::read_given;
 use answers_say::Heading;
 use answers_say::read_direction;
-use answers_say::say_refusal;
+use answers_say::say_unprepared;
 use answers_say::say_what;
 use answers_steps::say_foretold;
 use foretell::check;
@@ -37,7 +37,11 @@ fn check_given(g: Given, direction: Direction, out: &mut [u8; 65536], at: usize)
     let table = g.table;
     match had {
         Had::Steps => say_foretold(check(table, direction), g.kept, out, at),
-        Had::Refused { number, place } => say_refusal(number, place, g.kept, out, at),
+        Had::Refused {
+            number,
+            place,
+            offset,
+        } => say_unprepared(number, place, offset, g.kept, out, at),
         Had::Nothing => say_what(out, at),
     }
 }

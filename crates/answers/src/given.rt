@@ -22,7 +22,11 @@ pub enum Source {
 // Whether there is a table; what preparing refused; or nothing, where the line is no request.
 pub enum Had {
     Steps,
-    Refused { number: u8, place: usize },
+    Refused {
+        number: u8,
+        place: usize,
+        offset: usize,
+    },
     Nothing,
 }
 
@@ -64,10 +68,15 @@ fn given_prepared(made: Preparing) -> Given {
             table: first(table, count),
             kept: is_untouched(table, count, MOST_STEPS),
         },
-        Prepared::Refused { number, place } => Given {
+        Prepared::Refused {
+            number,
+            place,
+            offset,
+        } => Given {
             had: Had::Refused {
                 number: number,
                 place: place,
+                offset: offset,
             },
             table: table,
             kept: is_untouched(table, 0, MOST_STEPS),

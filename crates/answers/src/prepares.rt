@@ -1,6 +1,6 @@
 // `prepare`: the text is prepared into a lent table, and its records are said.
 use crate::marks::Way;
-use answers_say::say_refusal;
+use answers_say::say_unprepared;
 use answers_say::say_what;
 use answers_steps::MOST_STEPS;
 use answers_steps::is_untouched;
@@ -53,8 +53,13 @@ fn say_prepared(made: Preparing, room: usize, out: &mut [u8; 65536], at: usize) 
     let table = made.table;
     match answer {
         Prepared::Steps(count) => say_table(table, count, room, out, at),
-        Prepared::Refused { number, place } => {
-            say_refusal(number, place, is_untouched(table, 0, room), out, at)
+        Prepared::Refused {
+            number,
+            place,
+            offset,
+        } => {
+            let kept = is_untouched(table, 0, room);
+            say_unprepared(number, place, offset, kept, out, at)
         }
     }
 }

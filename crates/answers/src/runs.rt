@@ -5,7 +5,7 @@ use crate::given::Source;
 use crate::given::read_given;
 use answers_say::Heading;
 use answers_say::read_direction;
-use answers_say::say_refusal;
+use answers_say::say_unprepared;
 use answers_say::say_what;
 use answers_steps::GUARD;
 use answers_steps::UNTOUCHED_NUMBER;
@@ -104,7 +104,11 @@ fn run_sized(
             out,
             at,
         ),
-        Had::Refused { number, place } => say_refusal(number, place, g.kept, out, at),
+        Had::Refused {
+            number,
+            place,
+            offset,
+        } => say_unprepared(number, place, offset, g.kept, out, at),
         Had::Nothing => say_what(out, at),
     }
 }

@@ -5,7 +5,7 @@ use crate::given::Source;
 use crate::given::read_given;
 use answers_say::MOST_ROOM;
 use answers_say::say_lent;
-use answers_say::say_refusal;
+use answers_say::say_unprepared;
 use answers_say::say_what;
 use rules::Table;
 use rules::Written;
@@ -35,7 +35,11 @@ fn write_given(g: Given, lent: &mut [u8; 131088], out: &mut [u8; 65536], at: usi
     let table = g.table;
     match had {
         Had::Steps => say_lent(lend(table, lent), MOST_ROOM, lent, out, at),
-        Had::Refused { number, place } => say_refusal(number, place, g.kept, out, at),
+        Had::Refused {
+            number,
+            place,
+            offset,
+        } => say_unprepared(number, place, offset, g.kept, out, at),
         Had::Nothing => say_what(out, at),
     }
 }

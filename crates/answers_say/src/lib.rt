@@ -205,6 +205,26 @@ pub fn say_refused(number: u8, place: usize, out: &mut [u8; 65536], at: usize) -
     say_two(b"refused ", number as usize, place, out, at)
 }
 
+// A refusal of preparing, which for 12 has an offset: `refused 12 PLACE OFFSET`.
+pub fn say_unprepared(
+    number: u8,
+    place: usize,
+    offset: usize,
+    kept: bool,
+    out: &mut [u8; 65536],
+    at: usize,
+) -> usize
+    requires { ⌜ at ≤ 65536 ⌝ }
+    ensures { λ r. ⌜ r ≤ 65536 ⌝ }
+{
+    let told = say_refused(number, place, out, at);
+    if number == 12 {
+        let located = say_counted(b" ", offset, out, told);
+        return end_line(kept, out, located);
+    }
+    end_line(kept, out, told)
+}
+
 // A refusal as a line of its own.
 pub fn say_refusal(number: u8, place: usize, kept: bool, out: &mut [u8; 65536], at: usize) -> usize
     requires { ⌜ at ≤ 65536 ⌝ }
