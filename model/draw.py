@@ -681,6 +681,56 @@ def worse_step(rng):
     return b" ".join([name] + rng.sample(faults, rng.randint(2, 3)))
 
 
+def faulty_word(rng, key, is_series):
+    """A word with this key, and where in it its value is faulty; None for a good one."""
+    if not is_series:
+        value = rng.choice([b"", b"=true", b"=true=no", *NO_FLAGS, *NO_FLAGS])
+        return key + value, len(key + b"=") if value in NO_FLAGS else None
+    if rng.random() < 0.1:
+        return key, len(key)
+    pieces = [decimal(rng, rng.randint(0, 9), False) for _ in range(rng.randint(1, 4))]
+    if rng.random() < 0.4:
+        return key + b"=" + b",".join(pieces), None
+    at = rng.randrange(len(pieces))
+    good, bad = pieces[:at], [rng.choice(NO_DECIMALS)] + pieces[at:]
+    return key + b"=" + b",".join(good + bad), len(b",".join([key] + good)) + 1
+
+
+# Those that take no space behind them
+NO_FLAGS = [b"=TRUE", b"=false", b"=1", b"=true,1", b"=tru", b"==true", b"=no=true", b"=:true"]
+NO_DECIMALS = [piece for piece in NOT_DECIMALS if piece != b"true"]
+
+
+def faulty_step(rng):
+    """A step with faults of refusal 12 only, repeated keys among them; and the byte of the first
+    fault in its text as it is cut into parameters."""
+    name = rng.choice(NAMES)
+    series = SERIES_KEYS.get(name, ())
+    keys = rng.choices([*series, *FLAG_KEYS.get(name, ()), *MODIFIERS], k=rng.randint(1, 6))
+    words, faults = [(name, None)], {}
+    words += [faulty_word(rng, key, key in series) for key in keys]
+    at = 0
+    for key, (word, fault) in zip([b"_name"] + keys, words):
+        faults[key] = None if fault is None else at + fault
+        at += len(word + b" ")
+    found = [fault for fault in faults.values() if fault is not None]
+    if not found:
+        return faulty_step(rng)
+    front = rng.choices(MODIFIERS, k=rng.choice((0, 0, 1, 2)))
+    if any(mark in keys for mark in front):  # turned to the end it would be the last of its key
+        front = []
+    space = rng.choice((b" ", b" ", b"  ", b"\t", b" \n"))
+    text = space.join(front + [word for word, _ in words])
+    return rng.choice((b"", b"", b":", b": ", b" ")) + text, min(found)
+
+
+def faulty_definition(rng):
+    """Such a step among good ones."""
+    texts = [step_text(rng, record(rng)) for _ in range(rng.randint(0, 3))]
+    texts.insert(rng.randint(0, len(texts)), faulty_step(rng)[0])
+    return b"|".join(texts)
+
+
 def definition(rng):
     """A definition that is accepted."""
     return table_text(rng, good_table(rng, rng.choice((FWD, INV))))
@@ -794,7 +844,7 @@ def text_request(rng):
 
 def any_definition(rng):
     return rng.choice([definition, definition, wrong_definition, wrong_definition, text,
-                       adapt_definition])(rng)
+                       adapt_definition, faulty_definition])(rng)
 
 
 MARK_OF = {way: mark for mark, way in WAYS.items()}

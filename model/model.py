@@ -1,7 +1,7 @@
-"""A model of the rules of document 01, and of requests 1 and 2 of document 02, in plain Python.
+"""A model of the rules of document 01, and of requests 1 to 3 of document 02, in plain Python.
 
 The words of the papers stand in quotes above the function that carries them.
-Texts are bytes. A call answers, or returns Refused(number, place). Run as a
+Texts are bytes. A call answers, or returns Refused(number, place, offset). Run as a
 program, it reads requests from standard input and writes one line for each.
 """
 
@@ -20,14 +20,22 @@ MOST_TUPLES = 65536
 MOST_SIZE = 999_999_999  # "1 to 9 digits"
 
 
-# "A refusal returns its number and a place"
+# "A refusal returns its number and a place"; "Refusals: 12 gains the offset."
+# "No other refusal has an offset; in an answer's record it is 0 then."
 class Refused(NamedTuple):
     number: int
     place: int
+    offset: int = 0
 
 
 def refuses(answer):
     return isinstance(answer, Refused)
+
+
+# "a line such as `refused 6 2`: number, place"; "`refused 12 2 15`: number, place, offset"
+def refusal_line(refusal):
+    numbers = refusal if refusal.number == 12 else refusal[:2]
+    return " ".join(["refused", *map(str, numbers)])
 
 
 # ----- What every text call tests --------------------------------------------
@@ -164,6 +172,18 @@ def parameter_table(t):
         return Refused(6, 0)
     table = keys_and_values(words)
     return Refused(9, 0) if len(table) > MOST_KEYS else table
+
+
+# "within the step's text as cut into parameters": "after the second normalising, leading modifiers
+# turned to the end". "a missing value the byte after its key or `=`"; of a repeated key the last
+def value_starts(t):
+    """The byte of that text at which each key's value begins, or would."""
+    starts, at = {}, 0
+    for word in turned(normal(t).split()):
+        key, equals, _ = word.partition(b"=")
+        starts[key] = at + len(key + equals)
+        at += len(word + b" ")
+    return starts
 
 
 # "Keys come out in byte order."
@@ -357,6 +377,18 @@ def series(value):
     return [decimal(piece) for piece in value.split(b",")]
 
 
+# "the byte offset .. of the first element that breaks decimal form"; of an empty piece "where the
+# piece would begin"
+def first_broken(value):
+    """In the value; None where all are in decimal form."""
+    at = 0
+    for piece in value.split(b","):
+        if decimal(piece) is None:
+            return at
+        at += len(piece + b",")
+    return None
+
+
 # "whole-number tests on the parsed decimal"
 def whole(value):
     """The whole numbers of a series in decimal form; None if one is not whole."""
@@ -387,10 +419,12 @@ KEYS = {
 
 
 # "a series element not in decimal form, or a flag other than bare or `=true`"
-def breaks_12(kind, value):
-    if kind == FLAG:
-        return value != b"true"
-    return kind == SERIES and None in series(value)
+# "A bad flag reports the first byte of its value"
+def fault_12(kind, value):
+    """Where in its value it is; None for none."""
+    if kind == SERIES:
+        return first_broken(value)
+    return 0 if kind == FLAG and value != b"true" else None
 
 
 # "a series of more than 8 elements"
@@ -528,32 +562,42 @@ MODE_RULES = {CRATE_MODE: RULES, DOCUMENTED_MODE: {**RULES, b"adapt": documented
 
 # ----- Preparing -------------------------------------------------------------
 
-def judged(name, table, mode):
+# "with both, the earlier byte is reported"
+def offset_12(kinds, table, starts):
+    """The least offset of a fault; None for none."""
+    faults = {key: fault_12(kinds[key], value) for key, value in table.items()}
+    return min((starts[key] + at for key, at in faults.items() if at is not None), default=None)
+
+
+def judged(name, table, starts, mode, place):
     """Refusals 11 to 14 of a known operator; else its record."""
     kinds = KEYS[name]
     if any(key not in kinds for key in table):
-        return 11
-    if any(breaks_12(kinds[key], value) for key, value in table.items()):
-        return 12
+        return Refused(11, place)
+    offset = offset_12(kinds, table, starts)
+    if offset is not None:
+        return Refused(12, place, offset)
     if any(breaks_13(kinds[key], value) for key, value in table.items()):
-        return 13
+        return Refused(13, place)
     step = MODE_RULES[mode][name](table)
     if step is None:
-        return 14
+        return Refused(14, place)
     return new_step(*step, *(int(mark in table) for mark in MODIFIERS))
 
 
 # "its lowest number of 1, 6, 9 to 14, judging 14 only if no other applies"
 # "Each step is normalised again when cut into parameters."
-def prepare_step(text, mode=CRATE_MODE):
-    """A record, or the number that refuses it."""
+def prepare_step(text, mode=CRATE_MODE, place=1):
+    """A record, or what refuses it."""
     if len(text) > MOST_BYTES:
-        return 1
+        return Refused(1, place)
     table = parameter_table(text)
     if refuses(table):
-        return table.number
+        return Refused(table.number, place)
     name = table.pop(b"_name", None)
-    return judged(name, table, mode) if name in KEYS else 10
+    if name not in KEYS:
+        return Refused(10, place)
+    return judged(name, table, value_starts(text), mode, place)
 
 
 # "Preparing splits first, then takes the first faulty step"
@@ -565,9 +609,9 @@ def prepare(t, reading=CRATE, mode=CRATE_MODE):
         return texts
     steps = []
     for place, text in enumerate(texts, 1):
-        step = prepare_step(text, mode)
-        if isinstance(step, int):
-            return Refused(step, place)
+        step = prepare_step(text, mode, place)
+        if refuses(step):
+            return step
         steps.append(step._replace(reading=reading))
     return steps
 
@@ -959,9 +1003,8 @@ def verdict(answer):
     return line if answer.places is None else line + " places " + joined(answer.places)
 
 
-# "a line such as `refused 6 2`: number, place"
 def refused_line(refusal):
-    return b"refused %d %d\n" % refusal
+    return refusal_line(refusal).encode() + b"\n"
 
 
 # "translates, splits, prepares, then checks forward and inverse, printing as each answers.
@@ -1095,21 +1138,17 @@ def show_record(step):
     return "%s:%s:%s" % (NAMES[step.operator], marks or "-", show_args(step))
 
 
-def show_refusal(refusal):
-    return "refused %d %d" % refusal
-
-
 def answer_text(call, room, text):
     room = read_natural(room, MOST_ROOM)
     answer = within(call(read_text(text)), room)
-    return show_refusal(answer) if refuses(answer) else "ok " + show_text(answer)
+    return refusal_line(answer) if refuses(answer) else "ok " + show_text(answer)
 
 
 def answer_prepare(way, room, text):
     room = read_natural(room, MOST_STEPS)
     steps = within(prepare(read_text(text), *way), room)
     if refuses(steps):
-        return show_refusal(steps)
+        return refusal_line(steps)
     return " ".join(["ok", str(len(steps))] + list(map(show_record, steps)))
 
 
@@ -1122,10 +1161,11 @@ def show_check(answer):
 
 
 # "`check` and `run` prepare TEXT into 64 records first. Any call that refuses is answered
-# `refused N PLACE`, and nothing after it is called."
+# `refused N PLACE`, and nothing after it is called."; "`refused 12 PLACE OFFSET` (R3), wherever
+# preparing refuses"
 def said_of(steps, call, show):
     answer = steps if refuses(steps) else call(steps)
-    return show_refusal(answer) if refuses(answer) else show(answer)
+    return refusal_line(answer) if refuses(answer) else show(answer)
 
 
 def answer_check(read_steps, direction, steps):

