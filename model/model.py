@@ -871,31 +871,27 @@ def scaled(column, factor):
     return [number * factor for number in column]
 
 
-# "Output i is input post[i] times mult[i]; inverse sets place post[j] to number j times
-# 1/mult[post[j]]. A no-op touches nothing."
-def adapt(axes, args, forward):
-    if no_op(args):
-        return
+def multiplied(axes, args, forward, factor_back):
+    """Output i is the input that it names times mult[i]; back, number i goes to that input's place, times 1 over a factor."""
     before, mult = list(axes), multipliers(args)
     for i in range(4):
         post = abs(args[i]) - 1
         if forward:
             axes[i] = scaled(before[post], mult[i])
         else:
-            axes[post] = scaled(before[i], 1.0 / mult[post])
+            axes[post] = scaled(before[i], 1.0 / mult[factor_back(i, post)])
+
+
+# "Output i is input post[i] times mult[i]; inverse sets place post[j] to number j times
+# 1/mult[post[j]]. A no-op touches nothing."
+def adapt(axes, args, forward):
+    if not no_op(args):
+        multiplied(axes, args, forward, lambda i, post: post)
 
 
 # "The inverse sends each number back to the place it came from, times one over the same factor."
 def documented(axes, args, forward):
-    if no_op(args):
-        return
-    before, mult = list(axes), multipliers(args)
-    for i in range(4):
-        place = abs(args[i]) - 1
-        if forward:
-            axes[i] = scaled(before[place], mult[i])
-        else:
-            axes[place] = scaled(before[i], 1.0 / mult[i])
+    multiplied(axes, args, forward, lambda i, post: i)
 
 
 def make_nan(axes, places, tuples):

@@ -8,7 +8,7 @@ import itertools
 
 from asking import WAYS
 from definitions import ENDINGS, HOSTILE, NOT_WORDS, letter_orders
-from readings import (AROUND, BYTES, DIRECTIONS, FULL, MARKS, NUMBERS, ONE, PASTED, REFUSED, WHOLES, hexed, on_rows, on_text, replaced,
+from readings import (AROUND, BYTES, DIRECTIONS, FULL, NUMBERS, ONE, PASTED, REFUSED, WHOLES, hexed, on_marks, on_rows, on_text, replaced,
                       row, rows_of)
 
 PAGE = ("/d", "/pd")  # the documented mode
@@ -83,10 +83,8 @@ def of_words():
 def of_steps():
     """Steps with every set of marks, in both readings and both modes."""
     for step in ADAPTS:
-        marked = " | ".join((step + " " + marks).strip() for marks in MARKS)
         for way in WAYS:
-            yield f"prepare{way} 64 {hexed(marked)}"
-            yield f"write{way} {hexed(marked)}"
+            yield from on_marks(step, way)
         for way, inverted, direction in itertools.product(WAYS, (step, step + " inv"), DIRECTIONS):
             yield f"run{way} {direction} 20 {hexed(AROUND % inverted)} {NUMBERS}"
     for step in FORETOLD:

@@ -56,12 +56,17 @@ def on_text(text, numbers, store, ways=READINGS):
         yield f"run{mark} {direction} {store} {hexed(text)} {numbers}"
 
 
+def on_marks(step, way):
+    """A step with every set of marks, prepared, and written."""
+    marked = hexed(" | ".join((step + " " + marks).strip() for marks in MARKS))
+    yield f"prepare{way} 64 {marked}"
+    yield f"write{way} {marked}"
+
+
 def of_operators():
     for step in STEPS:
-        marked = " | ".join((step + " " + marks).strip() for marks in MARKS)
         for reading in READINGS:
-            yield f"prepare{reading} 64 {hexed(marked)}"
-            yield f"write{reading} {hexed(marked)}"
+            yield from on_marks(step, reading)
             for inverted, direction in itertools.product((step, step + " inv"), DIRECTIONS):
                 yield f"check{reading} {direction} {hexed(inverted)}"
                 yield f"run{reading} {direction} 20 {hexed(AROUND % inverted)} {NUMBERS}"

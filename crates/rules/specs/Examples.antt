@@ -318,6 +318,13 @@ offsets =
     ∷ refusedAt "push v_1=" 1 9
     ∷ refusedAt "axisswap order=1,2,x inv=no" 1 19
     ∷ refusedAt "axisswap inv=no order=1,2,x" 1 13
+    ∷ prints "push v_1 | inv axisswap order=x" (
+    "translated: push v_1 | inv axisswap order=x"
+    ∷ "step 1: push v_1"
+    ∷ "step 2: axisswap order=x inv"
+    ∷ "refused 12 2 15"
+    ∷ []
+    )
     ∷ says "of a repeated key only the last is judged" (map refusalOf (on prepare "push v_1=no v_1" ∷ on prepare "push v_1 v_1=no" ∷ [])) ((0, 0) ∷ (12, 13) ∷ [])
     ∷ []
 

@@ -3,15 +3,19 @@
 use mathlib.Core.Bool.{xor}
 use mathlib.Core.List.{flatMap}
 use lib.Ieee.{neg, mul, div, eq, ofInt, ofFields, ofBits, toBits, size}
-use Rattle.rules.specs.Examples.{on, refusal, refusalOf, records, ran, verdictOn, floats, examples, deep, also, printsAs, prints, printed, rewrites, rewritten, checkOn, doesOn, mixed, readings, madeIn, ranIn, recordsIn, rewritesIn, modes, refusedAt, offsets, demanded, Holds, AllHold}
+use Rattle.rules.specs.Examples.{on, refusal, refusalOf, records, ran, verdictOn, floats, examples, deep, also, printsAs, prints, printed, rewrites, rewritten, checkOn, doesOn, mixed}
+use Rattle.rules.specs.Examples.{readings, madeIn, ranIn, recordsIn, rewritesIn, modes, refusedAt, offsets, demanded, Holds, AllHold}
 use Rattle.rules.specs.Face.Demands.{signAngle}
 use Rattle.rules.specs.Face.Plain.{plainWritten, plainFound, plainPrepared, modeOf, directionOf, plainVerdict, plainCheck, plainRan, plainOutcome}
-use Rattle.rules.specs.Face.Shown.{counted, refusalText, offsetText, orRefused, called, signedPlace, twoPlaces, fourPlaces, passText, verdictText, verdictLine, bothChecks, shownChecks, heading, headed, shownSteps, translatedLine, shown}
-use Rattle.rules.specs.Operators.Adapt.{placeIn, axis, ending, wordOf, word, wordGiven, position, outputOf, angles, combined, between, isCode, isAdapt, angle, factor, post, mult, output, sets, stays, noop, adaptedIf, adapted, letter, endingOf, fromWord, toWord}
+use Rattle.rules.specs.Face.Shown.{counted, refusalText, offsetText, orRefused, called, signedPlace, twoPlaces, fourPlaces, passText, verdictText, verdictLine, bothChecks, shownChecks}
+use Rattle.rules.specs.Face.Shown.{heading, headed, shownSteps, translatedLine, shown}
+use Rattle.rules.specs.Operators.Adapt.{placeIn, axis, ending, wordOf, word, wordGiven, position, outputOf, angles, combined, between, isCode, isAdapt, angle, factor, post, mult}
+use Rattle.rules.specs.Operators.Adapt.{output, sets, stays, noop, adaptedIf, adapted, letter, endingOf, fromWord, toWord}
 use Rattle.rules.specs.Operators.Arguments.{valueOf, isGiven, arg, places, isPlace, isDistinct, isOrder, wholes, spelling, listing, keyValue}
 use Rattle.rules.specs.Operators.Axisswap.{order, swapFrom, unswapFrom, reordered, swapped}
 use Rattle.rules.specs.Operators.Descriptions.{choose}
-use Rattle.rules.specs.Operators.Documented.{inputAt, outputByAxis, carriesAngle, angleByAxis, combinedByAxis, isPair, twoAlike, isDocumented, sendsBack, adaptedByAxis, codeFrom, lettersFor, lettersFrom, letterOf, codeOf, fromByAxis, toByAxis, adaptIn, combinedIn, isAdaptIn, adaptedIn}
+use Rattle.rules.specs.Operators.Documented.{inputAt, outputByAxis, carriesAngle, angleByAxis, combinedByAxis, isPair, twoAlike, isDocumented, sendsBack, adaptedByAxis, codeFrom}
+use Rattle.rules.specs.Operators.Documented.{lettersFor, lettersFrom, letterOf, codeOf, fromByAxis, toByAxis, adaptIn, combinedIn, isAdaptIn, adaptedIn}
 use Rattle.rules.specs.Operators.Keys.{flag, numbered, worded, kindIn}
 use Rattle.rules.specs.Operators.Numbers.{number, put, turn}
 use Rattle.rules.specs.Operators.PushPop.{isRising, axisKeys, flagged, axes, flagOf}
@@ -21,22 +25,28 @@ use Rattle.rules.specs.Pipeline.Check.{place, putPlace, turnPlace, adapt
 use Rattle.rules.specs.Pipeline.Columns.{rolledOnce, rolled, swappedTop, pushed, popped, topped, flipped, moved, takes, tooFew, after, depths, deepest}
 use Rattle.rules.specs.Pipeline.Keys.{everyKey, ownKeys, kindOf, isLacking, unknown, misspelt, tooLong}
 use Rattle.rules.specs.Pipeline.Offsets.{cutText, faultIn, isFault, faultAt, faults, earliest, offsetBy}
-use Rattle.rules.specs.Pipeline.Prepare.{mark, recordOf, recorded, ownRule, judged14, judged11, named, judged10, judged, offsetOf, offsetIn, atStep, prepareStep, prepareSteps, prepareIn, prepare, prepareAs}
-use Rattle.rules.specs.Pipeline.Record.{readingNumber, readingOf, stepWith, inReading, operator, args, unused, isSet, ofMode, nineDigits, made, tableReading, goodIn, firstBad, refusal18, blank, listed}
+use Rattle.rules.specs.Pipeline.Prepare.{mark, recordOf, recorded, ownRule, judged14, judged11, named, judged10, judged, offsetOf, offsetIn, atStep, prepareStep, prepareSteps}
+use Rattle.rules.specs.Pipeline.Prepare.{prepareIn, prepare, prepareAs}
+use Rattle.rules.specs.Pipeline.Record.{readingNumber, readingOf, stepWith, inReading, operator, args, unused, isSet, ofMode, nineDigits, made, tableReading, goodIn, firstBad}
+use Rattle.rules.specs.Pipeline.Record.{refusal18, blank, listed}
 use Rattle.rules.specs.Pipeline.Run.{countFrom, count, passes64, badList, storeAfter, refused, finished, unless16, unless15, unless18, runs}
 use Rattle.rules.specs.Pipeline.Running.{opposite, turns, directed, actOf, act, omitted, ordered, runningFrom, running}
 use Rattle.rules.specs.Pipeline.Tuples.{tuples, numbers, column, stored, drained, stomped, starved, actedIf, acted, countsNone, counts}
 use Rattle.rules.specs.Pipeline.Write.{nameWord, argWords, operatorWords, markWord, markWords, stepWords, writing, tableWriting, writtenUnless18, write}
-use Rattle.rules.specs.Proj.Translate.{isInv, notInv, isPipeline, pipelineWords, pipeline, initFirst, onlyInv, firstFault, atPosition1, withGlobals, exchangedMark, withoutInv, marked, stepOf, isWritten, inOrder, translation, translated, translate}
-use Rattle.rules.specs.Proj.Words.{unplussed, isStep, cutAtStep, withoutNoise, projSteps, isProj, firstProj, inItsPlace, exchanged, hasKey, lastOf, withoutLast, composed, ellipsoid, scale, tidied}
+use Rattle.rules.specs.Proj.Translate.{isInv, notInv, isPipeline, pipelineWords, pipeline, initFirst, onlyInv, firstFault, atPosition1, withGlobals, exchangedMark, withoutInv, marked}
+use Rattle.rules.specs.Proj.Translate.{stepOf, isWritten, inOrder, translation, translated, translate}
+use Rattle.rules.specs.Proj.Words.{unplussed, isStep, cutAtStep, withoutNoise, projSteps, isProj, firstProj, inItsPlace, exchanged, hasKey, lastOf, withoutLast, composed, ellipsoid}
+use Rattle.rules.specs.Proj.Words.{scale, tidied}
 use Rattle.rules.specs.Text.Ascii.{ascii}
-use Rattle.rules.specs.Text.Bytes.{white, subscript, inDomain, same, starts, contains, replaceFrom, replace, trimStart, trimEnd, trimmed, before, behind, onto, cut, words, afterEach, joinedBy, joined}
+use Rattle.rules.specs.Text.Bytes.{white, subscript, inDomain, same, starts, contains, replaceFrom, replace, trimStart, trimEnd, trimmed, before, behind, onto, cut, words, afterEach}
+use Rattle.rules.specs.Text.Bytes.{joinedBy, joined}
 use Rattle.rules.specs.Text.Comments.{newlines, uncommented, lined, stripped}
 use Rattle.rules.specs.Text.Decimal.{digit, digitsTo, spelled, plainForm, plain, decimal, pieces, numberThen, allNumbers, series, isNumber, brokenFrom, isWhole, signed, minus, wholeOf}
 use Rattle.rules.specs.Text.Lists.{anyOf, allOf, kept, placeOf, nonEmpty, isNone}
 use Rattle.rules.specs.Text.Normal.{run, becomes, subscriptBecomes, replacements, squeezed, continued, normal, normalise}
 use Rattle.rules.specs.Text.Numerals.{digitAt, digitsFrom, digits}
-use Rattle.rules.specs.Text.Parameters.{parameter, name, elements, precedes, enteredBy, enteredAllBy, tableOf, stepTable, textTable, parametersOf, valueIn, placedWord, placedName, placedWords, placedElements, placedTable, parameterLine, parameters}
+use Rattle.rules.specs.Text.Parameters.{parameter, name, elements, precedes, enteredBy, enteredAllBy, tableOf, stepTable, textTable, parametersOf, valueIn, placedWord, placedName}
+use Rattle.rules.specs.Text.Parameters.{placedWords, placedElements, placedTable, parameterLine, parameters}
 use Rattle.rules.specs.Text.Reader.{found, next, walked}
 use Rattle.rules.specs.Text.Refusal.{andThen, tested, lent, outcome, written, prepared}
 use Rattle.rules.specs.Text.Split.{modifier, onlyModifiers, leading, following, turned, stepsOf, steps, stepText, splitSteps, line, split}
