@@ -1,12 +1,12 @@
 -- Document 01's examples, input beside outcome: P1 to P13 in one table, the line below them in a second, what the program `steps`
--- prints in a third, what `write` answers in a fourth; document 02's, of the reading named PROJ, of the documented mode and of offsets, in three more; and a few of the words
--- in which the demands are said. That every row of them holds is the one statement of specs/ExamplesHold.antt.
+-- prints in a third, what `write` answers in a fourth; document 02's, of the reading named PROJ, of the documented mode, of offsets and of spans, in four more; and a few of
+-- the words in which the demands are said. That every row of them holds is the one statement of specs/ExamplesHold.antt.
 use mathlib.Core.Path.{_≡_}
 use Prim.Native.Nat.{ℕ}
 use Prim.Native.String.{String}
 use mathlib.Core.Bool.{true, false}
 use mathlib.Core.List.{List, [], _∷_, _++_, map, flatMap}
-use lib.ListN.{replicate}
+use lib.ListN.{take, drop, replicate}
 use lib.IntN.{ℤ, pos}
 use lib.Ieee.{Float, binary64, ofInt, toBits}
 use Rattle.rules.specs.Text.Ascii.{ascii}
@@ -15,12 +15,13 @@ use Rattle.rules.specs.Text.Refusal.{Reply, answers, refuses, refuses12,
 use Rattle.rules.specs.Text.Normal.{normalise}
 use Rattle.rules.specs.Text.Split.{line, split}
 use Rattle.rules.specs.Text.Parameters.{parameters}
+use Rattle.rules.specs.Text.Reader.{define}
 use Rattle.rules.specs.Proj.Translate.{translate}
 use Rattle.rules.specs.Text.Decimal.{signed}
 use Rattle.rules.specs.Pipeline.Offsets.{cutText}
 use Rattle.rules.specs.Pipeline.Prepare.{prepare, prepareAs}
 use Rattle.rules.specs.Operators.Acts.{Act, pushes, popsAll, flips, rolls, swaps, drops, orders}
-use Rattle.rules.specs.Pipeline.Record.{args}
+use Rattle.rules.specs.Pipeline.Record.{noSpan, args, withSpans}
 use Rattle.rules.specs.Pipeline.Running.{act}
 use Rattle.rules.specs.Pipeline.Run.{Outcome, runs}
 use Rattle.rules.specs.Pipeline.Check.{plus, four, check}
@@ -31,6 +32,7 @@ use Rattle.rules.specs.declared.Mode.{Mode}
 use Rattle.rules.specs.declared.Mode.the-variants as mode
 use Rattle.rules.specs.declared.Reading.{Reading}
 use Rattle.rules.specs.declared.Reading.the-variants.{Crate, Proj}
+use Rattle.rules.specs.declared.Span.{Span}
 use Rattle.rules.specs.declared.Step.{Step}
 use Rattle.rules.specs.declared.Direction.{Direction}
 use Rattle.rules.specs.declared.Direction.the-variants.{Forward, Inverse}
@@ -229,15 +231,15 @@ rewritten =
 
 -- ---- document 02, request 1: the reading named PROJ
 
--- the check of a definition in a reading, what the first step of one does, and the records of two, one behind the other
+-- the check of a definition in a reading, what its steps do, and its records, the first k in a reading and the others in another
 unfoldable pub checkOn : Reading → Direction → String → Foretold
 checkOn r d text = check d (records (on (prepareAs r mode.Crate) text))
 
 unfoldable pub doesOn : Reading → Direction → String → List Act
 doesOn r d text = map (act d) (records (on (prepareAs r mode.Crate) text))
 
-unfoldable pub mixed : Reading → String → Reading → String → List Step
-mixed r text q other = records (on (prepareAs r mode.Crate) text) ++ records (on (prepareAs q mode.Crate) other)
+unfoldable pub mixed : Reading → Reading → ℕ → String → List Step
+mixed r q k text = take k (records (on (prepareAs r mode.Crate) text)) ++ drop k (records (on (prepareAs q mode.Crate) text))
 
 abbrev pub pair : String
 pair = "pop inv v_3 | push inv v_3"
@@ -257,8 +259,8 @@ readings =
     ∷ says "flip, swap and drop are unchanged by it" (doesOn Proj Forward "stack flip=1,2 inv | stack swap inv | stack drop inv") (flips (1 ∷ 2 ∷ []) ∷ swaps ∷ drops ∷ [])
     ∷ says "`axisswap` is turned in both" (doesOn Proj Forward "axisswap order=2,-1 inv") (orders true (pos 2 ∷ minus1 ∷ []) ∷ [])
     ∷ says "as in the crate's" (doesOn Crate Forward "axisswap order=2,-1 inv") (orders true (pos 2 ∷ minus1 ∷ []) ∷ [])
-    ∷ says "18 at a record whose reading is not the first's" (check Forward (mixed Proj "push v_1" Crate "pop v_1") .verdict) (Refused 18 2)
-    ∷ says "whichever is the first's" (check Inverse (mixed Crate "push v_1 | pop v_1" Proj "push v_1") .verdict) (Refused 18 3)
+    ∷ says "18 at a record whose reading is not the first's" (check Forward (mixed Proj Crate 1 "push v_1 | pop v_1") .verdict) (Refused 18 2)
+    ∷ says "whichever is the first's" (check Inverse (mixed Crate Proj 2 "push v_1 | pop v_1 | push v_1") .verdict) (Refused 18 3)
     ∷ says "a text in either reading" (write (records (on (prepareAs Proj mode.Crate) pair))) (answers (ascii "pop v_3 inv | push v_3 inv"))
     ∷ []
 
@@ -292,7 +294,7 @@ modes =
     ∷ says "up and down, future and past carry none" (recordsIn mode.Documented "adapt from=dpsw_gon") ((11, outputs (signed true 4) (signed true 3) (signed true 1) (signed true 2) 6 6 0 0) ∷ [])
     ∷ says "no other record changes" (recordsIn mode.Documented "push v_1 | axisswap order=2,1") ((0, pos 1 ∷ []) ∷ (9, pos 2 ∷ pos 1 ∷ []) ∷ [])
     ∷ says "letters as in document 01" (on (prepareAs Crate mode.Documented) "adapt from=entu") (refuses 14 1)
-    ∷ says "tables that mix both are accepted" (check Forward (madeIn mode.Crate "adapt" ++ madeIn mode.Documented "adapt") .verdict) Passes
+    ∷ says "tables that mix both are accepted" (check Forward (madeIn mode.Crate "adapt" ++ madeIn mode.Documented "|||||adapt") .verdict) Passes
     ∷ says "no places are told" (check Forward (madeIn mode.Documented "adapt") .told) false
     ∷ rewritesIn mode.Documented "adapt from=nwuf" "adapt from=enuf to=seuf"
     ∷ rewritesIn mode.Documented "adapt from=unef_deg" "adapt from=uenf_deg to=neuf"
@@ -326,6 +328,33 @@ offsets =
     ∷ []
     )
     ∷ says "of a repeated key only the last is judged" (map refusalOf (on prepare "push v_1=no v_1" ∷ on prepare "push v_1 v_1=no" ∷ [])) ((0, 0) ∷ (12, 13) ∷ [])
+    ∷ []
+
+-- ---- document 02, request 4: where a step's text stands
+
+-- the spans of a definition's records; and what the check says of two records with these spans
+unfoldable pub spansOn : String → List Span
+spansOn text = map (λ (s : Step). s .span) (records (on prepare text))
+
+abbrev pub span : ℕ → ℕ → Span
+span from length = record { from = from; length = length }
+
+unfoldable pub withTwo : Span → Span → Verdict
+withTwo p q = check Forward (withSpans (p ∷ q ∷ []) (records (on prepare "push v_1 | pop v_1"))) .verdict
+
+unfoldable pub underlined : List Example
+underlined =
+    says "before leading modifiers are turned to the end" (spansOn "inv push v_1 | pop v_1") (span 0 12 ∷ span 13 7 ∷ [])
+    ∷ says "in the normalised definition" (on define "inv push v_1 | pop v_1 # c") (answers (ascii "inv push v_1|pop v_1"))
+    ∷ says "a separator brings its modifier" (spansOn "> push v_1 < pop v_1") (span 1 17 ∷ span 19 16 ∷ [])
+    ∷ says "comments and empty steps aside" (spansOn " | :push v_1 | | pop v_1 # c") (span 1 9 ∷ span 12 7 ∷ [])
+    ∷ says "the check returns the span with its step" (checkOn Crate Inverse "axisswap | inv push v_1" .span) (span 9 12)
+    ∷ says "of the first step at fault in running order" (checkOn Crate Forward "inv pop v_1 | pop v_2" .span) (span 0 11)
+    ∷ says "a pass names none" (checkOn Crate Forward "push v_1 | pop v_1" .span) noSpan
+    ∷ says "18 where a span is empty" (withTwo (span 0 0) (span 9 7)) (Refused 18 1)
+    ∷ says "or passes byte 40,960" (withTwo (span 0 8) (span 40954 7)) (Refused 18 2)
+    ∷ says "or starts before the last one ends" (withTwo (span 0 8) (span 7 7)) (Refused 18 2)
+    ∷ says "nothing else of spans is judged" (withTwo (span 0 1) (span 1 40959)) Passes
     ∷ []
 
 -- ---- the words of the demands

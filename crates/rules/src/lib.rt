@@ -70,9 +70,17 @@ pub enum Mode {
     Documented,
 }
 
-// A step record: the operator by its number, how many arguments it has, the marks, each 0 or 1, the reading by its number, and up
-// to eight arguments in place. A slot that is not used holds 0. Whatever a C caller lends is some record; one that no preparation
-// makes is refused 18, and so is one whose reading is not that of the table's first (specs/Pipeline/Record.antt).
+// Where a step's text stands in the normalised definition: its first byte, and how many there are.
+#[repr(C)]
+pub struct Span {
+    pub from: u32,
+    pub length: u32,
+}
+
+// A step record: the operator by its number, how many arguments it has, the marks, each 0 or 1, the reading by its number, up to
+// eight arguments in place, and where its text stands. A slot that is not used holds 0. Whatever a C caller lends is some record; one
+// that no preparation makes is refused 18, and so is one whose reading is not that of the table's first, or whose span is empty,
+// ends past byte 40,960 or begins before the last one ends (specs/Pipeline/Record.antt).
 #[repr(C)]
 pub struct Step {
     pub operator: u8,
@@ -82,6 +90,7 @@ pub struct Step {
     pub omit_inv: u8,
     pub reading: u8,
     pub args: [i32; 8],
+    pub span: Span,
 }
 
 // A step table by value: n records, the first of 64. A table that stands for a longer row says so by its n.
@@ -165,10 +174,11 @@ pub enum Verdict {
     Refused { number: u8, place: usize },
 }
 
-// What the check answers. Of a pass: how many steps run and the depth after each, the deepest, the columns left, and the
-// four places, if they are told (no `adapt` step runs). Everything else is zero.
+// What the check answers. Of a step that it names: its span. Of a pass: how many steps run and the depth after each, the deepest,
+// the columns left, and the four places, if they are told (no `adapt` step runs). Everything else is zero.
 pub struct Foretold {
     pub verdict: Verdict,
+    pub span: Span,
     pub run: usize,
     pub depths: [usize; 64],
     pub deepest: usize,
@@ -214,11 +224,12 @@ pub struct Said {
     pub place: usize,
 }
 
-// What the check answers. Of a pass: how many steps run and the depth after each, the deepest, the columns left, and the
-// four places, if they are told. Everything else is zero.
+// What the check answers. Of a step that it names: its span. Of a pass: how many steps run and the depth after each, the deepest,
+// the columns left, and the four places, if they are told. Everything else is zero.
 #[repr(C)]
 pub struct Checked {
     pub said: Said,
+    pub span: Span,
     pub run: usize,
     pub depths: [usize; 64],
     pub deepest: usize,

@@ -27,7 +27,10 @@ use Rattle.rules.specs.Pipeline.Prepare.{named}
 use Rattle.rules.specs.Text.Bytes.{Bytes, Words, same, words}
 use Rattle.rules.specs.Text.Refusal.{Reply, Promised, Writes}
 use Rattle.rules.specs.Face.Plain.{plainWritten, replied}
-use Rattle.rules.specs.Text.Reader.{step}
+use Rattle.rules.specs.Text.Reader.{step, next, part}
+use Rattle.rules.specs.Pipeline.Record.{spanEnd, spanless}
+use Rattle.rules.specs.declared.Span.{Span}
+use Rattle.rules.specs.declared.Step.{Step}
 use Rattle.rules.specs.declared.Written.{Written}
 use Rattle.rules.specs.declared.Written.the-variants as written-is
 use Rattle.rules.specs.declared.Answer.{Answer}
@@ -210,3 +213,33 @@ pub record FirstFault (text : Bytes) (place offset : ℕ) : Type 0 where
   pub none-before : (other : ℕ) → FaultAt operator (turned (words (normal step))) other → offset ≤ other
   pub stands : anyOf (is "=") (at-fault .word) ≡ true → StandsAt (cutText step) offset (at-fault .bad)
   pub missing : anyOf (is "=") (at-fault .word) ≡ false → (from : ℕ) × StandsAt (cutText step) from (at-fault .word) × (offset ≡ from + length (at-fault .word))
+
+-- ---- document 02, request 4: where a step's text stands
+
+-- the bytes of a text at a span
+abbrev pub bytesAt : Bytes → Span → Bytes
+bytesAt text p = part (p .from) (spanEnd p) text
+
+-- "Spans of a table rise and do not overlap": each has bytes, ends by `most`, and begins where the last one ends or behind it
+unfoldable pub Rise : ℕ → ℕ → List Step → Type 0
+Rise most end [] = Unit {0}
+Rise most end (s ∷ l) = (end ≤ s .span .from) × (0 < s .span .length) × (spanEnd (s .span) ≤ most) × Rise most (spanEnd (s .span)) l
+
+-- The walk over the steps: from the reader's place on it finds the first record's text at its span, from there on the next one's, and behind the last one none.
+unfoldable pub Walk : Bytes → ℕ → List Step → Type 0
+Walk normalised at [] = next normalised at ≡ End
+Walk normalised at (s ∷ l) = (next normalised at ≡ step (s .span .from) (spanEnd (s .span))) × Walk normalised (spanEnd (s .span)) l
+
+-- "differ only there": two tables with the same records, spans aside
+abbrev pub SameButSpans : List Step → List Step → Type 0
+SameButSpans t u = map spanless t ≡ map spanless u
+
+-- what the check answers of the one and of the other: all that it tells is the same, but for the span
+pub record SaysTheSame (f g : Foretold) : Type 0 where
+  pub verdict : f .verdict ≡ g .verdict
+  pub run : f .run ≡ g .run
+  pub depths : f .depths ≡ g .depths
+  pub deepest : f .deepest ≡ g .deepest
+  pub left : f .left ≡ g .left
+  pub told : f .told ≡ g .told
+  pub places : f .places ≡ g .places

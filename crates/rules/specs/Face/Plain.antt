@@ -77,6 +77,7 @@ unfoldable pub plainCheck : Foretold → Checked
 plainCheck f =
     record {
       said = plainVerdict (f .verdict);
+      span = f .span;
       run = f .run;
       depths = f .depths;
       deepest = f .deepest;

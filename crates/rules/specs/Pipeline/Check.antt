@@ -7,11 +7,12 @@ use mathlib.Core.List.{List, [], _∷_, _++_}
 use lib.ListN.{length, getD, replicate}
 use lib.Dec.{ltb, eqb}
 use Rattle.rules.specs.Text.Lists.{anyOf}
-use Rattle.rules.specs.Pipeline.Record.{refusal18}
+use Rattle.rules.specs.Pipeline.Record.{noSpan, blank, refusal18}
 use Rattle.rules.specs.Operators.Axisswap.{reordered}
 use Rattle.rules.specs.Operators.Acts.{Act, pushes, pops, popsAll, flips, rolls, swaps, drops, orders, adapts}
 use Rattle.rules.specs.Pipeline.Running.{Numbered, running}
 use Rattle.rules.specs.Pipeline.Columns.{Machine, Kit, moved, tooFew, after, depths, deepest}
+use Rattle.rules.specs.declared.Span.{Span}
 use Rattle.rules.specs.declared.Step.{Step}
 use Rattle.rules.specs.declared.Direction.{Direction}
 use Rattle.rules.specs.declared.Place.{Place}
@@ -96,11 +97,12 @@ verdict (s ∷ l) m =
     let enough = cond (ltb 64 (length (m′ .columns))) (TooMany (s .place)) rest in
     cond (tooFew (s .does) (length (m .columns))) (TooFew (s .place)) enough
 
--- an answer that tells no more than its verdict
-unfoldable pub only : Verdict → Foretold
-only v =
+-- an answer that tells no more than its verdict, and a span
+unfoldable pub only : Verdict → Span → Foretold
+only v p =
     record {
       verdict = v;
+      span = p;
       run = 0;
       depths = replicate 64 0;
       deepest = 0;
@@ -117,6 +119,7 @@ foretold l =
     let told = not (anyAdapt l) in
     record {
       verdict = Passes;
+      span = noSpan;
       run = length ds;
       depths = ds ++ replicate (64 - length ds) 0;
       deepest = deepest ds;
@@ -125,19 +128,24 @@ foretold l =
       places = cond told (end .tuples) (replicate 4 noPlace);
     }
 
-unfoldable pub answered : Verdict → List Numbered → Foretold
-answered Passes l = foretold l
-answered (TooFew k) l = only (TooFew k)
-answered (TooMany k) l = only (TooMany k)
-answered (Refused number k) l = only (Refused number k)
+-- the span of the record at place k of a table
+unfoldable pub spanAt : ℕ → List Step → Span
+spanAt k t = getD t (k - 1) blank .span
 
-unfoldable pub checked : Option ℕ → List Numbered → Foretold
-checked (some k) l = only (Refused 18 k)
-checked none l = answered (verdict l begin) l
+-- "the check returns the span with its step"; a pass and a refusal name none
+unfoldable pub answered : Verdict → List Step → List Numbered → Foretold
+answered Passes t l = foretold l
+answered (TooFew k) t l = only (TooFew k) (spanAt k t)
+answered (TooMany k) t l = only (TooMany k) (spanAt k t)
+answered (Refused number k) t l = only (Refused number k) noSpan
+
+unfoldable pub checked : Option ℕ → List Step → List Numbered → Foretold
+checked (some k) t l = only (Refused 18 k) noSpan
+checked none t l = answered (verdict l begin) t l
 
 -- the check of a step table in a direction
 unfoldable pub check : Direction → List Step → Foretold
-check d t = checked (refusal18 t) (running d t)
+check d t = checked (refusal18 t) t (running d t)
 
 -- what the check promises of its answer
 pub record Checks (d : Direction) (t : List Step) (result : Foretold) : Type 0 where

@@ -12,12 +12,13 @@ use Rattle.rules.specs.Text.Lists.{anyOf}
 use Rattle.rules.specs.Text.Bytes.{Bytes, Words, words}
 use Rattle.rules.specs.Text.Refusal.{Reply, answers, refuses, refuses12, andThen, prepared, Promised}
 use Rattle.rules.specs.Text.Split.{steps, splitSteps}
+use Rattle.rules.specs.Text.Reader.{spans}
 use Rattle.rules.specs.Text.Normal.{normal}
 use Rattle.rules.specs.Text.Parameters.{Parameter, tableOf, parametersOf, placedTable}
 use Rattle.rules.specs.Operators.Arguments.{valueOf, isGiven}
 use Rattle.rules.specs.Operators.Descriptions.{Operator, Chosen}
 use Rattle.rules.specs.Operators.Table.{numberOf, wordingOf, nameOf}
-use Rattle.rules.specs.Pipeline.Record.{stepWith, inReading}
+use Rattle.rules.specs.Pipeline.Record.{stepWith, inReading, withSpans}
 use Rattle.rules.specs.Pipeline.Keys.{kindOf, unknown, misspelt, tooLong}
 use Rattle.rules.specs.Pipeline.Offsets.{offsetBy}
 use Rattle.rules.specs.declared.Reading.{Reading}
@@ -100,9 +101,13 @@ prepareSteps m place [] = answers []
 prepareSteps m place (t ∷ ts) =
     andThen (prepareStep m place t) (λ s. andThen (prepareSteps m (suc place) ts) (λ l. answers (s ∷ l)))
 
--- "Preparing splits first"; "a documented mode, chosen for a whole preparation"
+-- "Preparing splits first"; "a documented mode, chosen for a whole preparation": the records, which do not tell yet where their texts stand
+unfoldable pub prepareSplit : Mode → Bytes → Reply (List Step)
+prepareSplit m t = andThen (splitSteps (steps t)) (prepareSteps m 1)
+
+-- "Each step record gains the first byte and length of its text in the normalised definition"
 unfoldable pub prepareIn : Mode → Bytes → Reply (List Step)
-prepareIn m t = andThen (splitSteps (steps t)) (prepareSteps m 1)
+prepareIn m t = andThen (prepareSplit m t) (λ l. answers (withSpans (spans t) l))
 
 -- the call `prepare`: "The crate's mode stays the default"
 unfoldable pub prepare : Bytes → Reply (List Step)

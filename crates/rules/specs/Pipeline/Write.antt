@@ -1,9 +1,10 @@
 -- The text of a step record: the operator's name, its arguments, its marks, with one space between. And the call `write`.
-use Prim.Native.Nat.{ℕ}
+use Prim.Native.Nat.{ℕ, suc, _+_}
 use Prim.Native.String.{String}
 use mathlib.Core.Bool.{cond}
 use mathlib.Core.Option.{Option, none, some}
 use mathlib.Core.List.{List, [], _∷_, _++_, map}
+use lib.ListN.{length}
 use lib.IntN.{ℤ}
 use Rattle.rules.specs.Text.Ascii.{ascii}
 use Rattle.rules.specs.Text.Bytes.{Bytes, Words, joinedBy, joined}
@@ -11,6 +12,7 @@ use Rattle.rules.specs.Text.Refusal.{Reply, answers, refuses}
 use Rattle.rules.specs.Operators.Descriptions.{Operator}
 use Rattle.rules.specs.Operators.Table.{describe}
 use Rattle.rules.specs.Pipeline.Record.{operator, args, isSet, refusal18}
+use Rattle.rules.specs.declared.Span.{Span}
 use Rattle.rules.specs.declared.Step.{Step}
 
 -- ---- words
@@ -42,6 +44,14 @@ writing s = joined (stepWords s)
 -- the texts with ` | ` between
 unfoldable pub tableWriting : List Step → Bytes
 tableWriting l = joinedBy (ascii " | ") (map writing l)
+
+-- where the steps of that text stand once it is normalised, ` | ` being one byte then: texts that follow each other from a place on
+unfoldable pub spansInTurn : ℕ → List Bytes → List Span
+spansInTurn place [] = []
+spansInTurn place (t ∷ ts) = record { from = place; length = length t } ∷ spansInTurn (place + suc (length t)) ts
+
+unfoldable pub writtenSpans : List Step → List Span
+writtenSpans l = spansInTurn 0 (map writing l)
 
 -- ---- the call `write`
 

@@ -1,4 +1,4 @@
--- The walk over the steps: "a reader that knows the normalised text and its place in it".
+-- The walk over the steps: "a reader that knows the normalised text and its place in it". And where the steps stand.
 use Prim.Native.Nat.{ℕ, suc, _+_, _-_}
 use mathlib.Core.Bool.{cond}
 use mathlib.Core.List.{List, [], _∷_}
@@ -6,7 +6,11 @@ use lib.ListN.{length, take, drop}
 use Rattle.rules.specs.Text.Ascii.{is}
 use Rattle.rules.specs.Text.Lists.{nonEmpty}
 use Rattle.rules.specs.Text.Bytes.{Bytes, Steps, cut, words}
+use Rattle.rules.specs.Text.Refusal.{Reply, answers}
+use Rattle.rules.specs.Text.Normal.{normal}
+use Rattle.rules.specs.Text.Comments.{stripped}
 use Rattle.rules.specs.Text.Split.{stepsOf}
+use Rattle.rules.specs.declared.Span.{Span}
 use Rattle.rules.specs.declared.Found.{Found}
 use Rattle.rules.specs.declared.Found.the-variants.{Step, End}
 
@@ -31,3 +35,27 @@ part from to t = take (to - from) (drop from t)
 unfoldable pub walked : Bytes → Found → Steps
 walked normalised End = []
 walked normalised (Step from to then) = words (part from to normalised) ∷ stepsOf (drop (then .at) normalised)
+
+-- ---- spans
+
+-- "the first byte and length of its text": of pieces that follow each other from a place on, each that is not empty
+unfoldable pub spansFrom : ℕ → List Bytes → List Span
+spansFrom place [] = []
+spansFrom place (p ∷ ps) =
+    let rest = spansFrom (place + suc (length p)) ps in
+    cond (nonEmpty (words p)) (record { from = place; length = length p } ∷ rest) rest
+
+-- of the steps of a normalised text
+unfoldable pub spansOf : Bytes → List Span
+spansOf normalised = spansFrom 0 (cut (is "|") normalised)
+
+-- "in the normalised definition, taken before leading modifiers are turned to the end": comments are stripped, as splitting does
+unfoldable pub definition : Bytes → Bytes
+definition t = normal (stripped t)
+
+unfoldable pub spans : Bytes → List Span
+spans t = spansOf (definition t)
+
+-- the call `definition`: the text in which they are counted
+unfoldable pub define : Bytes → Reply Bytes
+define t = answers (definition t)
