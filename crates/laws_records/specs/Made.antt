@@ -1,47 +1,36 @@
--- Every record that a preparation makes passes the test of refusal 18, in either reading and mode, so no check and no run of a prepared table
--- is refused 18.
-use mathlib.Core.Path.{_≡_, refl, ap, sym, _∙_}
+-- Every record that a preparation makes passes `made`, in either reading and mode.
+use mathlib.Core.Path.{_≡_, refl, ap, _∙_}
 use Prim.Native.Nat.{ℕ, suc, _≤_}
 use mathlib.Core.Bool.{Bool, true, false, cond, not}
 use mathlib.Core.Option.{Option, none, some}
-use mathlib.Core.List.{List, [], _∷_, _++_, map}
+use mathlib.Core.List.{List, [], _∷_, map}
 use native.Mathlib.Omega.{arith}
-use borrow.Author.Tests.{le-ltb}
-use lib.ListN.{length, take, drop, length-map}
-use lib.Seq.{take-append-seam}
+use borrow.Author.Tests.{ltb-false}
+use lib.ListN.{length, length-map}
 use lib.Dec.{ltb}
-use store.Seg.{eqb-same}
-use lib.Ieee.{Float}
 use Rattle.rules.specs.Text.Ascii.{ascii}
 use Rattle.rules.specs.Text.Lists.{anyOf, allOf}
 use Rattle.rules.specs.Text.Bytes.{Bytes, inDomain}
-use Rattle.rules.specs.Text.Refusal.{Reply, answers, refuses, refuses12, andThen, tested, lent, outcome, prepared}
+use Rattle.rules.specs.Text.Refusal.{Reply, answers, refuses, refuses12, andThen, tested}
 use Rattle.rules.specs.Text.Split.{steps, splitSteps}
+use Rattle.rules.specs.Text.Reader.{spans}
 use Rattle.rules.specs.Text.Parameters.{Parameter, parametersOf}
-use Rattle.rules.specs.Pipeline.Record.{readingNumber, inReading, ofMode, made, tableReading, goodIn, firstBad, refusal18}
+use Rattle.rules.specs.Pipeline.Record.{readingNumber, inReading, withSpans, ofMode, made}
 use Rattle.rules.specs.Pipeline.Keys.{kindOf, unknown, misspelt, tooLong}
 use Rattle.rules.specs.Operators.Table.{isOfMode, wordingOf}
 use Rattle.rules.specs.Operators.Arguments.{valueOf}
-use Rattle.rules.specs.Pipeline.Prepare.{ownRule, judged14, judged11, named, judged10, judged, offsetIn, atStep, prepareStep, prepareSteps, prepareIn, prepareAs, PreparesAs}
-use Rattle.rules.specs.Pipeline.Run.{runs}
-use Rattle.rules.specs.Pipeline.Check.{check}
+use Rattle.rules.specs.Pipeline.Prepare.{ownRule, judged14, judged11, named, judged10, judged, offsetIn, atStep, prepareStep, prepareSteps, prepareSplit, prepareIn, prepareAs}
 use Rattle.rules.specs.declared.Mode.{Mode}
 use Rattle.rules.specs.declared.Reading.{Reading}
 use Rattle.rules.specs.declared.Step.{Step}
 use Rattle.rules.specs.declared.Name.{Name}
 use Rattle.rules.specs.declared.Named.{Named}
 use Rattle.rules.specs.declared.Named.the-variants.{Is, Not}
-use Rattle.rules.specs.declared.Prepared.{Prepared}
-use Rattle.rules.specs.declared.Prepared.the-variants as prepared-is
-use Rattle.rules.specs.declared.Direction.{Direction}
-use Rattle.rules.specs.declared.Verdict.the-variants as verdict-is
-use Rattle.rules.specs.declared.Ran.the-variants as ran-is
 use Rattle.laws_lists.specs.Lists.{Every}
-use Rattle.laws_lists.specs.Tests.{and-left, and-right, never}
+use Rattle.laws_lists.specs.Tests.{never}
 use Rattle.laws_text.specs.Refusals.{split-few}
-use Rattle.laws_steps.specs.Foretold.{check-refused}
-use Rattle.laws_steps.specs.Runs.{run-refused}
 use Rattle.laws_records.specs.Readings.{InIt, all-named, all-made-named, all-mode-named}
+use Rattle.laws_records.specs.Spanned.{made-aside, mode-aside, same-spanned, same-length, same-test}
 use Rattle.laws_records.specs.Kept.{recorded-made, recorded-by}
 use Rattle.laws_records.specs.Owed.{Short}
 use Rattle.laws_records.specs.Operators.Table.{keeps-rule}
@@ -89,6 +78,22 @@ then-answers (answers x) next y h = (x, refl, h)
 then-answers (refuses n p) next y h = absurd (never (cc h))
 then-answers (refuses12 p o) next y h = absurd (never (cc h))
 
+-- a text that a call answers is short, and the call's own answer is this one
+tested-so : (own : Bytes → Reply (List Step)) (t : Bytes) (l : List Step) → tested own t ≡ answers l → (length t ≤ 4096) × (own t ≡ answers l)
+unfolding tested
+tested-so own t l h = go (ltb 4096 (length t)) (not (inDomain t)) refl h
+  where
+    go : (a b : Bool) → ltb 4096 (length t) ≡ a → cond a (refuses 1 0) (cond b (refuses 2 0) (own t)) ≡ answers l → (length t ≤ 4096) × (own t ≡ answers l)
+    go true b e h = absurd (never (cc h))
+    go false true e h = absurd (never (cc h))
+    go false false e h = (ltb-false 4096 (length t) e, h)
+
+pub tested-short : (own : Bytes → Reply (List Step)) (t : Bytes) (l : List Step) → tested own t ≡ answers l → length t ≤ 4096
+tested-short own t l h = tested-so own t l h .0
+
+pub tested-answers : (own : Bytes → Reply (List Step)) (t : Bytes) (l : List Step) → tested own t ≡ answers l → own t ≡ answers l
+tested-answers own t l h = tested-so own t l h .1
+
 -- So is the record that preparing one step's text answers.
 pub step-made : (mode : Mode) (place : ℕ) (t : Bytes) (s : Step) → prepareStep mode place t ≡ answers s → MadeIn mode s
 unfolding prepareStep atStep
@@ -122,31 +127,32 @@ steps-made mode place (t ∷ ts) l h =
     let first = step-made mode place t (f .0) (f .1) in
     rw (← e) (record { each = rw (first .is-made) (k .each); of-mode = rw (first .of-mode) (k .of-mode); many = ap suc (k .many) })
 
--- records of one reading that are each `made`: none is bad in a table of that reading,
-none-bad : (reading k : ℕ) (l : List Step) → allOf made l ≡ true → Every (InIt reading) l → firstBad reading k l ≡ none
-unfolding firstBad goodIn allOf Every
-none-bad reading k [] h e = refl
-none-bad reading k (s ∷ l) h e =
-    rw (and-left (made s) (allOf made l) h, ← e .0, eqb-same reading) (none-bad reading (suc k) l (and-right (made s) (allOf made l) h) (e .1))
-
--- and none in their table
-none-bad-of : (reading : ℕ) (l : List Step) → allOf made l ≡ true → Every (InIt reading) l → firstBad (tableReading l) 1 l ≡ none
-unfolding Every tableReading
-none-bad-of reading [] h e = none-bad 0 1 [] h tt
-none-bad-of reading (s ∷ l) h e = ap (λ (q : ℕ). firstBad q 1 (s ∷ l)) (sym (e .0)) ∙ none-bad reading 1 (s ∷ l) h e
-
--- so a table of at most 64 of them is not refused 18
-pub all-good : (l : List Step) → allOf made l ≡ true → length l ≤ 64 → Every (InIt (tableReading l)) l → refusal18 l ≡ none
-unfolding refusal18
-all-good l h few e = rw (le-ltb 64 (length l) few) (none-bad-of (tableReading l) l h e)
-
--- Every record of a text that is prepared in a mode is `made`, and of the mode, and they are 64 at most.
-pub prepare-made : (mode : Mode) (t : Bytes) (l : List Step) → prepareIn mode t ≡ answers l → (allOf made l ≡ true) × (length l ≤ 64) × (allOf (ofMode mode) l ≡ true)
-unfolding prepareIn
-prepare-made mode t l h =
+-- Every record of a text's steps in a mode is `made`, and of the mode; there is one for each step, and they are 64 at most.
+pub split-made : (mode : Mode) (t : Bytes) (l : List Step) → prepareSplit mode t ≡ answers l → AllMade mode (length (steps t)) l × (length l ≤ 64)
+unfolding prepareSplit
+split-made mode t l h =
     let f = then-answers (splitSteps (steps t)) (prepareSteps mode 1) l h in
+    let few = split-few (steps t) (f .0) (f .1) in
     let k = steps-made mode 1 (f .0) l (f .2) in
-    (k .each, omega (arith, k .many, split-few (steps t) (f .0) (f .1) .1), k .of-mode)
+    (record { each = k .each; of-mode = k .of-mode; many = k .many ∙ few .0 }, omega (arith, k .many, few .1))
+
+-- The records of a text that is prepared in a mode are those, with its spans;
+pub prepared-in : (mode : Mode) (t : Bytes) (l : List Step) → prepareIn mode t ≡ answers l
+    → (m : List Step) × (prepareSplit mode t ≡ answers m) × (withSpans (spans t) m ≡ l)
+unfolding prepareIn
+prepared-in mode t l h = let f = then-answers (prepareSplit mode t) _ l h in (f .0, f .1, cc (f .2))
+
+-- so they are `made` too, and of the mode, and 64 at most.
+pub prepare-made : (mode : Mode) (t : Bytes) (l : List Step) → prepareIn mode t ≡ answers l → (allOf made l ≡ true) × (length l ≤ 64) × (allOf (ofMode mode) l ≡ true)
+prepare-made mode t l h =
+    let p = prepared-in mode t l h in
+    let k = split-made mode t (p .0) (p .1) in
+    let same = same-spanned (spans t) (p .0) in
+    rw (← p .2) (
+      same-test made made-aside (withSpans (spans t) (p .0)) (p .0) same ∙ k .0 .each,
+      omega (arith, same-length (withSpans (spans t) (p .0)) (p .0) same, k .1),
+      same-test (ofMode mode) (mode-aside mode) (withSpans (spans t) (p .0)) (p .0) same ∙ k .0 .of-mode,
+    )
 
 -- In either reading they are those records, in that reading;
 pub prepared-as : (r : Reading) (mode : Mode) (t : Bytes) (l : List Step) → prepareAs r mode t ≡ answers l
@@ -161,55 +167,3 @@ prepare-as-made r mode t l h =
     let p = prepared-as r mode t l h in
     let k = prepare-made mode t (p .0) (p .1) in
     rw (← p .2) (all-made-named r (p .0) (k .0), omega (arith, k .1, length-map (p .0) (inReading r)), all-named r (p .0), all-mode-named r mode (p .0) (k .2))
-
--- Refusal 18 does not apply to them,
-pub never-18 : (r : Reading) (mode : Mode) (t : Bytes) (l : List Step) → prepareAs r mode t ≡ answers l → refusal18 l ≡ none
-unfolding refusal18
-never-18 r mode t l h = let k = prepare-as-made r mode t l h in rw (le-ltb 64 (length l) (k .1)) (none-bad-of (readingNumber r) l (k .0) (k .2))
-
--- so no check of them is refused
-pub check-never-18 : (r : Reading) (mode : Mode) (t : Bytes) (l : List Step) → prepareAs r mode t ≡ answers l → (d : Direction) (number place : ℕ) → check d l .verdict ≡ verdict-is.Refused number place → ⊥
-check-never-18 r mode t l h d number place e = never (cc (never-18 r mode t l h, check-refused d l number place e .1))
-
--- and no run of them is refused 18.
-pub run-never-18 : (r : Reading) (mode : Mode) (t : Bytes) (l : List Step) → prepareAs r mode t ≡ answers l → (d : Direction) (xs store : List Float) (place : ℕ)
-    → runs d l xs store .answer ≡ ran-is.Refused 18 place → ⊥
-run-never-18 r mode t l h d xs store place e = never (cc (never-18 r mode t l h, run-refused d l xs store place e))
-
--- ---- a lent table
-
--- what the promise of preparing says where it answers: the records stand at the front of the table
-lent-answers : (r : Reply (List Step)) (table table′ : List Step) (n : ℕ)
-    → _≡_ {A = Prepared × List Step} (prepared-is.Steps n, table′) (lent prepared r table) → r ≡ answers (take n table′)
-unfolding lent prepared
-lent-answers (refuses number place) table table′ n h = absurd (never (cc (ap (λ (x : Prepared × List Step). x .0) h)))
-lent-answers (refuses12 place offset) table table′ n h = absurd (never (cc (ap (λ (x : Prepared × List Step). x .0) h)))
-lent-answers (answers l) table table′ n h = go (ltb (length table) (length l)) h
-  where
-    go : (b : Bool) → _≡_ {A = Prepared × List Step} (prepared-is.Steps n, table′) (cond b (prepared-is.Refused 7 0 0, table) (prepared-is.Steps (length l), l ++ drop (length l) table))
-        → answers l ≡ answers (take n table′)
-    go true h = absurd (never (cc (ap (λ (x : Prepared × List Step). x .0) h)))
-    go false h =
-        let e : n ≡ length l = cc (ap (λ (x : Prepared × List Step). x .0) h) in
-        let f : table′ ≡ l ++ drop (length l) table = ap (λ (x : Prepared × List Step). x .1) h in
-        rw (e, f, take-append-seam l (drop (length l) table))
-
-pub tested-answers : (own : Bytes → Reply (List Step)) (t : Bytes) (l : List Step) → tested own t ≡ answers l → own t ≡ answers l
-unfolding tested
-tested-answers own t l h = go (ltb 4096 (length t)) (not (inDomain t)) h
-  where
-    go : (a b : Bool) → cond a (refuses 1 0) (cond b (refuses 2 0) (own t)) ≡ answers l → own t ≡ answers l
-    go true b h = absurd (never (cc h))
-    go false true h = absurd (never (cc h))
-    go false false h = h
-
--- Of a table that preparing answered into, the records that it counts are those of the text. So they are not refused 18.
-pub table-prepared : (r : Reading) (mode : Mode) {t : Bytes} {table table′ : List Step} {n : ℕ} → PreparesAs r mode t table (prepared-is.Steps n) table′
-    → prepareAs r mode t ≡ answers (take n table′)
-unfolding outcome
-table-prepared r mode {t} {table} {table′} {n} p =
-    tested-answers (prepareAs r mode) t (take n table′) (lent-answers (tested (prepareAs r mode) t) table table′ n (p .exactly))
-
-pub table-never-18 : (r : Reading) (mode : Mode) {t : Bytes} {table table′ : List Step} {n : ℕ} → PreparesAs r mode t table (prepared-is.Steps n) table′
-    → refusal18 (take n table′) ≡ none
-table-never-18 r mode {t} {table} {table′} {n} p = never-18 r mode t (take n table′) (table-prepared r mode p)

@@ -12,14 +12,15 @@ use Rattle.rules.specs.Text.Lists.{anyOf}
 use Rattle.rules.specs.Text.Bytes.{Bytes}
 use Rattle.rules.specs.Text.Refusal.{Reply, answers, refuses, refuses12, andThen}
 use Rattle.rules.specs.Text.Split.{steps, splitSteps}
+use Rattle.rules.specs.Text.Reader.{spans}
 use Rattle.rules.specs.Text.Parameters.{Parameter, parametersOf}
 use Rattle.rules.specs.Operators.Arguments.{valueOf}
 use Rattle.rules.specs.Operators.Descriptions.{choose}
 use Rattle.rules.specs.Operators.Adapt.{Word, wordGiven, between}
 use Rattle.rules.specs.Operators.Documented.{adaptIn, combinedIn}
-use Rattle.rules.specs.Pipeline.Record.{inReading}
+use Rattle.rules.specs.Pipeline.Record.{inReading, withSpans}
 use Rattle.rules.specs.Pipeline.Keys.{kindOf, unknown, misspelt, tooLong}
-use Rattle.rules.specs.Pipeline.Prepare.{recorded, ownRule, judged14, judged11, named, judged10, judged, offsetIn, atStep, prepareStep, prepareSteps, prepareIn, prepareAs}
+use Rattle.rules.specs.Pipeline.Prepare.{recorded, ownRule, judged14, judged11, named, judged10, judged, offsetIn, atStep, prepareStep, prepareSteps, prepareSplit, prepareIn, prepareAs}
 use Rattle.rules.specs.declared.Mode.{Mode}
 use Rattle.rules.specs.declared.Reading.{Reading}
 use Rattle.rules.specs.declared.Step.{Step}
@@ -111,9 +112,13 @@ module _ (m k : Mode) where
   split-alike (refuses n p) = refuse n p
   split-alike (refuses12 p o) = refuse-12 p o
 
+  in-alike : (t : Bytes) → Alike (prepareIn m t) (prepareIn k t)
+  unfolding prepareIn prepareSplit
+  in-alike t = then-alike (split-alike (splitSteps (steps t))) _ _ (λ x y. answer (withSpans (spans t) x) (withSpans (spans t) y))
+
   prepare-alike : (r : Reading) (t : Bytes) → Alike (prepareAs r m t) (prepareAs r k t)
-  unfolding prepareAs prepareIn
-  prepare-alike r t = then-alike (split-alike (splitSteps (steps t))) _ _ (λ x y. answer (map (inReading r) x) (map (inReading r) y))
+  unfolding prepareAs
+  prepare-alike r t = then-alike (in-alike t) _ _ (λ x y. answer (map (inReading r) x) (map (inReading r) y))
 
   pub same-refusal : (r : Reading) (t : Bytes) (number place : ℕ) → prepareAs r m t ≡ refuses number place → prepareAs r k t ≡ refuses number place
   same-refusal r t number place h = go (prepare-alike r t) h

@@ -1,20 +1,20 @@
 -- What was written is read back: whatever preparing in the table's reading and mode leaves of a text that the call `write` answered, it is
--- the table. (A table that mixes both modes has no such mode: each of its records has a text of its own.)
-use mathlib.Core.Path.{_≡_, refl, ap, sym}
+-- the table, with the spans of that text. (A table that mixes both modes has no such mode: each of its records has a text of its own.)
+use mathlib.Core.Path.{_≡_, refl, ap}
 use mathlib.Core.Logic.{_↔_}
-use Prim.Native.Nat.{ℕ, suc, _≤_}
-use mathlib.Core.Bool.{Bool, true, false, cond, _&&_}
+use Prim.Native.Nat.{ℕ, _≤_}
+use mathlib.Core.Bool.{Bool, true, false, cond}
 use mathlib.Core.Option.{Option, none, some}
 use mathlib.Core.List.{List, [], _∷_, _++_}
-use borrow.Author.Tests.{ltb-false, eqb-true}
 use lib.ListN.{length, take, drop}
 use lib.Seq.{take-append-seam}
-use lib.Dec.{leb, ltb, eqb}
+use lib.Dec.{leb, ltb}
 use Rattle.rules.specs.Text.Lists.{allOf}
 use Rattle.rules.specs.Text.Bytes.{Bytes}
 use Rattle.rules.specs.Text.Refusal.{Reply, answers, refuses, refuses12, lent, written, Lends}
-use Rattle.rules.specs.Pipeline.Record.{readingNumber, readingOf, ofMode, made, tableReading, goodIn, firstBad, refusal18}
-use Rattle.rules.specs.Pipeline.Prepare.{prepareAs, PreparesAs}
+use Rattle.rules.specs.Pipeline.Record.{readingNumber, readingOf, withSpans, ofMode, made, tableReading, refusal18}
+use Rattle.rules.specs.Pipeline.Prepare.{PreparesAs}
+use Rattle.rules.specs.Face.Demands.{Rise}
 use Rattle.rules.specs.declared.Mode.{Mode}
 use Rattle.rules.specs.declared.Reading.{Reading}
 use Rattle.rules.specs.declared.Step.{Step}
@@ -23,13 +23,13 @@ use Rattle.rules.specs.declared.Written.the-variants as written-is
 use Rattle.rules.specs.declared.Prepared.{Prepared}
 use Rattle.rules.specs.declared.Prepared.the-variants as prepared-is
 use Rattle.laws_text.specs.Once.{once}
-use Rattle.rules.specs.Pipeline.Write.{tableWriting, writtenUnless18, write}
+use Rattle.rules.specs.Pipeline.Write.{tableWriting, writtenSpans, writtenUnless18, write}
 use Rattle.laws_lists.specs.Lists.{Every}
 use Rattle.laws_lists.specs.Tests.{and-left, never, and-right}
 use Rattle.laws_records.specs.MadeSo.{made-so}
 use Rattle.laws_records.specs.Readings.{InIt, number-again}
 use Rattle.laws_records.specs.Faithful.{Slots}
-use Rattle.laws_records.specs.Made.{never-18, tested-answers, all-good}
+use Rattle.laws_records.specs.Accepted.{not-18, one-reading}
 use Rattle.laws_records.specs.Exact.{table-prepares, Texted, tables-exactly, made-somehow}
 
 -- ---- an answer of `write`
@@ -49,29 +49,9 @@ lent-front (answers t) out r out′ h = go (ltb (length out) (length t)) h
         let f : out′ ≡ t ++ drop (length t) out = ap (λ (x : Written × Bytes). x .1) h in
         rw (e, f, take-append-seam t (drop (length t) out))
 
-none-bad : (reading k : ℕ) (l : List Step) → firstBad reading k l ≡ none → (allOf made l ≡ true) × Every (InIt reading) l
-unfolding firstBad goodIn allOf Every
-none-bad reading k [] h = (refl, tt)
-none-bad reading k (s ∷ l) h = go (made s) (eqb (s .reading) reading) refl h (none-bad reading (suc k) l)
-  where
-    go : (a b : Bool) → eqb (s .reading) reading ≡ b → cond (a && b) (firstBad reading (suc k) l) (some k) ≡ none
-        → (firstBad reading (suc k) l ≡ none → (allOf made l ≡ true) × Every (InIt reading) l) → (a && allOf made l ≡ true) × (InIt reading s × Every (InIt reading) l)
-    go true true e h f = (f h .0, (sym (eqb-true (s .reading) reading e), f h .1))
-    go true false e h f = absurd (never (cc h))
-    go false b e h f = absurd (never (cc h))
-
--- a table that is not refused 18: its records are `made`, at most 64, and all of its first one's reading
-pub not-18 : (l : List Step) → refusal18 l ≡ none → (allOf made l ≡ true) × (length l ≤ 64) × Every (InIt (tableReading l)) l
-unfolding refusal18
-not-18 l h = go (ltb 64 (length l)) refl h
-  where
-    go : (b : Bool) → ltb 64 (length l) ≡ b → cond b (some 0) (firstBad (tableReading l) 1 l) ≡ none → (allOf made l ≡ true) × (length l ≤ 64) × Every (InIt (tableReading l)) l
-    go true e h = absurd (never (cc h))
-    go false e h = let k = none-bad (tableReading l) 1 l h in (k .0, ltb-false 64 (length l) e, k .1)
-
--- so all are of one of the two readings
+-- a table that is not refused 18: its records are all of one of the two readings
 table-alike : (l : List Step) → refusal18 l ≡ none → Every (InIt (readingNumber (readingOf (tableReading l)))) l
-table-alike l h = let k = not-18 l h in rw (number-again (tableReading l) (small l (k .0))) (k .2)
+table-alike l h = let k = not-18 l .0 h in rw (number-again (tableReading l) (small l (k .0))) (k .2)
   where
     small : (l : List Step) → allOf made l ≡ true → leb (tableReading l) 1 ≡ true
     small [] h = unfold tableReading in refl
@@ -90,7 +70,7 @@ write-answers l t h = go (refusal18 l) refl h
   where
     go : (o : Option ℕ) → refusal18 l ≡ o → writtenUnless18 o (tableWriting l) ≡ answers t → IsText l t
     go none e h =
-        let k = not-18 l e in
+        let k = not-18 l .0 e in
         record { all-made = k .0; few = k .1; alike = table-alike l e; is = cc h }
     go (some place) e h = absurd (never (cc h))
 
@@ -100,29 +80,33 @@ lends-writes l {out} {r} {out′} p = write-answers l (take r out′) (lent-fron
 -- ---- read back
 
 -- Where `write` answered r bytes of a table of one mode, preparing these bytes in the table's reading and in that mode into any step table
--- with room for its records can only answer how many they are, with exactly these records at the front and the rest as it was.
-pub written-returns : (mode : Mode) (l : List Step) → Every Slots l → allOf (ofMode mode) l ≡ true → {out : Bytes} {r : ℕ} {out′ : Bytes} → Lends (write l) out (written-is.Wrote r) out′
+-- with room for its records can only answer how many they are, with exactly these records at the front, with the spans of the text, and the rest as it was.
+pub written-returns : (mode : Mode) (l : List Step) → Every Slots l → allOf (ofMode mode) l ≡ true → {out : Bytes} {r : ℕ} {out′ : Bytes}
+    → Lends (write l) out (written-is.Wrote r) out′
     → (table : List Step) → length l ≤ length table → {answer : Prepared} {table′ : List Step} → PreparesAs (readingOf (tableReading l)) mode (take r out′) table answer table′
-    → (answer ≡ prepared-is.Steps (length l)) × (table′ ≡ l ++ drop (length l) table)
+    → (answer ≡ prepared-is.Steps (length l)) × (table′ ≡ withSpans (writtenSpans l) l ++ drop (length l) table)
 written-returns mode l e f {out} {r} {out′} w table room {answer} {table′} p =
     let k = lends-writes l w in
     once p (rw (k .is) (table-prepares (readingOf (tableReading l)) mode l table (record { each = k .all-made; slots = e; alike = k .alike; of-mode = f }) (k .few) room))
 
 -- ---- refusal 18, exactly
 
--- A table of one mode, of records with eight slots, as every record of the code has, is not refused 18 exactly when some text prepares to it in
--- that mode, in some reading.
-pub not-18-exactly : (mode : Mode) (l : List Step) → Every Slots l → allOf (ofMode mode) l ≡ true → (refusal18 l ≡ none) ↔ ((r : Reading) × Texted r mode l)
+-- A table of one mode, of records with eight slots, as every record of the code has, is not refused 18 exactly when its spans rise up to byte
+-- 40,960 and some text prepares to it, spans aside, in that mode, in some reading.
+pub not-18-exactly : (mode : Mode) (l : List Step) → Every Slots l → allOf (ofMode mode) l ≡ true → (refusal18 l ≡ none) ↔ (Rise 40960 0 l × ((r : Reading) × Texted r mode l))
 not-18-exactly mode l slots f = (
   λ h.
-      let k = not-18 l h in
+      let k = not-18 l .0 h in
       let r = readingOf (tableReading l) in
-      (r, tables-exactly r mode l .0 (record { each = k .0; slots = slots; alike = table-alike l h; of-mode = f }, k .1)),
-  λ t. never-18 (t .0) mode (t .1 .text) l (tested-answers (prepareAs (t .0) mode) (t .1 .text) l (t .1 .prepares)),
+      (k .3, (r, tables-exactly r mode l .0 (record { each = k .0; slots = slots; alike = table-alike l h; of-mode = f }, k .1))),
+  λ t.
+      let r = t .1 .0 in
+      let k = tables-exactly r mode l .1 (t .1 .1) in
+      not-18 l .1 (k .0 .each, k .1, one-reading (readingNumber r) l (k .0 .alike), t .0),
 )
 
--- Any table, of one mode or mixed: it is not refused 18 exactly when it has 64 records at most, all of its first one's reading, and each alone
--- has a text that prepares to it, in some mode.
+-- Any table, of one mode or mixed: it is not refused 18 exactly when it has 64 records at most, all of its first one's reading, its spans rise up
+-- to byte 40,960, and each record alone has a text that prepares to it, its span aside, in some mode.
 abbrev pub TextedAlone : Step → Type 0
 TextedAlone s = (mode : Mode) × Texted (readingOf (s .reading)) mode (s ∷ [])
 
@@ -136,8 +120,8 @@ unfolding Every allOf
 each-made [] e h = refl
 each-made (s ∷ l) e h = rw (made-somehow s (e .0) .1 (h .0)) (each-made l (e .1) (h .1))
 
-pub not-18-each : (l : List Step) → Every Slots l → (refusal18 l ≡ none) ↔ ((length l ≤ 64) × Every (InIt (tableReading l)) l × Every TextedAlone l)
+pub not-18-each : (l : List Step) → Every Slots l → (refusal18 l ≡ none) ↔ ((length l ≤ 64) × Every (InIt (tableReading l)) l × Rise 40960 0 l × Every TextedAlone l)
 not-18-each l slots = (
-  λ h. let k = not-18 l h in (k .1, k .2, each-texted l slots (k .0)),
-  λ h. all-good l (each-made l slots (h .2)) (h .0) (h .1),
+  λ h. let k = not-18 l .0 h in (k .1, k .2, k .3, each-texted l slots (k .0)),
+  λ h. not-18 l .1 (each-made l slots (h .3), h .0, h .1, h .2),
 )

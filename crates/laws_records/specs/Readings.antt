@@ -1,6 +1,6 @@
 -- The same record in another reading: it is made as the first is, and its text is the same; and the records of one table are all of one
 -- reading.
-use mathlib.Core.Path.{_≡_, refl, ap}
+use mathlib.Core.Path.{_≡_, refl}
 use Prim.Native.Nat.{ℕ, zero, suc, _≤_}
 use mathlib.Core.Bool.{true}
 use mathlib.Core.List.{List, [], _∷_, map}
@@ -9,13 +9,11 @@ use borrow.Author.Tests.{leb-true, le-leb}
 use lib.Dec.{leb, eqb}
 use lib.IntN.{ℤ}
 use Rattle.rules.specs.Text.Lists.{allOf}
-use Rattle.rules.specs.Text.Bytes.{joinedBy}
-use Rattle.rules.specs.Text.Ascii.{ascii}
 use Rattle.rules.specs.Operators.Arguments.{size}
 use Rattle.rules.specs.Operators.Table.{isArgs, greatest}
 use Rattle.rules.specs.Pipeline.Record.{readingNumber, readingOf, stepWith, inReading, isSet, operator, args, unused, nineDigits, made, ofMode}
 use Rattle.rules.specs.Pipeline.Running.{opposite, turns, directed, act}
-use Rattle.rules.specs.Pipeline.Write.{markWords, stepWords, writing, tableWriting}
+use Rattle.rules.specs.Pipeline.Write.{markWords, stepWords, writing}
 use Rattle.rules.specs.declared.Mode.{Mode}
 use Rattle.rules.specs.declared.Reading.{Reading}
 use Rattle.rules.specs.declared.Reading.the-variants.{Crate, Proj}
@@ -49,11 +47,6 @@ pub named-so : (r : Reading) (s : Step) → readingNumber r ≡ s .reading → i
 unfolding inReading
 named-so r s h = rw h
 
--- in one reading, and then in another
-pub named-again : (r q : Reading) (s : Step) → inReading r (inReading q s) ≡ inReading r s
-unfolding inReading
-named-again r q s = refl
-
 pub made-named : (r : Reading) (s : Step) → made s ≡ true → made (inReading r s) ≡ true
 unfolding made operator args unused inReading
 made-named r s h =
@@ -83,11 +76,6 @@ unfolding Every
 named-all r [] h = refl
 named-all r (s ∷ l) h = rw (named-so r s (h .0), named-all r l (h .1))
 
-pub back-again : (r q : Reading) (l : List Step) → Every (InIt (readingNumber r)) l → map (inReading r) (map (inReading q) l) ≡ l
-unfolding Every
-back-again r q [] h = refl
-back-again r q (s ∷ l) h = rw (named-again r q s, named-so r s (h .0), back-again r q l (h .1))
-
 pub all-made-named : (r : Reading) (l : List Step) → allOf made l ≡ true → allOf made (map (inReading r) l) ≡ true
 unfolding allOf
 all-made-named r [] h = refl
@@ -97,14 +85,6 @@ pub all-mode-named : (r : Reading) (mode : Mode) (l : List Step) → allOf (ofMo
 unfolding allOf ofMode operator inReading
 all-mode-named r mode [] h = refl
 all-mode-named r mode (s ∷ l) h = rw (and-left (ofMode mode s) _ h) (all-mode-named r mode l (and-right (ofMode mode s) _ h))
-
-writings-named : (r : Reading) (l : List Step) → map writing (map (inReading r) l) ≡ map writing l
-writings-named r [] = refl
-writings-named r (s ∷ l) = rw (writing-named r s, writings-named r l)
-
-pub table-named : (r : Reading) (l : List Step) → tableWriting (map (inReading r) l) ≡ tableWriting l
-unfolding tableWriting
-table-named r l = ap (joinedBy (ascii " | ")) (writings-named r l)
 
 -- ---- `inv` in PROJ's reading
 

@@ -17,7 +17,7 @@ use Rattle.rules.specs.Text.Bytes.{Bytes, Words, same}
 use Rattle.rules.specs.Text.Parameters.{Parameter}
 use Rattle.rules.specs.Operators.Table.{numberOf}
 use Rattle.rules.specs.Operators.Arguments.{size, isGiven}
-use Rattle.rules.specs.Pipeline.Record.{readingNumber, stepWith, operator, args, unused, isSet, made}
+use Rattle.rules.specs.Pipeline.Record.{readingNumber, noSpan, stepWith, operator, args, unused, isSet, made}
 use Rattle.rules.specs.Pipeline.Prepare.{mark, recordOf}
 use Rattle.rules.specs.declared.Reading.the-variants.{Crate}
 use Rattle.rules.specs.declared.Step.{Step}
@@ -60,6 +60,7 @@ pub record IsMade (s : Step) : Type 0 where
   pub fwd-again : cond (isSet (s .«omit_fwd»)) 1 0 ≡ s .«omit_fwd»
   pub back-again : cond (isSet (s .«omit_inv»)) 1 0 ≡ s .«omit_inv»
   pub crates : readingNumber Crate ≡ s .reading
+  pub no-span : noSpan ≡ s .span
   pub keeps : Kept (operator s) (args s)
 
 slots-again : (l : List ℤ) (n : ℕ) → length l ≡ 8 → n ≤ 8 → allOf (λ (x : ℤ). eqb (size x) 0) (drop n l) ≡ true → take n l ++ replicate (8 - length (take n l)) (pos 0) ≡ l
@@ -75,9 +76,9 @@ made-keeps s h =
     let m = made-so s h in
     record { fit = omega (arith, m .slots, length-take (s .n) (s .args)); nines = m .digits; rule = m .rule }
 
-pub made-is : (s : Step) → length (s .args) ≡ 8 → made s ≡ true → readingNumber Crate ≡ s .reading → IsMade s
+pub made-is : (s : Step) → length (s .args) ≡ 8 → made s ≡ true → readingNumber Crate ≡ s .reading → noSpan ≡ s .span → IsMade s
 unfolding operator args unused
-made-is s e h c =
+made-is s e h c n =
     let m = made-so s h in
     record {
       number = number-operator (s .operator) (m .number);
@@ -87,6 +88,7 @@ made-is s e h c =
       fwd-again = mark-again (s .«omit_fwd») (m .forward);
       back-again = mark-again (s .«omit_inv») (m .inverse);
       crates = c;
+      no-span = n;
       keeps = made-keeps s h;
     }
 
@@ -155,5 +157,6 @@ module _ (s : Step) (w : Bytes) (own : List Parameter) (u : Unmarked own) where
         m .inv-again,
         m .fwd-again,
         m .back-again,
+        m .no-span,
         m .crates,
       )

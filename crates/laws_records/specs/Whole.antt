@@ -1,6 +1,6 @@
 -- Steps' texts with ` | ` between are split into those steps again, and prepared one by one.
 use mathlib.Core.Path.{_≡_, refl}
-use Prim.Native.Nat.{ℕ, suc, _≤_}
+use Prim.Native.Nat.{ℕ, suc, _+_, _≤_}
 use mathlib.Core.Bool.{true, false}
 use mathlib.Core.List.{List, [], _∷_, map}
 use borrow.Author.Tests.{le-ltb}
@@ -10,7 +10,9 @@ use Rattle.rules.specs.Text.Lists.{anyOf, allOf, nonEmpty}
 use Rattle.rules.specs.Text.Bytes.{Bytes, Words, Steps, inDomain, words, joinedBy, joined}
 use Rattle.rules.specs.Text.Refusal.{answers, andThen}
 use Rattle.rules.specs.Text.Split.{onlyModifiers, stepsOf, steps, stepText, splitSteps}
-use Rattle.rules.specs.Pipeline.Prepare.{prepareStep, prepareSteps, prepareIn}
+use Rattle.rules.specs.Text.Reader.{spansFrom, spansOf, definition, spans}
+use Rattle.rules.specs.Pipeline.Prepare.{prepareStep, prepareSteps, prepareSplit}
+use Rattle.rules.specs.Pipeline.Write.{spansInTurn}
 use Rattle.rules.specs.Opened.{opened}
 use Rattle.rules.specs.declared.Mode.{Mode}
 use Rattle.rules.specs.declared.Step.{Step}
@@ -102,13 +104,27 @@ spaced-steps (ws ∷ wss) h =
     rw (normal-stripped (joined ws) (map joined wss) c b, cut-joined (is "|") 124 refl (joined ws) (map joined wss) b, speaks-words ws (unfold Every in h .0), all-words wss (unfold Every in h .1))
     (kept-all nonEmpty (ws ∷ wss) (all-some (ws ∷ wss) h))
 
+-- they stand one after the other, with a byte between
+in-turn : (place : ℕ) (wss : Steps) → Every Speaks wss → spansFrom place (map joined wss) ≡ spansInTurn place (map joined wss)
+unfolding spansFrom spansInTurn Every
+in-turn place [] h = refl
+in-turn place (ws ∷ wss) h = rw (speaks-words ws (h .0), speaks-some ws (h .0), in-turn (place + suc (length (joined ws))) wss (h .1))
+
+pub spaced-spans : (wss : Steps) → Every Speaks wss → spans (spaced wss) ≡ spansInTurn 0 (map joined wss)
+unfolding spaced
+spaced-spans [] h = unfold opened in refl
+spaced-spans (ws ∷ wss) h =
+    let b = all-bare (ws ∷ wss) h in
+    unfold spans spansOf definition ascii in
+    rw (normal-stripped (joined ws) (map joined wss) (all-calm (ws ∷ wss) h) b, cut-joined (is "|") 124 refl (joined ws) (map joined wss) b) (in-turn 0 (ws ∷ wss) h)
+
 -- it is in the domain
 pub spaced-domain : (ws : Words) (wss : Steps) → Every Speaks (ws ∷ wss) → inDomain (spaced (ws ∷ wss)) ≡ true
 unfolding spaced ascii
 spaced-domain ws wss h = domain-calm _ (spaced-calm (joined ws) (map joined wss) (all-calm (ws ∷ wss) h) (all-bare (ws ∷ wss) h))
 
-pub spaced-prepared : (mode : Mode) (wss : Steps) → Every Speaks wss → length wss ≤ 64 → prepareIn mode (spaced wss) ≡ prepareSteps mode 1 (map joined wss)
-unfolding prepareIn splitSteps andThen
+pub spaced-prepared : (mode : Mode) (wss : Steps) → Every Speaks wss → length wss ≤ 64 → prepareSplit mode (spaced wss) ≡ prepareSteps mode 1 (map joined wss)
+unfolding prepareSplit splitSteps andThen
 spaced-prepared mode wss h l = rw (spaced-steps wss h, all-more wss h, le-ltb 64 (length wss) l, all-texts wss h)
 
 -- each step's text is prepared to its record

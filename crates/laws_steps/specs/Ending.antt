@@ -15,6 +15,7 @@ use Rattle.rules.specs.Text.Lists.{anyOf}
 use Rattle.rules.specs.Text.Bytes.{Bytes}
 use Rattle.rules.specs.Text.Refusal.{Reply, answers, refuses, refuses12, tested, lent, outcome, Promised, written, prepared, Writes, Lends}
 use Rattle.rules.specs.Text.Normal.{normalise}
+use Rattle.rules.specs.Text.Reader.{define}
 use Rattle.rules.specs.Text.Split.{split}
 use Rattle.rules.specs.Text.Parameters.{parameters}
 use Rattle.rules.specs.Proj.Translate.{translate}
@@ -45,7 +46,7 @@ use Rattle.rules.specs.declared.Verdict.{Verdict}
 use Rattle.rules.specs.declared.Verdict.the-variants as verdict-is
 use Rattle.rules.specs.declared.Ran.{Ran}
 use Rattle.rules.specs.declared.Ran.the-variants.{Done, Refused}
-use Rattle.laws_text.specs.Refusals.{Refusing, OfAStep, then-refuses, tested-refuses, normalise-refuses, split-refuses, parameters-refuses, translate-refuses, prepare-refuses}
+use Rattle.laws_text.specs.Refusals.{Refusing, OfAStep, then-refuses, tested-refuses, normalise-refuses, define-refuses, split-refuses, parameters-refuses, translate-refuses, prepare-refuses}
 use Rattle.laws_text.specs.Walk.{walk-ahead}
 use Rattle.laws_steps.specs.Foretold.{check-refused}
 use Rattle.laws_steps.specs.Lengths.{store-length}
@@ -95,6 +96,10 @@ module _ {text out : Bytes} {r : Written} {out′ : Bytes} where
   pub normalise-ends : Writes normalise text out r out′ → Ends written-is.Wrote textRefusal (1 ∷ 2 ∷ 7 ∷ []) out r out′
   unfolding anyOf
   normalise-ends = text-ends (1 ∷ 2 ∷ 7 ∷ []) refl normalise refl refl (normalise-refuses (By (1 ∷ 2 ∷ 7 ∷ [])) text)
+
+  pub definition-ends : Writes define text out r out′ → Ends written-is.Wrote textRefusal (1 ∷ 2 ∷ 7 ∷ []) out r out′
+  unfolding anyOf
+  definition-ends = text-ends (1 ∷ 2 ∷ 7 ∷ []) refl define refl refl (define-refuses (By (1 ∷ 2 ∷ 7 ∷ [])) text)
 
   pub split-ends : Writes split text out r out′ → Ends written-is.Wrote textRefusal (1 ∷ 2 ∷ 6 ∷ 7 ∷ 8 ∷ []) out r out′
   unfolding anyOf

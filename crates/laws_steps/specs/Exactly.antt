@@ -190,7 +190,7 @@ made-if : (d : Direction) (t : List Step) → ((k : ℕ) → check d t .verdict 
 unfolding check checked only
 made-if d t h = go (refusal18 t) h
   where
-    go : (o : Option ℕ) → ((k : ℕ) → checked o (running d t) .verdict ≡ Refused 18 k → ⊥) → o ≡ none
+    go : (o : Option ℕ) → ((k : ℕ) → checked o t (running d t) .verdict ≡ Refused 18 k → ⊥) → o ≡ none
     go none h = refl
     go (some k) h = absurd (h k refl)
 

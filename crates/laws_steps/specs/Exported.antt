@@ -14,7 +14,7 @@ use Rattle.rules.specs.Text.Normal.{normalise}
 use Rattle.rules.specs.Text.Split.{split}
 use Rattle.rules.specs.Text.Parameters.{parameters}
 use Rattle.rules.specs.Proj.Translate.{translate}
-use Rattle.rules.specs.Text.Reader.{next}
+use Rattle.rules.specs.Text.Reader.{next, define}
 use Rattle.rules.specs.Pipeline.Prepare.{prepare, prepareAs, Prepares, PreparesAs}
 use Rattle.rules.specs.Pipeline.Run.{Outcome, runs, Runs}
 use Rattle.rules.specs.Pipeline.Check.{check}
@@ -41,7 +41,7 @@ use Rattle.laws_text.specs.Entry.{in-other-words}
 use Rattle.laws_text.specs.Once.{once}
 use Rattle.laws_steps.specs.Foretold.{check-refused}
 use Rattle.laws_steps.specs.Runs.{used}
-use Rattle.laws_steps.specs.Ending.{normalise-ends, split-ends, parameters-ends, translate-ends, prepare-ends, prepare-as-ends, run-ends}
+use Rattle.laws_steps.specs.Ending.{normalise-ends, definition-ends, split-ends, parameters-ends, translate-ends, prepare-ends, prepare-as-ends, run-ends}
 
 behind : {A R S : Type 0} (inWords : Reply ℕ → R) (f : R → S) (own : Bytes → Reply (List A)) (text : Bytes) (storage : List A) {r : S} {storage′ : List A}
     → Promised (λ (x : Reply ℕ). f (inWords x)) own text storage r storage′ → (w : R) × Promised inWords own text storage w storage′ × (r ≡ f w)
@@ -85,6 +85,10 @@ behind-text own numbers none ends text out r out′ p =
 pub behind-normalise : ExportsText normalise
 unfolding anyOf
 behind-normalise = behind-text normalise _ refl (λ text out w out′ h. normalise-ends h)
+
+pub behind-definition : ExportsText define
+unfolding anyOf
+behind-definition = behind-text define _ refl (λ text out w out′ h. definition-ends h)
 
 pub behind-split : ExportsText split
 unfolding anyOf

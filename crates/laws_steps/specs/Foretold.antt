@@ -86,29 +86,29 @@ pub passed : (d : Direction) (t : List Step) → check d t .verdict ≡ Passes �
 unfolding check checked answered only
 passed d t h = ofRecords (refusal18 t) refl h
   where
-    ofVerdict : (v : Verdict) → verdict (running d t) begin ≡ v → refusal18 t ≡ none → answered v (running d t) .verdict ≡ Passes → Passed d t
+    ofVerdict : (v : Verdict) → verdict (running d t) begin ≡ v → refusal18 t ≡ none → answered v t (running d t) .verdict ≡ Passes → Passed d t
     ofVerdict Passes e r h = record { records = r; passes = e; answer = rw (r, e) }
     ofVerdict (TooFew k) e r h = absurd (never (cc h))
     ofVerdict (TooMany k) e r h = absurd (never (cc h))
     ofVerdict (Refused n k) e r h = absurd (never (cc h))
 
-    ofRecords : (o : Option ℕ) → refusal18 t ≡ o → checked o (running d t) .verdict ≡ Passes → Passed d t
+    ofRecords : (o : Option ℕ) → refusal18 t ≡ o → checked o t (running d t) .verdict ≡ Passes → Passed d t
     ofRecords (some k) e h = absurd (never (cc h))
     ofRecords none e h = ofVerdict (verdict (running d t) begin) refl e h
 
-answered-verdict : (v : Verdict) (l : List Numbered) → answered v l .verdict ≡ v
+answered-verdict : (v : Verdict) (t : List Step) (l : List Numbered) → answered v t l .verdict ≡ v
 unfolding answered foretold only
-answered-verdict Passes l = refl
-answered-verdict (TooFew k) l = refl
-answered-verdict (TooMany k) l = refl
-answered-verdict (Refused n k) l = refl
+answered-verdict Passes t l = refl
+answered-verdict (TooFew k) t l = refl
+answered-verdict (TooMany k) t l = refl
+answered-verdict (Refused n k) t l = refl
 
 -- Of records that a preparation makes, the check passes exactly where no step of the written run finds fewer columns than
 -- it takes and the depth stays within 64; else it names the first such step.
 pub check-fault : (d : Direction) (t : List Step) (xs : List Float) → refusal18 t ≡ none → check d t .verdict ≡ fault (running d t) (start xs)
 unfolding check checked
 check-fault d t xs r =
-    rw r (answered-verdict (verdict (running d t) begin) (running d t))
+    rw r (answered-verdict (verdict (running d t) begin) t (running d t))
     ∙ verdict-fault (running d t) (start xs) begin refl
 
 -- It refuses a table with 18 alone, and at the place of the first bad record.
@@ -116,8 +116,8 @@ pub check-refused : (d : Direction) (t : List Step) (n k : ℕ) → check d t .v
 unfolding check checked only
 check-refused d t n k h = go (refusal18 t) h
   where
-    go : (o : Option ℕ) → checked o (running d t) .verdict ≡ Refused n k → (n ≡ 18) × (o ≡ some k)
-    go none h = absurd (no-refusal (running d t) begin n k (sym (answered-verdict (verdict (running d t) begin) (running d t)) ∙ h))
+    go : (o : Option ℕ) → checked o t (running d t) .verdict ≡ Refused n k → (n ≡ 18) × (o ≡ some k)
+    go none h = absurd (no-refusal (running d t) begin n k (sym (answered-verdict (verdict (running d t) begin) t (running d t)) ∙ h))
     go (some p) h = let e : p ≡ k = cc h in (cc h, ap some e)
 
 -- After a pass the places are told exactly where no `adapt` step runs.

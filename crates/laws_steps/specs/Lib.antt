@@ -9,6 +9,8 @@ pub mod Named
 pub mod Lengths
 pub mod Foretold
 pub mod Exactly
+pub mod Aside
+pub mod Spans
 pub mod Runs
 pub mod OwnNumbers
 pub mod Bits

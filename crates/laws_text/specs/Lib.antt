@@ -13,3 +13,10 @@ pub mod Latest
 pub mod Faults
 pub mod Offsets
 pub mod Walk
+pub mod Spans
+pub mod Apart
+pub mod Freed
+pub mod Spread
+pub mod Pieces
+pub mod Edges
+pub mod Texts

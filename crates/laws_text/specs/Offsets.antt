@@ -18,8 +18,9 @@ use Rattle.rules.specs.Text.Parameters.{Parameter, Placed, name, tableOf, stepT
 use Rattle.rules.specs.Operators.Arguments.{valueOf}
 use Rattle.rules.specs.Pipeline.Keys.{kindOf, unknown, misspelt, tooLong}
 use Rattle.rules.specs.Pipeline.Offsets.{cutText, isFault, offsetBy}
-use Rattle.rules.specs.Pipeline.Record.{inReading}
-use Rattle.rules.specs.Pipeline.Prepare.{ownRule, judged14, judged11, named, judged10, judged, offsetOf, offsetIn, atStep, prepareStep, prepareSteps, prepareIn}
+use Rattle.rules.specs.Text.Reader.{spans}
+use Rattle.rules.specs.Pipeline.Record.{inReading, withSpans}
+use Rattle.rules.specs.Pipeline.Prepare.{ownRule, judged14, judged11, named, judged10, judged, offsetOf, offsetIn, atStep, prepareStep, prepareSteps, prepareSplit, prepareIn}
 use Rattle.rules.specs.Pipeline.Prepare.{prepare, prepareAs, Prepares, PreparesAs}
 use Rattle.rules.specs.Face.Demands.{FaultAt, FirstFault}
 use Rattle.rules.specs.declared.Mode.{Mode}
@@ -96,9 +97,13 @@ module _ (m : Mode) where
   steps-other place [] = tt
   steps-other place (t ∷ ts) = other-then (prepareStep m place t) _ (step-other place t) (λ s. other-then (prepareSteps m (suc place) ts) _ (steps-other (suc place) ts) (λ l. tt))
 
+  split-other : (t : Bytes) → Other (prepareSplit m t)
+  unfolding prepareSplit
+  split-other t = other-then (splitSteps (steps t)) (prepareSteps m 1) (splits-other (steps t)) (steps-other 1)
+
   prepare-other : (t : Bytes) → Other (prepareIn m t)
-  unfolding prepareIn
-  prepare-other t = other-then (splitSteps (steps t)) (prepareSteps m 1) (splits-other (steps t)) (steps-other 1)
+  unfolding prepareIn Other
+  prepare-other t = other-then (prepareSplit m t) (λ l. answers (withSpans (spans t) l)) (split-other t) (λ l. tt)
 
   prepare-as-other : (how : Reading) (t : Bytes) → Other (prepareAs how m t)
   unfolding prepareAs Other
@@ -255,9 +260,9 @@ steps-stop m first (t ∷ ts) p o h = go (prepareStep m first t) refl h (steps-s
         let same-offset : l ≡ o = cc h in
         here (step-fault m first t p o (rw (← same-place, ← same-offset) e))
 
-pub prepare-fault : (m : Mode) (t : Bytes) (p o : ℕ) → prepareIn m t ≡ refuses12 p o → FirstFault t p o
-unfolding prepareIn splitSteps andThen
-prepare-fault m t p o h = go (anyOf onlyModifiers (steps t)) (ltb 64 (length (steps t))) h
+split-fault : (m : Mode) (t : Bytes) (p o : ℕ) → prepareSplit m t ≡ refuses12 p o → FirstFault t p o
+unfolding prepareSplit splitSteps andThen
+split-fault m t p o h = go (anyOf onlyModifiers (steps t)) (ltb 64 (length (steps t))) h
   where
     whole : Stop (map stepText (steps t)) 1 p o → FirstFault t p o
     whole s = record {
@@ -279,6 +284,10 @@ prepare-fault m t p o h = go (anyOf onlyModifiers (steps t)) (ltb 64 (length (st
     go true b h = absurd (never (cc h))
     go false true h = absurd (never (cc h))
     go false false h = whole (steps-stop m 1 (map stepText (steps t)) p o h)
+
+pub prepare-fault : (m : Mode) (t : Bytes) (p o : ℕ) → prepareIn m t ≡ refuses12 p o → FirstFault t p o
+unfolding prepareIn
+prepare-fault m t p o h = split-fault m t p o (then-12 (prepareSplit m t) (withSpans (spans t)) p o h)
 
 pub prepare-as-fault : (how : Reading) (m : Mode) (t : Bytes) (p o : ℕ) → prepareAs how m t ≡ refuses12 p o → FirstFault t p o
 unfolding prepareAs

@@ -14,13 +14,14 @@ use Rattle.rules.specs.Text.Lists.{anyOf, placeOf}
 use Rattle.rules.specs.Text.Bytes.{Bytes, Steps, inDomain, words, contains}
 use Rattle.rules.specs.Text.Refusal.{Reply, answers, refuses, refuses12, andThen, tested}
 use Rattle.rules.specs.Text.Normal.{normal, normalise}
+use Rattle.rules.specs.Text.Reader.{define}
 use Rattle.rules.specs.Text.Split.{onlyModifiers, stepText, steps, splitSteps, split}
 use Rattle.rules.specs.Text.Parameters.{Parameter, tableOf, stepTable, textTable, parametersOf, parameters}
 use Rattle.rules.specs.Proj.Words.{projSteps}
 use Rattle.rules.specs.Proj.Translate.{Pipeline, pipeline, isPipeline, initFirst, onlyInv, firstFault, translation, translated, translate}
 use Rattle.rules.specs.Pipeline.Keys.{kindOf, unknown, misspelt, tooLong}
 use Rattle.rules.specs.Operators.Arguments.{valueOf}
-use Rattle.rules.specs.Pipeline.Prepare.{ownRule, judged14, judged11, named, judged10, judged, atStep, prepareStep, prepareSteps, prepareIn, offsetIn}
+use Rattle.rules.specs.Pipeline.Prepare.{ownRule, judged14, judged11, named, judged10, judged, atStep, prepareStep, prepareSteps, prepareSplit, prepareIn, offsetIn}
 use Rattle.rules.specs.declared.Mode.{Mode}
 use Rattle.rules.specs.declared.Step.{Step}
 use Rattle.rules.specs.declared.Named.{Named}
@@ -57,6 +58,10 @@ module _ (P : ℕ → ℕ → Type 0) where
   pub normalise-refuses : (t : Bytes) → Refusing P (normalise t)
   unfolding normalise Refusing
   normalise-refuses t = tt
+
+  pub define-refuses : (t : Bytes) → Refusing P (define t)
+  unfolding define Refusing
+  define-refuses t = tt
 
   -- 6 at one of the steps, and 8
   steps-refuses : (ss : Steps) → ((p : ℕ) → p ≤ length ss → P 6 p) → P 8 0 → Refusing P (splitSteps ss)
@@ -158,8 +163,12 @@ module _ (P : ℕ → ℕ → Type 0) (m : Mode) where
       (λ s e. then-refuses P (prepareSteps m (suc place) ts) _ (all-refuse last (suc place) ts (omega arith) h) (λ r f. tt))
 
   -- the numbers of a step at one of the steps, and 8
-  pub prepare-refuses : (t : Bytes) → ((k : ℕ) → k ≤ length (steps t) → OfAStep P k) → P 8 0 → Refusing P (prepareIn m t)
-  unfolding prepareIn
-  prepare-refuses t h eight =
+  records-refuse : (t : Bytes) → ((k : ℕ) → k ≤ length (steps t) → OfAStep P k) → P 8 0 → Refusing P (prepareSplit m t)
+  unfolding prepareSplit
+  records-refuse t h eight =
       then-refuses P (splitSteps (steps t)) (prepareSteps m 1) (steps-refuses P (steps t) (λ p l. h p l .modifiers) eight)
       (λ ts e. all-refuse (length (steps t)) 1 ts (omega (arith, split-few (steps t) ts e .0)) h)
+
+  pub prepare-refuses : (t : Bytes) → ((k : ℕ) → k ≤ length (steps t) → OfAStep P k) → P 8 0 → Refusing P (prepareIn m t)
+  unfolding prepareIn Refusing
+  prepare-refuses t h eight = then-refuses P (prepareSplit m t) _ (records-refuse t h eight) (λ l e. tt)

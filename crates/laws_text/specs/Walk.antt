@@ -8,10 +8,11 @@ use lib.ListN.{length, drop, length-append, length-drop}
 use lib.Seq.{drop-drop, take-at, drop-at}
 use Rattle.rules.specs.Text.Ascii.{is}
 use Rattle.rules.specs.Text.Lists.{kept, nonEmpty}
-use Rattle.rules.specs.Text.Bytes.{Bytes, onto, cut, words}
+use Rattle.rules.specs.Text.Bytes.{Bytes, Steps, onto, cut, words}
 use Rattle.rules.specs.Text.Split.{stepsOf}
 use Rattle.rules.specs.Text.Reader.{step, found, next, part, walked}
 use Rattle.rules.specs.declared.Cursor.{Cursor}
+use Rattle.rules.specs.declared.Found.{Found}
 use Rattle.rules.specs.declared.Found.the-variants.{Step, End}
 use Rattle.laws_lists.specs.Tests.{never}
 
@@ -26,7 +27,7 @@ back [] = []
 back (x ∷ t) = cond (is "|" x) (x ∷ t) (back t)
 
 -- the pieces after the first
-others : Bytes → List Bytes
+pub others : Bytes → List Bytes
 others [] = []
 others (x ∷ t) = cut (is "|") t
 
@@ -59,14 +60,33 @@ behind (x ∷ t) = go (is "|" x) refl (behind t)
 
 -- ---- the walk
 
--- a text from a place on, with its first piece p and what is left after it
-record At (n : Bytes) (place : ℕ) (p : Bytes) (ps : List Bytes) : Type 0 where
-  left : Bytes
-  here : drop place n ≡ p ++ left
-  rest : ps ≡ others left
-  cuts : cut (is "|") left ≡ [] ∷ others left
+-- the pieces that have words: those of the steps
+unfoldable pub worded : List Bytes → List Bytes
+worded ps = kept (λ (p : Bytes). nonEmpty (words p)) ps
 
-at : (n : Bytes) (place : ℕ) (p : Bytes) (ps : List Bytes) → cut (is "|") (drop place n) ≡ p ∷ ps → At n place p ps
+pub worded-words : (ps : List Bytes) → kept nonEmpty (map words ps) ≡ map words (worded ps)
+unfolding worded kept
+worded-words [] = refl
+worded-words (p ∷ ps) = go (nonEmpty (words p)) (worded-words ps)
+  where
+    go : (b : Bool) → kept nonEmpty (map words ps) ≡ map words (worded ps)
+        → cond b (words p ∷ kept nonEmpty (map words ps)) (kept nonEmpty (map words ps)) ≡ map words (cond b (p ∷ worded ps) (worded ps))
+    go true e = ap (λ (ss : Steps). words p ∷ ss) e
+    go false e = e
+
+-- the pieces that a find tells of: that of the step found, and all from there on
+walkedPieces : Bytes → Found → List Bytes
+walkedPieces n End = []
+walkedPieces n (Step from to then) = part from to n ∷ worded (cut (is "|") (drop (then .at) n))
+
+-- a text from a place on, with its first piece p and what is left after it
+pub record At (n : Bytes) (place : ℕ) (p : Bytes) (ps : List Bytes) : Type 0 where
+  pub left : Bytes
+  pub here : drop place n ≡ p ++ left
+  pub rest : ps ≡ others left
+  pub cuts : cut (is "|") left ≡ [] ∷ others left
+
+pub at : (n : Bytes) (place : ℕ) (p : Bytes) (ps : List Bytes) → cut (is "|") (drop place n) ≡ p ∷ ps → At n place p ps
 at n place p ps c =
     let r = drop place n in
     let e : front r ∷ others (back r) ≡ p ∷ ps = sym (pieces r) ∙ c in
@@ -82,16 +102,16 @@ module _ {n : Bytes} {place : ℕ} {p : Bytes} {ps : List Bytes} (m : At n place
   at-part : part place (place + length p) n ≡ p
   at-part = let e : place + length p - place ≡ length p = omega arith in rw (e, m .here) (take-at p (m .left) (length p) refl)
 
-  at-left : drop (place + length p) n ≡ m .left
+  pub at-left : drop (place + length p) n ≡ m .left
   at-left = rw (← drop-drop (length p) place n, m .here) (drop-at p (m .left) (length p) refl)
 
-  -- the steps from the piece's end on are those of the other pieces
-  at-steps : stepsOf (drop (place + length p) n) ≡ kept nonEmpty (map words ps)
-  unfolding stepsOf words kept nonEmpty cut
-  at-steps = rw (at-left, m .cuts, m .rest)
+  -- the pieces from its end on are the other ones
+  at-others : worded (cut (is "|") (drop (place + length p) n)) ≡ worded ps
+  unfolding worded words kept nonEmpty cut
+  at-others = rw (at-left, m .cuts, m .rest)
 
   -- where the next piece stands
-  at-next : (q : Bytes) (qs : List Bytes) → ps ≡ q ∷ qs → cut (is "|") (drop (place + suc (length p)) n) ≡ q ∷ qs
+  pub at-next : (q : Bytes) (qs : List Bytes) → ps ≡ q ∷ qs → cut (is "|") (drop (place + suc (length p)) n) ≡ q ∷ qs
   unfolding others
   at-next q qs e = go (m .left) (sym (m .rest) ∙ e) (m .here)
     where
@@ -99,25 +119,33 @@ module _ {n : Bytes} {place : ℕ} {p : Bytes} {ps : List Bytes} (m : At n place
       go [] f h = absurd (never (cc f))
       go (x ∷ u) f h = rw (← drop-drop (suc (length p)) place n, h, drop-past p x u) f
 
--- the first step of some pieces, and the steps after it
+-- the first step of some pieces, and the pieces after it
 found-walks : (n : Bytes) (place : ℕ) (ps : List Bytes) → ((q : Bytes) (qs : List Bytes) → ps ≡ q ∷ qs → cut (is "|") (drop place n) ≡ ps)
-    → kept nonEmpty (map words ps) ≡ walked n (found place ps)
-unfolding kept found walked
+    → worded ps ≡ walkedPieces n (found place ps)
+unfolding worded kept found walkedPieces
 found-walks n place [] c = refl
 found-walks n place (p ∷ ps) c = go (nonEmpty (words p)) (found-walks n (place + suc (length p)) ps (λ q qs e. at-next m q qs e ∙ sym e))
   where
     m : At n place p ps
     m = at n place p ps (c p ps refl)
 
-    go : (b : Bool) → kept nonEmpty (map words ps) ≡ walked n (found (place + suc (length p)) ps)
-        → cond b (words p ∷ kept nonEmpty (map words ps)) (kept nonEmpty (map words ps)) ≡ walked n (cond b (step place (place + length p)) (found (place + suc (length p)) ps))
-    go true h = rw (at-part m, at-steps m)
+    go : (b : Bool) → worded ps ≡ walkedPieces n (found (place + suc (length p)) ps)
+        → cond b (p ∷ worded ps) (worded ps) ≡ walkedPieces n (cond b (step place (place + length p)) (found (place + suc (length p)) ps))
+    go true h = rw (at-part m, at-others m)
     go false h = h
+
+walk-pieces : (normalised : Bytes) (place : ℕ) → worded (cut (is "|") (drop place normalised)) ≡ walkedPieces normalised (next normalised place)
+unfolding next
+walk-pieces normalised place = found-walks normalised place (cut (is "|") (drop place normalised)) (λ q qs e. refl)
 
 -- The steps from the reader's place on are the step that it finds, and the steps from there on; none where it finds none.
 pub walk : (normalised : Bytes) (place : ℕ) → stepsOf (drop place normalised) ≡ walked normalised (next normalised place)
-unfolding stepsOf next
-walk normalised place = found-walks normalised place (cut (is "|") (drop place normalised)) (λ q qs e. refl)
+unfolding stepsOf
+walk normalised place = worded-words (cut (is "|") (drop place normalised)) ∙ ap (map words) (walk-pieces normalised place) ∙ go (next normalised place)
+  where
+    go : (f : Found) → map words (walkedPieces normalised f) ≡ walked normalised f
+    go End = unfold walkedPieces walked in refl
+    go (Step from to then) = unfold walkedPieces walked in ap (λ (ss : Steps). words (part from to normalised) ∷ ss) (sym (worded-words (cut (is "|") (drop (then .at) normalised))))
 
 -- What it finds lies ahead, is not empty, stands within the text, and has words; the reader goes on at its end: the walk
 -- ends.
@@ -176,3 +204,13 @@ walk-step normalised place from to then f = walk normalised place ∙ ap (walked
 pub walk-end : (normalised : Bytes) (place : ℕ) → next normalised place ≡ End → stepsOf (drop place normalised) ≡ []
 unfolding walked
 walk-end normalised place f = walk normalised place ∙ ap (walked normalised) f
+
+-- the pieces from there on
+pub piece-step : (normalised : Bytes) (place from to : ℕ) (then : Cursor) → next normalised place ≡ Step from to then
+    → worded (cut (is "|") (drop place normalised)) ≡ part from to normalised ∷ worded (cut (is "|") (drop (then .at) normalised))
+unfolding walkedPieces
+piece-step normalised place from to then f = walk-pieces normalised place ∙ ap (walkedPieces normalised) f
+
+pub piece-end : (normalised : Bytes) (place : ℕ) → next normalised place ≡ End → worded (cut (is "|") (drop place normalised)) ≡ []
+unfolding walkedPieces
+piece-end normalised place f = walk-pieces normalised place ∙ ap (walkedPieces normalised) f
