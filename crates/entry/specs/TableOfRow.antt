@@ -10,7 +10,7 @@ use lib.Dec.{ltb}
 use lib.ListN.{length, drop, length-append, length-replicate}
 use lib.Seq.{take-all, take-at}
 use lib.Ieee.{Float}
-use Rattle.rules.specs.Pipeline.Record.{blank, listed, refusal18}
+use Rattle.rules.specs.Pipeline.Record.{noSpan, blank, listed, refusal18}
 use Rattle.rules.specs.Pipeline.Check.{only, check, checked}
 use Rattle.rules.specs.Pipeline.Run.{refused, runs, unless18}
 use Rattle.rules.specs.declared.Step.{Step}
@@ -53,7 +53,7 @@ module _ (row : List Step) where
 
   pub check-stands : (d : Direction) → check d (listed (loaded row)) ≡ check d row
   unfolding check checked
-  check-stands d = stands (check d) (only (Refused 18 0)) (λ l e. rw e)
+  check-stands d = stands (check d) (only (Refused 18 0) noSpan) (λ l e. rw e)
 
   pub runs-stands : (d : Direction) (xs store : List Float) → runs d (listed (loaded row)) xs store ≡ runs d row xs store
   unfolding runs unless18

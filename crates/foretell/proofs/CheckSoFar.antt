@@ -8,13 +8,14 @@ use native.Mathlib.Omega.{arith}
 use lib.ListN.{length, getD, set, take, replicate, length-append, length-drop}
 use lib.Seq.{set-at}
 use Rattle.rules.specs.Text.Lists.{anyOf}
-use Rattle.rules.specs.Pipeline.Record.{refusal18}
+use Rattle.rules.specs.Pipeline.Record.{noSpan, refusal18}
 use Rattle.rules.specs.Operators.Acts.{Act}
 use Rattle.rules.specs.Pipeline.Running.{act, Numbered, omitted, running}
 use Rattle.rules.specs.Pipeline.Columns.{moved, after, depths, deepest}
 use Rattle.rules.specs.Pipeline.Check as rules
-use Rattle.rules.specs.Pipeline.Check.{onPlaces, verdict, begin, adapting, anyAdapt, foretold, answered, check, checked, Checks, only, noPlace}
+use Rattle.rules.specs.Pipeline.Check.{onPlaces, verdict, begin, adapting, anyAdapt, foretold, spanAt, answered, check, checked, Checks, only, noPlace}
 use Rattle.rules.specs.declared.Place.{Place}
+use Rattle.rules.specs.declared.Span.{Span}
 use Rattle.rules.specs.declared.Step.{Step}
 use Rattle.rules.specs.declared.Direction.{Direction}
 use Rattle.rules.specs.declared.Verdict.the-variants.{Passes, TooFew, TooMany, Refused}
@@ -195,13 +196,14 @@ module _ {d : Direction} {l : List Step} {k : ℕ} {c : Sofar} (ch : Checking d 
 
 -- ---- the answer
 
-pub answers-few : (l : List Numbered) (k : ℕ) → verdict l begin ≡ TooFew k → only (TooFew k) ≡ checked none l
-unfolding checked answered
-answers-few l k e = rw e refl
+module _ (t : List Step) (l : List Numbered) (k : ℕ) (p : Span) (here : p ≡ spanAt k t) where
+  pub answers-few : verdict l begin ≡ TooFew k → only (TooFew k) p ≡ checked none t l
+  unfolding checked answered
+  answers-few e = rw (e, here) refl
 
-pub answers-many : (l : List Numbered) (k : ℕ) → verdict l begin ≡ TooMany k → only (TooMany k) ≡ checked none l
-unfolding checked answered
-answers-many l k e = rw e refl
+  pub answers-many : verdict l begin ≡ TooMany k → only (TooMany k) p ≡ checked none t l
+  unfolding checked answered
+  answers-many e = rw (e, here) refl
 
 told-is : {l : List Numbered} {c : Sofar} → Gathered l c → toldOf c ≡ foretold l
 unfolding foretold toldOf depth machine
@@ -214,6 +216,7 @@ told-is {l} {c} g =
     λ i.
     record {
       verdict = Passes;
+      span = noSpan;
       run = run-is i;
       depths = depths-is i;
       deepest = g .deepest-is i;
@@ -223,13 +226,13 @@ told-is {l} {c} g =
     }
 
 pub told-so : (c : Sofar) {places : List Place} → places ≡ cond (not (c .adapts)) (c .traced .tuple) (replicate 4 noPlace)
-    → record { verdict = Passes; run = c .run; depths = c .depths; deepest = c .deepest; left = 64 - c .traced .top; told = not (c .adapts); places = places } ≡ toldOf c
+    → record { verdict = Passes; span = noSpan; run = c .run; depths = c .depths; deepest = c .deepest; left = 64 - c .traced .top; told = not (c .adapts); places = places } ≡ toldOf c
 unfolding toldOf depth
 told-so c e =
     λ i.
-    record { verdict = Passes; run = c .run; depths = c .depths; deepest = c .deepest; left = 64 - c .traced .top; told = not (c .adapts); places = e i }
+    record { verdict = Passes; span = noSpan; run = c .run; depths = c .depths; deepest = c .deepest; left = 64 - c .traced .top; told = not (c .adapts); places = e i }
 
-pub answers-told : {d : Direction} {l : List Step} {k : ℕ} {c : Sofar} → Checking d l k c → length l ≤ k → toldOf c ≡ checked none (running d l)
+pub answers-told : {d : Direction} {l : List Step} {k : ℕ} {c : Sofar} → Checking d l k c → length l ≤ k → toldOf c ≡ checked none l (running d l)
 unfolding checked answered verdict
 answers-told {d} {l} {k} {c} ch h =
     let nothing = left-none d l k h in
@@ -248,7 +251,7 @@ ready-so {a} {d} {t} {n} does w j =
 
 -- ---- refusal 18, and the whole
 
-pub checks-refused : {d : Direction} {l : List Step} {k : ℕ} {b : Bad} {r : Foretold} → b ≡ badOf (refusal18 l) → b ≡ At k → r ≡ only (Refused 18 k) → Checks d l r
+pub checks-refused : {d : Direction} {l : List Step} {k : ℕ} {b : Bad} {r : Foretold} → b ≡ badOf (refusal18 l) → b ≡ At k → r ≡ only (Refused 18 k) noSpan → Checks d l r
 unfolding check checked badOf
 checks-refused {d} {l} {k} {b} {r} e f g = record { exactly = g ∙ rw (bad-at (refusal18 l) (sym e ∙ f)) refl }
   where
@@ -264,6 +267,6 @@ nowhere-bad l e f = bad-none (refusal18 l) (sym e ∙ f)
     bad-none none e = refl
     bad-none (some j) e = absurd (never (cc e))
 
-pub checks-so : {d : Direction} {l : List Step} {r : Foretold} → refusal18 l ≡ none → r ≡ checked none (running d l) → Checks d l r
+pub checks-so : {d : Direction} {l : List Step} {r : Foretold} → refusal18 l ≡ none → r ≡ checked none l (running d l) → Checks d l r
 unfolding check
 checks-so {d} {l} e g = record { exactly = g ∙ rw e refl }

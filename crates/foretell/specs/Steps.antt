@@ -5,6 +5,7 @@ use mathlib.Core.Bool.{Bool, false, cond, not, _||_}
 use mathlib.Core.List.{List}
 use lib.ListN.{set, replicate}
 use Rattle.rules.specs.Operators.Acts.{Act}
+use Rattle.rules.specs.Pipeline.Record.{noSpan}
 use Rattle.rules.specs.Pipeline.Check.{adapting, noPlace, four, plus}
 use Rattle.columns.specs.declared.traced.Traced.{Traced}
 use Rattle.columns.specs.Traces.{depth, Moved}
@@ -50,6 +51,7 @@ unfoldable pub toldOf : Sofar → Foretold
 toldOf c =
     record {
       verdict = Passes;
+      span = noSpan;
       run = c .run;
       depths = c .depths;
       deepest = c .deepest;

@@ -14,6 +14,7 @@ use record::visited_of;
 use rules::Direction;
 use rules::Foretold;
 use rules::Place;
+use rules::Span;
 use rules::Table;
 use rules::Verdict;
 ghost use mathlib.Core.Path.{_≡_};
@@ -55,15 +56,16 @@ fn place(axis: u8) -> Place
     }
 }
 
-// An answer that tells no more than its verdict.
-fn only(verdict: Verdict) -> Foretold
-    ensures { λ r. ⌜ r ≡ only verdict ⌝ }
+// An answer that tells no more than its verdict, and a span.
+fn only(verdict: Verdict, span: Span) -> Foretold
+    ensures { λ r. ⌜ r ≡ only verdict span ⌝ }
 {
     let none = place(0);
     let depths = [0; 64];
     let places = [none; 4];
     Foretold {
         verdict: verdict,
+        span: span,
         run: 0,
         depths: depths,
         deepest: 0,
@@ -102,10 +104,10 @@ fn told_places(tuple: [Place; 4], adapts: bool) -> [Place; 4]
     tuple
 }
 
-// The check of records that preparations make.
+// The check of records that preparations make. A step at fault is named with its span.
 fn checked(table: Table, direction: Direction) -> Foretold
     requires { ⌜ refusal18 (listed table) ≡ none ⌝ }
-    ensures { λ r. ⌜ r ≡ checked none (running direction (listed table)) ⌝ }
+    ensures { λ r. ⌜ r ≡ checked none (listed table) (running direction (listed table)) ⌝ }
 {
     let n = table.n;
     let mut t = begun();
@@ -117,16 +119,17 @@ fn checked(table: Table, direction: Direction) -> Foretold
     while k < n {
         let i = visited_of(direction, k, n);
         let s = table.steps[i];
+        let span = s.span;
         k += 1;
         if !is_omitted(s, direction) {
             let d = act_of(s, direction);
             let judged = judge(d, 64 - t.top);
             match judged {
                 Judged::Few => {
-                    return only(Verdict::TooFew(i + 1));
+                    return only(Verdict::TooFew(i + 1), span);
                 }
                 Judged::Many => {
-                    return only(Verdict::TooMany(i + 1));
+                    return only(Verdict::TooMany(i + 1), span);
                 }
                 Judged::Goes(after) => {
                     t = step(t, d);
@@ -142,6 +145,7 @@ fn checked(table: Table, direction: Direction) -> Foretold
     let places = told_places(tuple, adapts);
     Foretold {
         verdict: Verdict::Passes,
+        span: Span { from: 0, length: 0 },
         run: run,
         depths: depths,
         deepest: deepest,
@@ -156,10 +160,13 @@ pub fn check(table: Table, direction: Direction) -> Foretold
     ensures { λ r. ⌜ Checks direction (listed table) r ⌝ }
 {
     match refusal18(table) {
-        Bad::At(place) => only(Verdict::Refused {
-            number: 18,
-            place: place,
-        }),
+        Bad::At(place) => only(
+            Verdict::Refused {
+                number: 18,
+                place: place,
+            },
+            Span { from: 0, length: 0 },
+        ),
         Bad::Nowhere => checked(table, direction),
     }
 }

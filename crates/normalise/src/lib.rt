@@ -1,11 +1,13 @@
 // Reading text: the call that answers a text's normal form, and the passes for the other calls. The Rust is `normalize` of
 // src/token/mod.rs.
 mod comments;
+mod defined;
 mod normal;
 
 pub use comments::clean_into;
 pub use comments::lines_into;
 pub use comments::newlines_into;
+pub use defined::definition;
 pub use normal::normal_of;
 use rules::Written;
 use text::first_refusal;

@@ -9,6 +9,7 @@ use columns::zero_rest;
 use pushpop::pop;
 use pushpop::push;
 use record::act_of;
+use record::end_of;
 use record::good_in;
 use record::is_omitted;
 use record::visited_of;
@@ -135,19 +136,21 @@ pub fn run(table: Table, direction: Direction, tuples: &mut [f64], columns: &mut
             place: 0,
         };
     }
-    // 18: the first record that no preparation makes, or whose reading is not the first's
+    // 18: the first record that no preparation makes, whose reading is not the first's, or whose span is not one behind the last
     let first = steps[0];
     let reading = first.reading;
+    let mut end = 0;
     let mut i = 0;
     while i < n {
         let s = steps[i];
         i += 1;
-        if !good_in(s, reading) {
+        if !good_in(s, reading, end) {
             return Ran::Refused {
                 number: 18,
                 place: i,
             };
         }
+        end = end_of(s);
     }
     if is_bad_list(tuples) {
         return Ran::Refused {

@@ -12,6 +12,7 @@ pub mod PointDecimal
 pub mod InReading
 pub mod Promise
 pub mod Recorded
+pub mod Replies
 pub mod SeriesPieces
 pub mod StepByStep
 pub mod StepText

@@ -12,7 +12,8 @@ use Rattle.rules.specs.Text.Refusal.{refuses, tested}
 use Rattle.rules.specs.Text.Normal.{normal}
 use Rattle.rules.specs.Text.Comments.{stripped}
 use Rattle.rules.specs.Text.Split.{steps}
-use Rattle.rules.specs.Pipeline.Prepare.{prepareIn}
+use Rattle.rules.specs.Text.Reader.{definition, spans}
+use Rattle.rules.specs.Pipeline.Prepare.{prepareSplit, prepareIn}
 use Rattle.rules.specs.declared.Mode.{Mode}
 use Rattle.rules.specs.declared.Table.{Table}
 use Rattle.laws_text.specs.Entry.{RefusedFirst, firstRefusal}
@@ -20,13 +21,13 @@ use Rattle.laws_text.specs.Sizes.{steps-length}
 use Rattle.text.specs.Wrote.{Holds}
 use Rattle.text.proofs.Wrote.{wrote-front}
 use Rattle.prepare.specs.StepReply.{Bare, Roomy}
-use Rattle.prepare.specs.Lent.{lentTo, preparing, normalReply, refusing}
+use Rattle.prepare.specs.Lent.{lentTo, preparing, withTheirs, normalReply, refusing}
 use Rattle.prepare.specs.declared.Preparing.{Preparing}
 use Rattle.prepare.proofs.LentTable.{lent-refused}
 use Rattle.prepare.proofs.StepWeight.{normal-bare, roomy-for}
 
 is-prepare : (mode : Mode) (t : Bytes) → prepareIn mode t ≡ normalReply mode (normal (stripped t))
-unfolding prepareIn steps normalReply
+unfolding prepareIn prepareSplit steps spans definition normalReply withTheirs
 is-prepare mode t = refl
 
 module _ (text : Bytes) (t : Table) where
@@ -50,6 +51,10 @@ module _ (text : Bytes) (t : Table) where
 
     normal-short : length (take n a) ≤ 10 * length text
     normal-short = rw (wrote-front w) (steps-length text)
+
+    -- no span of it passes byte 40,960
+    pub normal-most : length text ≤ 4096 → length (take n a) ≤ 40960
+    normal-most h = omega (arith, normal-short)
 
     pub normal-room : {x y : ℕ} → 10 * length text < x → y ≡ x → length (take n a) < y
     normal-room h e = omega (arith, normal-short)

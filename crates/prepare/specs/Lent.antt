@@ -5,14 +5,16 @@ use mathlib.Core.List.{List, _++_, map}
 use lib.ListN.{take, drop}
 use lib.Dec.{eqb, ltb}
 use Rattle.rules.specs.Text.Bytes.{Bytes}
-use Rattle.rules.specs.Text.Refusal.{Reply, andThen, tested, lent, prepared}
+use Rattle.rules.specs.Text.Refusal.{Reply, answers, andThen, tested, lent, prepared}
 use Rattle.rules.specs.Text.Split.{stepsOf, splitSteps, stepText}
-use Rattle.rules.specs.Pipeline.Record.{inReading}
+use Rattle.rules.specs.Text.Reader.{spansOf}
+use Rattle.rules.specs.Pipeline.Record.{inReading, withSpans}
 use Rattle.rules.specs.Pipeline.Prepare.{prepareSteps, prepareIn, prepareAs}
 use Rattle.rules.specs.declared.Mode.{Mode}
 use Rattle.rules.specs.declared.Prepared.{Prepared}
 use Rattle.rules.specs.declared.Prepared.the-variants as prepared-is
 use Rattle.rules.specs.declared.Reading.{Reading}
+use Rattle.rules.specs.declared.Span.{Span}
 use Rattle.rules.specs.declared.Step.{Step}
 use Rattle.rules.specs.declared.Table.{Table}
 use Rattle.prepare.specs.declared.Preparing.{Preparing}
@@ -52,12 +54,16 @@ answerNamed r (prepared-is.Refused number place offset) t = record { answer = pr
 
 -- ---- a normalised text
 
+-- a reply whose records get these spans
+unfoldable pub withTheirs : List Span → Reply (List Step) → Reply (List Step)
+withTheirs ps reply = andThen reply (λ l. answers (withSpans ps l))
+
 -- of the texts of its steps, and of the whole, which is split first
 unfoldable pub stepsReply : Mode → Bytes → Reply (List Step)
-stepsReply mode normalised = prepareSteps mode 1 (map stepText (stepsOf normalised))
+stepsReply mode normalised = withTheirs (spansOf normalised) (prepareSteps mode 1 (map stepText (stepsOf normalised)))
 
 unfoldable pub normalReply : Mode → Bytes → Reply (List Step)
-normalReply mode normalised = andThen (splitSteps (stepsOf normalised)) (prepareSteps mode 1)
+normalReply mode normalised = withTheirs (spansOf normalised) (andThen (splitSteps (stepsOf normalised)) (prepareSteps mode 1))
 
 -- ---- as the code has them
 

@@ -11,6 +11,7 @@ use crate::judge::prepare_step;
 use normalise::clean_into;
 use reader::next_from;
 use record::in_reading;
+use record::spanned;
 use rules::Found;
 use rules::Mode;
 use rules::Prepared;
@@ -96,7 +97,8 @@ fn answer_of(
 }
 
 // Prepares all steps of a normalised text in one walk over it. "Preparing splits first": a step that is modifiers alone is refused 6 at once. The
-// first refusal of a step is kept until the end is reached, since 6 and 8 come before it. a, b and c are room to work in.
+// first refusal of a step is kept until the end is reached, since 6 and 8 come before it. Where a step is found is its record's span. a, b and c are
+// room to work in.
 fn prepare_steps(
     normal: &[u8],
     mode: Mode,
@@ -106,6 +108,7 @@ fn prepare_steps(
     c: &mut [u8],
 ) -> Preparing
     requires { ⌜ Bare (now normal) ⌝ }
+    requires { ⌜ length (now normal) ≤ 40960 ⌝ }
     requires { ⌜ length (table .steps) ≡ 64 ⌝ }
     requires { ⌜ Roomy (length (now normal)) (length (now a)) (length (now b)) ⌝ }
     requires { ⌜ length (now normal) < length (now c) ⌝ }
@@ -135,9 +138,10 @@ fn prepare_steps(
         if 64 < n {
             continue;
         }
-        let judged = prepare_step(&c[..end - 1], mode, a, b);
+        let length = end - 1;
+        let judged = prepare_step(&c[..length], mode, a, b);
         let step = judged.step;
-        steps[i] = step;
+        steps[i] = spanned(step, from, to);
         number = judged.number;
         place = n;
         fault = judged.at;

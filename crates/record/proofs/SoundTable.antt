@@ -9,7 +9,7 @@ use borrow.Author.Tests.{ltb-false}
 use lib.Dec.{ltb}
 use lib.ListN.{length, getD, take}
 use lib.Seq.{length-take-le, getD-take}
-use Rattle.rules.specs.Pipeline.Record.{made, tableReading, goodIn, firstBad, refusal18, listed}
+use Rattle.rules.specs.Pipeline.Record.{spanEnd, made, tableReading, goodIn, firstBad, refusal18, listed}
 use Rattle.rules.specs.declared.Step.{Step}
 use Rattle.rules.specs.declared.Table.{Table}
 use Rattle.rules.specs.declared.Direction.{Direction}
@@ -18,13 +18,13 @@ use Rattle.record.specs.Visits.{visited}
 use Rattle.record.proofs.Refused18.{listed-few, listed-length, bad-few}
 
 module _ (reading : ℕ) where
-  none-bad : (k : ℕ) (l : List Step) (i : ℕ) (z : Step) → firstBad reading k l ≡ none → i < length l → made (getD l i z) ≡ true
+  none-bad : (end k : ℕ) (l : List Step) (i : ℕ) (z : Step) → firstBad reading end k l ≡ none → i < length l → made (getD l i z) ≡ true
   unfolding firstBad goodIn
-  none-bad k [] i z e h = absurd (omega (arith, h))
-  none-bad k (s ∷ l) i z e h = go (goodIn reading s) refl i h e (λ j g f. none-bad (suc k) l j z g f)
+  none-bad end k [] i z e h = absurd (omega (arith, h))
+  none-bad end k (s ∷ l) i z e h = go (goodIn reading end s) refl i h e (λ j g f. none-bad (spanEnd (s .span)) (suc k) l j z g f)
     where
-      go : (b : Bool) → goodIn reading s ≡ b → (i : ℕ) → i < length (s ∷ l) → cond b (firstBad reading (suc k) l) (some k) ≡ none
-          → ((j : ℕ) → firstBad reading (suc k) l ≡ none → j < length l → made (getD l j z) ≡ true) → made (getD (s ∷ l) i z) ≡ true
+      go : (b : Bool) → goodIn reading end s ≡ b → (i : ℕ) → i < length (s ∷ l) → cond b (firstBad reading (spanEnd (s .span)) (suc k) l) (some k) ≡ none
+          → ((j : ℕ) → firstBad reading (spanEnd (s .span)) (suc k) l ≡ none → j < length l → made (getD l j z) ≡ true) → made (getD (s ∷ l) i z) ≡ true
       go true p zero h e f = and-left (made s) _ p
       go true p (suc i) h e f = f i e (omega (arith, h))
       go false p i h e f = absurd (never (cc e))
@@ -45,10 +45,10 @@ sound-so t full e =
       rows = listed-few t few;
       many = many;
       each = λ i z h.
-          sym (ap made (getD-take (t .n) (t .steps) i z h)) ∙ none-bad _ 1 (take (t .n) (t .steps)) i z (sym (bad-few t z full few) ∙ e) (omega (arith, h, many));
+          sym (ap made (getD-take (t .n) (t .steps) i z h)) ∙ none-bad _ 0 1 (take (t .n) (t .steps)) i z (sym (bad-few t z full few) ∙ e) (omega (arith, h, many));
     }
   where
-    short : (b : Bool) → ltb 64 (length (listed t)) ≡ b → cond b (some 0) (firstBad (tableReading (listed t)) 1 (listed t)) ≡ none → ltb 64 (length (listed t)) ≡ false
+    short : (b : Bool) → ltb 64 (length (listed t)) ≡ b → cond b (some 0) (firstBad (tableReading (listed t)) 0 1 (listed t)) ≡ none → ltb 64 (length (listed t)) ≡ false
     short true p e = absurd (never (cc e))
     short false p e = p
 

@@ -1,14 +1,15 @@
-// The one place where a step record is made, and where it is named for its reading.
+// The one place where a step record is made, where it is named for its reading, and where it is told where its text stands.
 use rules::CRATE;
 use rules::PROJ;
 use rules::PUSH;
 use rules::Reading;
+use rules::Span;
 use rules::Step;
 ghost use mathlib.Core.Path.{_≡_};
 ghost use Prim.Native.Nat.{_-_, _≤_};
 ghost use lib.IntN.{pos};
 ghost use lib.ListN.{take, drop, replicate};
-ghost use Rattle.rules.specs.Pipeline.Record.{readingNumber, stepWith, inReading, blank};
+ghost use Rattle.rules.specs.Pipeline.Record.{readingNumber, stepWith, inReading, spanned, blank};
 ghost use Rattle.record.specs.Records.{markOf};
 
 // A mark of a record.
@@ -21,7 +22,7 @@ fn mark(set: bool) -> u8
     0
 }
 
-// The operator by its number, the first n of eight slots as its arguments, and the marks; in the crate's reading.
+// The operator by its number, the first n of eight slots as its arguments, and the marks; in the crate's reading, and with no span.
 pub fn step_of(
     operator: u8,
     args: [i32; 8],
@@ -42,6 +43,7 @@ pub fn step_of(
         omit_inv: mark(omit_inv),
         reading: CRATE,
         args: args,
+        span: Span { from: 0, length: 0 },
     }
 }
 
@@ -60,6 +62,7 @@ pub fn in_reading(s: Step, reading: Reading) -> Step
     ensures { λ r. ⌜ r ≡ inReading reading s ⌝ }
 {
     let args = s.args;
+    let span = s.span;
     Step {
         operator: s.operator,
         n: s.n,
@@ -68,6 +71,29 @@ pub fn in_reading(s: Step, reading: Reading) -> Step
         omit_inv: s.omit_inv,
         reading: number_of(reading),
         args: args,
+        span: span,
+    }
+}
+
+// The same record with a span, from its first byte up to the byte after its last.
+pub fn spanned(s: Step, from: usize, to: usize) -> Step
+    requires { ⌜ from ≤ to ⌝ }
+    requires { ⌜ to ≤ 40960 ⌝ }
+    ensures { λ r. ⌜ r ≡ spanned (record { from = from; length = to - from }) s ⌝ }
+{
+    let args = s.args;
+    Step {
+        operator: s.operator,
+        n: s.n,
+        inv: s.inv,
+        omit_fwd: s.omit_fwd,
+        omit_inv: s.omit_inv,
+        reading: s.reading,
+        args: args,
+        span: Span {
+            from: from as u32,
+            length: (to - from) as u32,
+        },
     }
 }
 
@@ -83,5 +109,6 @@ pub fn blank() -> Step
         omit_inv: 0,
         reading: CRATE,
         args: [0; 8],
+        span: Span { from: 0, length: 0 },
     }
 }

@@ -8,7 +8,7 @@ use rules::Table;
 ghost use mathlib.Core.Path.{_≡_};
 ghost use Prim.Native.Nat.{_≤_};
 ghost use lib.ListN.{length, take, drop};
-ghost use Rattle.rules.specs.Pipeline.Record.{made, goodIn, refusal18, listed};
+ghost use Rattle.rules.specs.Pipeline.Record.{spanEnd, made, goodSpan, goodIn, refusal18, listed};
 ghost use Rattle.record.specs.Records.{isMarked, isWritten, badOf};
 
 // Are the marks of a record and the number of its reading 0 or 1?
@@ -60,14 +60,41 @@ fn is_written(operator: u8, l: &[i32], n: usize) -> bool
     is_args(operator, &l[..n])
 }
 
-// 18 of a table of that reading: is it a record that a preparation in that reading makes?
-pub fn good_in(s: Step, reading: u8) -> bool
-    ensures { λ r. ⌜ r ≡ goodIn reading s ⌝ }
+// The byte that no span passes.
+const MOST: usize = 40960;
+
+// The byte after the last of a record's span.
+pub fn end_of(s: Step) -> usize
+    ensures { λ r. ⌜ r ≡ spanEnd (s .span) ⌝ }
+{
+    s.span.from as usize + s.span.length as usize
+}
+
+// 18 of a span behind one that ends there: is it not empty, ends it by byte 40,960, and begins it no earlier?
+fn is_behind(s: Step, end: usize) -> bool
+    ensures { λ r. ⌜ r ≡ goodSpan end (s .span) ⌝ }
+{
+    if s.span.length == 0 {
+        return false;
+    }
+    if MOST < end_of(s) {
+        return false;
+    }
+    end <= s.span.from as usize
+}
+
+// 18 of a table of that reading, behind a record whose span ends there: is it a record that a preparation in that reading makes, with
+// a span for that place?
+pub fn good_in(s: Step, reading: u8, end: usize) -> bool
+    ensures { λ r. ⌜ r ≡ goodIn reading end s ⌝ }
 {
     if !made(s) {
         return false;
     }
-    s.reading == reading
+    if s.reading != reading {
+        return false;
+    }
+    is_behind(s, end)
 }
 
 // The place of refusal 18.
@@ -76,7 +103,8 @@ pub enum Bad {
     Nowhere,
 }
 
-// 18: the first record that no preparation makes, or whose reading is not the first's; 0 for over 64 records.
+// 18: the first record that no preparation makes, whose reading is not the first's, or whose span is empty, too far or not behind the last
+// one's; 0 for over 64 records.
 pub fn refusal18(table: Table) -> Bad
     ensures { λ r. ⌜ r ≡ badOf (refusal18 (listed table)) ⌝ }
 {
@@ -86,13 +114,15 @@ pub fn refusal18(table: Table) -> Bad
     }
     let first = table.steps[0];
     let reading = first.reading;
+    let mut end = 0;
     let mut i = 0;
     while i < n {
         let s = table.steps[i];
         i += 1;
-        if !good_in(s, reading) {
+        if !good_in(s, reading, end) {
             return Bad::At(i);
         }
+        end = end_of(s);
     }
     Bad::Nowhere
 }

@@ -45,7 +45,7 @@ module _ {M : Type 1} (𝓤 : URA M) (H : Heap 𝓤) (A : Atoms 𝓤) where
 
 -- the bytes of a record
 abbrev pub record-size : ℕ
-record-size = 40
+record-size = 48
 
 pub fits : (i n : ℕ) → i < n → Room R n → i * record-size < 2 ^ 64
 fits i n less room = lt-trans (lt-of-le-of-lt (mul-le-mul-right record-size (le-of-lt less)) (room .1)) (lit< tt)

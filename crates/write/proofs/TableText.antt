@@ -13,7 +13,6 @@ use Rattle.rules.specs.Text.Ascii.{ascii}
 use Rattle.rules.specs.Text.Bytes.{Bytes, afterEach, joinedBy, joined}
 use Rattle.rules.specs.Text.Refusal.{Reply, answers, Lends}
 use Rattle.rules.specs.Pipeline.Record.{operator, args, made, tableReading, goodIn, firstBad, refusal18, listed}
-use store.Seg.{eqb-same}
 use Rattle.rules.specs.declared.Step.{Step}
 use Rattle.rules.specs.declared.Table.{Table}
 use Rattle.rules.specs.declared.Written.{Written}
@@ -26,11 +25,11 @@ use Rattle.record.specs.declared.tests.Bad.{Bad}
 use Rattle.record.specs.declared.tests.Bad.the-variants.{At, Nowhere}
 use Rattle.record.proofs.SoundTable.{Sound}
 use Rattle.rules.specs.Pipeline.Write.{operatorWords, writing, tableWriting, writtenUnless18, write}
-use Rattle.laws_lists.specs.Tests.{never}
+use Rattle.laws_lists.specs.Tests.{and-left, never}
 use Rattle.laws_records.specs.Records.{made-keeps}
 use Rattle.laws_records.specs.Written.{writing-short}
 use Rattle.laws_records.specs.Faithful.{table-short}
-use Rattle.laws_records.specs.ReadBack.{not-18}
+use Rattle.laws_records.specs.Accepted.{not-18}
 use Rattle.numbers.specs.Parts.{Room, rest}
 use Rattle.write.specs.Parts.{markText, parted}
 use Rattle.numbers.proofs.InTurn.{room-as, as-written, first-room, then-room, both-written}
@@ -144,19 +143,22 @@ module _ {text own : Bytes} {n : ℕ} {last : Bytes} (w : WroteAt text own 0 n l
 
 -- one record
 module _ (s : Step) where
-  -- in its own reading
-  bad-one : (b : Bool) → made s ≡ b → firstBad (tableReading (s ∷ [])) 1 (s ∷ []) ≡ cond b none (some 1)
-  unfolding firstBad tableReading goodIn
-  bad-one true e = rw (e, eqb-same (s .reading)) refl
-  bad-one false e = rw e refl
+  -- in its own reading, behind no other
+  bad-one : (b : Bool) → goodIn (s .reading) 0 s ≡ b → firstBad (tableReading (s ∷ [])) 0 1 (s ∷ []) ≡ cond b none (some 1)
+  unfolding firstBad tableReading
+  bad-one b e = rw e refl
 
-  pub one-bad : {out : Bytes} → made s ≡ false → Lends (write (s ∷ [])) out (variant.Refused 18 1) out
+  pub one-bad : {out : Bytes} → goodIn (s .reading) 0 s ≡ false → Lends (write (s ∷ [])) out (variant.Refused 18 1) out
   unfolding write writtenUnless18 refusal18
   one-bad h = lends-refusal (rw (bad-one false h))
 
-  pub one-good : made s ≡ true → write (s ∷ []) ≡ answers (writing s)
+  pub one-good : goodIn (s .reading) 0 s ≡ true → write (s ∷ []) ≡ answers (writing s)
   unfolding write writtenUnless18 refusal18
   one-good h = rw (bad-one true h) (unfold tableWriting joinedBy afterEach in ap answers (append-nil (writing s)))
+
+  pub good-made : goodIn (s .reading) 0 s ≡ true → made s ≡ true
+  unfolding goodIn
+  good-made h = and-left (made s) _ h
 
 -- a table
 bad-at : (o : Option ℕ) {k : ℕ} → badOf o ≡ At k → o ≡ some k
@@ -182,4 +184,4 @@ table-good l h = rw h
 
 -- it has room in 4,096 bytes
 pub table-fits : (l : List Step) (dst : Bytes) → refusal18 l ≡ none → length dst ≡ 4096 → Room (tableWriting l) 0 dst
-table-fits l dst h e = let k = not-18 l h in record { fits = omega (arith, table-short l (k .0) (k .1)) }
+table-fits l dst h e = let k = not-18 l .0 h in record { fits = omega (arith, table-short l (k .0) (k .1)) }

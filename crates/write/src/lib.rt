@@ -2,7 +2,7 @@
 mod words;
 
 use record::Bad;
-use record::made;
+use record::good_in;
 use record::refusal18;
 use rules::Step;
 use rules::Table;
@@ -52,12 +52,12 @@ fn steps(table: Table, out: &mut [u8], o: usize) -> usize
     e
 }
 
-// Writes the text of a record to the front of out: 18 at 1 for a record that no preparation makes, then 7 for a buffer that is too
-// short; and then out is as it was.
+// Writes the text of a record to the front of out: 18 at 1 for a record that no preparation makes or whose span is empty or too far, then
+// 7 for a buffer that is too short; and then out is as it was.
 pub fn write_step(s: Step, out: &mut [u8]) -> Written
     ensures { λ r. ⌜ Lends (write (s ∷ [])) (now (out .entry)) r (now (out .exit)) ⌝ }
 {
-    if !made(s) {
+    if !good_in(s, s.reading, 0) {
         return Written::Refused {
             number: 18,
             place: 1,

@@ -1,5 +1,5 @@
 -- `checked`: the steps so far, k of them, have come to what the rules say, and none of them was at fault (`Checking`). A step that is
--- omitted adds nothing; one that finds too few columns or leaves too many is the first at fault, so its verdict is the whole one's; any
+-- omitted adds nothing; one that finds too few columns or leaves too many is the first at fault, so its verdict and span are the whole one's; any
 -- other is taken on places. What is left of n is the measure.
 use Prim.Native.Nat.{_-_}
 use mathlib.Core.Path.{refl, sym, ap, _∙_}
@@ -15,6 +15,7 @@ use Rattle.laws_lists.specs.Tests.{not-so, not-left}
 use Rattle.record.proofs.SoundTable.{Sound, sound-so, turn-so}
 use Rattle.foretell.specs.Steps.{sofar}
 use Rattle.foretell.proofs.CheckSoFar.{Checking, begun, checking-none, checking-few, checking-many, checking-goes, checking-omitted, answers-few, answers-many, told-so, answers-told, ready-so}
+use Rattle.foretell.proofs.SpanNamed.{span-named}
 use borrow.Author.Needs.{fits-under, needs}
 use Rattle.foretell.proofs.checked.Statement.{statement}
 use Rattle.foretell.proofs.checked.Tie as tie
@@ -58,15 +59,15 @@ is-omitted-requires c κs = search needs
 
 act-of-requires : tie.Need-act-of-requires Inv-loop μ-loop
 act-of-requires c κs =
-    let s = c .before .before .before .before .before .before .before in
-    let more = c .before .before .before .before .loop-test .taken in
-    let visited-of = c .before .before .before .visited-of .ensures in
+    let s = c .before .before .before .before .before .before .before .before in
+    let more = c .before .before .before .before .before .loop-test .taken in
+    let visited-of = c .before .before .before .before .visited-of .ensures in
     let snd = sound s in
     let u = turn-so _ snd more (visited-of .0) (visited-of .1) in
     u .made-is
 
 sub-judge : tie.Need-sub-judge Inv-loop μ-loop
-sub-judge c = c .before .before .before .before .before .before .before .loop .inv .gathered .whole .within
+sub-judge c = c .before .before .before .before .before .before .before .before .loop .inv .gathered .whole .within
 
 judge-requires : tie.Need-judge-requires Inv-loop μ-loop
 judge-requires c κs = search needs
@@ -74,18 +75,18 @@ judge-requires c κs = search needs
 enum-told : tie.Need-enum-told Inv-loop μ-loop
 enum-told c = search needs
 
-add-t25 : tie.Need-add-t25 Inv-loop μ-loop
-add-t25 c = search needs
+add-t26 : tie.Need-add-t26 Inv-loop μ-loop
+add-t26 c = search needs
 
 only-requires : tie.Need-only-requires Inv-loop μ-loop
 only-requires c κs = search needs
 
 returns : tie.Need-returns Inv-loop μ-loop
 returns c =
-    let s = c .before .before .before .before .before .before .before .before .before .before .before .before .before in
-    let loop = c .before .before .before .before .before .before .before .before .before .before .before .loop in
-    let more = c .before .before .before .before .before .before .before .before .before .before .loop-test .taken in
-    let visited-of = c .before .before .before .before .before .before .before .before .before .visited-of .ensures in
+    let s = c .before .before .before .before .before .before .before .before .before .before .before .before .before .before in
+    let loop = c .before .before .before .before .before .before .before .before .before .before .before .before .loop in
+    let more = c .before .before .before .before .before .before .before .before .before .before .before .loop-test .taken in
+    let visited-of = c .before .before .before .before .before .before .before .before .before .before .visited-of .ensures in
     let is-omitted = c .before .before .before .before .before .before .before .is-omitted .ensures in
     let taken = c .before .before .before .before .before .before .if1 .taken in
     let act-of = c .before .before .before .before .before .act-of .ensures in
@@ -93,25 +94,25 @@ returns c =
     let snd = sound s in
     let u = turn-so _ snd more (visited-of .0) (visited-of .1) in
     c .only .ensures
-    ∙ answers-few _ _ (ap (λ (l : List Step). verdict (running (s .args .direction) l) begin) (snd .rows)
+    ∙ answers-few _ _ _ _ (span-named _ snd (visited-of .1)) (ap (λ (l : List Step). verdict (running (s .args .direction) l) begin) (snd .rows)
     ∙ checking-few (loop .inv) (u .within) _ _ _ (u .at) (u .is) (sym is-omitted ∙ not-so taken) _ (act-of .same)
     (sym judge ∙ c .before .enum-told .given .1))
 
 enum-told-2 : tie.Need-enum-told-2 Inv-loop μ-loop
 enum-told-2 c = search needs
 
-add-t27 : tie.Need-add-t27 Inv-loop μ-loop
-add-t27 c = search needs
+add-t28 : tie.Need-add-t28 Inv-loop μ-loop
+add-t28 c = search needs
 
 only-requires-2 : tie.Need-only-requires-2 Inv-loop μ-loop
 only-requires-2 c κs = search needs
 
 returns-2 : tie.Need-returns-2 Inv-loop μ-loop
 returns-2 c =
-    let s = c .before .before .before .before .before .before .before .before .before .before .before .before .before in
-    let loop = c .before .before .before .before .before .before .before .before .before .before .before .loop in
-    let more = c .before .before .before .before .before .before .before .before .before .before .loop-test .taken in
-    let visited-of = c .before .before .before .before .before .before .before .before .before .visited-of .ensures in
+    let s = c .before .before .before .before .before .before .before .before .before .before .before .before .before .before in
+    let loop = c .before .before .before .before .before .before .before .before .before .before .before .before .loop in
+    let more = c .before .before .before .before .before .before .before .before .before .before .before .loop-test .taken in
+    let visited-of = c .before .before .before .before .before .before .before .before .before .before .visited-of .ensures in
     let is-omitted = c .before .before .before .before .before .before .before .is-omitted .ensures in
     let taken = c .before .before .before .before .before .before .if1 .taken in
     let act-of = c .before .before .before .before .before .act-of .ensures in
@@ -119,7 +120,7 @@ returns-2 c =
     let snd = sound s in
     let u = turn-so _ snd more (visited-of .0) (visited-of .1) in
     c .only2 .ensures
-    ∙ answers-many _ _ (ap (λ (l : List Step). verdict (running (s .args .direction) l) begin) (snd .rows)
+    ∙ answers-many _ _ _ _ (span-named _ snd (visited-of .1)) (ap (λ (l : List Step). verdict (running (s .args .direction) l) begin) (snd .rows)
     ∙ checking-many (loop .inv) (u .within) _ _ _ (u .at) (u .is) (sym is-omitted ∙ not-so taken) _ (act-of .same)
     (sym judge ∙ c .before .enum-told2 .given .1))
 
@@ -128,32 +129,32 @@ enum-known-judged c = search needs
 
 step-requires : tie.Need-step-requires Inv-loop μ-loop
 step-requires c κs =
-    let loop = c .before .before .before .before .before .before .before .before .before .before .before .loop in
+    let loop = c .before .before .before .before .before .before .before .before .before .before .before .before .loop in
     let act-of = c .before .before .before .before .before .act-of .ensures in
     let judge = c .before .before .before .judge .ensures in
     (ready-so act-of (loop .inv .gathered .whole) (sym judge ∙ c .before .judged .given .1), act-of .slots)
 
 mul-depths : tie.Need-mul-depths Inv-loop μ-loop
 mul-depths c =
-    let s = c .before .before .before .before .before .before .before .before .before .before .before .before .before .before in
-    let loop = c .before .before .before .before .before .before .before .before .before .before .before .before .loop in
-    let more = c .before .before .before .before .before .before .before .before .before .before .before .loop-test .taken in
+    let s = c .before .before .before .before .before .before .before .before .before .before .before .before .before .before .before in
+    let loop = c .before .before .before .before .before .before .before .before .before .before .before .before .before .loop in
+    let more = c .before .before .before .before .before .before .before .before .before .before .before .before .loop-test .taken in
     let snd = sound s in
     fits-under _ _ 512 (omega (arith, loop .inv .gathered .run, loop .inv .behind, more, snd .few)) tt
 
 array-write-depths : tie.Need-array-write-depths Inv-loop μ-loop
 array-write-depths c =
-    let s = c .before .before .before .before .before .before .before .before .before .before .before .before .before .before in
-    let loop = c .before .before .before .before .before .before .before .before .before .before .before .before .loop in
-    let more = c .before .before .before .before .before .before .before .before .before .before .before .loop-test .taken in
+    let s = c .before .before .before .before .before .before .before .before .before .before .before .before .before .before .before in
+    let loop = c .before .before .before .before .before .before .before .before .before .before .before .before .before .loop in
+    let more = c .before .before .before .before .before .before .before .before .before .before .before .before .loop-test .taken in
     let snd = sound s in
     omega (arith, loop .inv .gathered .run, loop .inv .behind, more, snd .few)
 
 add-run : tie.Need-add-run Inv-loop μ-loop
 add-run c =
-    let s = c .before .before .before .before .before .before .before .before .before .before .before .before .before .before in
-    let loop = c .before .before .before .before .before .before .before .before .before .before .before .before .loop in
-    let more = c .before .before .before .before .before .before .before .before .before .before .before .loop-test .taken in
+    let s = c .before .before .before .before .before .before .before .before .before .before .before .before .before .before .before in
+    let loop = c .before .before .before .before .before .before .before .before .before .before .before .before .before .loop in
+    let more = c .before .before .before .before .before .before .before .before .before .before .before .before .loop-test .taken in
     let snd = sound s in
     fits-under _ _ 65 (omega (arith, loop .inv .gathered .run, loop .inv .behind, more, snd .few)) tt
 
@@ -171,10 +172,10 @@ loop-less c = search needs
 
 loop-again : tie.Need-loop-again Inv-loop μ-loop
 loop-again c =
-    let s = c .before .before .before .before .before .before .before .before .before .before .before .before .before .before .before .before .before in
-    let loop = c .before .before .before .before .before .before .before .before .before .before .before .before .before .before .before .loop in
-    let more = c .before .before .before .before .before .before .before .before .before .before .before .before .before .before .loop-test .taken in
-    let visited-of = c .before .before .before .before .before .before .before .before .before .before .before .before .before .visited-of .ensures in
+    let s = c .before .before .before .before .before .before .before .before .before .before .before .before .before .before .before .before .before .before in
+    let loop = c .before .before .before .before .before .before .before .before .before .before .before .before .before .before .before .before .loop in
+    let more = c .before .before .before .before .before .before .before .before .before .before .before .before .before .before .before .loop-test .taken in
+    let visited-of = c .before .before .before .before .before .before .before .before .before .before .before .before .before .before .visited-of .ensures in
     let is-omitted = c .before .before .before .before .before .before .before .before .before .before .before .is-omitted .ensures in
     let taken = c .before .before .before .before .before .before .before .before .before .before .if1 .taken in
     let act-of = c .before .before .before .before .before .before .before .before .before .act-of .ensures in
@@ -192,10 +193,10 @@ loop-less-2 c = search needs
 
 loop-again-2 : tie.Need-loop-again-2 Inv-loop μ-loop
 loop-again-2 c =
-    let s = c .before .before .before .before .before .before .before in
-    let loop = c .before .before .before .before .before .loop in
-    let more = c .before .before .before .before .loop-test .taken in
-    let visited-of = c .before .before .before .visited-of .ensures in
+    let s = c .before .before .before .before .before .before .before .before in
+    let loop = c .before .before .before .before .before .before .loop in
+    let more = c .before .before .before .before .before .loop-test .taken in
+    let visited-of = c .before .before .before .before .visited-of .ensures in
     let snd = sound s in
     let u = turn-so _ snd more (visited-of .0) (visited-of .1) in
     checking-omitted (loop .inv) (u .within) _ _ _ (u .at) (u .is) (sym (c .before .is-omitted .ensures) ∙ not-left (c .if1 .left))
@@ -203,8 +204,8 @@ loop-again-2 c =
 told-places-requires : tie.Need-told-places-requires Inv-loop μ-loop
 told-places-requires c κs = search needs
 
-sub-t35 : tie.Need-sub-t35 Inv-loop μ-loop
-sub-t35 c = c .before .before .before .before .loop .inv .gathered .whole .within
+sub-t37 : tie.Need-sub-t37 Inv-loop μ-loop
+sub-t37 c = c .before .before .before .before .loop .inv .gathered .whole .within
 
 returns-3 : tie.Need-returns-3 Inv-loop μ-loop
 returns-3 c =
@@ -213,7 +214,7 @@ returns-3 c =
     let done = c .before .before .before .loop-test .left in
     let snd = sound s in
     told-so (sofar (loop .t) (loop .run) (loop .depths) (loop .deepest) (loop .adapts)) (c .before .told-places .ensures)
-    ∙ answers-told (loop .inv) (omega (arith, done, snd .many)) ∙ ap (λ (l : List Step). checked none (running (s .args .direction) l)) (sym (snd .rows))
+    ∙ answers-told (loop .inv) (omega (arith, done, snd .many)) ∙ ap (λ (l : List Step). checked none l (running (s .args .direction) l)) (sym (snd .rows))
 
 pub checked-spec : {M : Type 1} → statement M
 checked-spec =
@@ -232,11 +233,11 @@ checked-spec =
     sub-judge
     judge-requires
     enum-told
-    add-t25
+    add-t26
     only-requires
     returns
     enum-told-2
-    add-t27
+    add-t28
     only-requires-2
     returns-2
     enum-known-judged
@@ -252,5 +253,5 @@ checked-spec =
     loop-less-2
     loop-again-2
     told-places-requires
-    sub-t35
+    sub-t37
     returns-3)

@@ -1,4 +1,4 @@
--- `only`: nothing but the verdict is told: the numbers are zero and every place is none, by computing.
+-- `only`: nothing but the verdict and the span is told: the numbers are zero and every place is none, by computing.
 use mathlib.Core.Path.{refl}
 use Rattle.rules.specs.Pipeline.Check.{only}
 use borrow.Author.Needs.{needs}

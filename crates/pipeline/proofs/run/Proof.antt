@@ -1,4 +1,4 @@
--- `run`: three passes over the table. The first looks for a record that no preparation in the first's reading makes (`Checked`); the second foretells the depths
+-- `run`: three passes over the table. The first looks for a bad record, by where the last one's span ends (`Checked`); the second foretells the depths
 -- by a run over no tuples (`Planning`); the third runs every step, and what it has done together with what is left is the written run
 -- (`Running`). Each goes i steps far, so what is left of n is the measure. Before and between them the refusals 18, 15, 16 and 17 are given
 -- in the order of the rules.
@@ -24,28 +24,28 @@ use Rattle.pipeline.proofs.run.Statement.{statement}
 use Rattle.pipeline.proofs.run.Tie as tie
 
 abbrev Inv-loop : tie.InvT-loop
-Inv-loop direction tuples columns n steps reading i₀ i = Checked reading (take n steps) i
+Inv-loop direction tuples columns n steps reading end₀ i₀ end i = Checked reading (take n steps) end i
 
 abbrev μ-loop : tie.MeasureT-loop
-μ-loop direction tuples columns n steps reading i₀ i = n - i
+μ-loop direction tuples columns n steps reading end₀ i₀ end i = n - i
 
 abbrev Inv-loop2 : tie.InvT-loop2
-Inv-loop2 direction tuples columns n steps reading i no-tuples₀ no-columns₀ depth₀ deepest₀ i₀ no-tuples no-columns depth deepest i' =
+Inv-loop2 direction tuples columns n steps reading end i no-tuples₀ no-columns₀ depth₀ deepest₀ i₀ no-tuples no-columns depth deepest i' =
     (refusal18 (listed (record { steps = steps; n = n })) ≡ none) × (badList tuples ≡ false) × Planning direction (take n steps) depth deepest i'
     × (length no-tuples ≡ 0) × (length no-columns ≡ 0)
 
 abbrev μ-loop2 : tie.MeasureT-loop2
-μ-loop2 direction tuples columns n steps reading i no-tuples₀ no-columns₀ depth₀ deepest₀ i₀ no-tuples no-columns depth deepest i' = n - i'
+μ-loop2 direction tuples columns n steps reading end i no-tuples₀ no-columns₀ depth₀ deepest₀ i₀ no-tuples no-columns depth deepest i' = n - i'
 
 abbrev Inv-loop3 : tie.InvT-loop3
-Inv-loop3 direction tuples₀ columns₀ n steps reading i depth deepest i' whole used count₀ left₀ i₀ tuples columns count left i'' =
+Inv-loop3 direction tuples₀ columns₀ n steps reading end i depth deepest i' whole used count₀ left₀ i₀ tuples columns count left i'' =
     (refusal18 (listed (record { steps = steps; n = n })) ≡ none) × (badList tuples₀ ≡ false)
     × (passesFrom (running direction (listed (record { steps = steps; n = n }))) 0 ≡ none)
     × (deepest ≡ deepestFrom (running direction (listed (record { steps = steps; n = n }))) 0)
     × Running direction (take n steps) deepest tuples₀ columns₀ tuples columns count left i''
 
 abbrev μ-loop3 : tie.MeasureT-loop3
-μ-loop3 direction tuples₀ columns₀ n steps reading i depth deepest i' whole used count₀ left₀ i₀ tuples columns count left i'' = n - i''
+μ-loop3 direction tuples₀ columns₀ n steps reading end i depth deepest i' whole used count₀ left₀ i₀ tuples columns count left i'' = n - i''
 
 -- the table holds 64 records
 full : (s : tie.Start Inv-loop μ-loop Inv-loop2 μ-loop2 Inv-loop3 μ-loop3) → length (s .args .table .steps) ≡ 64
@@ -86,20 +86,25 @@ returns-2 c =
     let more = c .before .before .before .loop-test .taken in
     let a = s .args in
     let t = a .table in
-    refuses-18 (a .direction) (listed t) (a .tuples .now) (a .columns .now) _ (check-bad t (full s) left _ (loop .i) _ (loop .inv) more (sym (c .before .good-in .ensures) ∙ not-so (c .if2 .taken)))
+    let bad = sym (c .before .good-in .ensures) ∙ not-so (c .if2 .taken) in
+    refuses-18 (a .direction) (listed t) (a .tuples .now) (a .columns .now) _ (check-bad t (full s) left _ (loop .end) (loop .i) _ (loop .inv) more bad)
 
 loop-less : tie.Need-loop-less Inv-loop μ-loop Inv-loop2 μ-loop2 Inv-loop3 μ-loop3
 loop-less c = search needs
 
+end-of-requires : tie.Need-end-of-requires Inv-loop μ-loop Inv-loop2 μ-loop2 Inv-loop3 μ-loop3
+end-of-requires c κs = search needs
+
 loop-again : tie.Need-loop-again Inv-loop μ-loop Inv-loop2 μ-loop2 Inv-loop3 μ-loop3
 loop-again c =
-    let s = c .before .before .before .before .before .before .before .before .before .before in
-    let left = c .before .before .before .before .before .before .if1 .left in
-    let loop = c .before .before .before .before .loop in
-    let more = c .before .before .before .loop-test .taken in
+    let s = c .before .before .before .before .before .before .before .before .before .before .before in
+    let left = c .before .before .before .before .before .before .before .if1 .left in
+    let loop = c .before .before .before .before .before .loop in
+    let more = c .before .before .before .before .loop-test .taken in
     let a = s .args in
     let t = a .table in
-    check-turn t (full s) left _ (loop .i) _ (loop .inv) more (sym (c .before .good-in .ensures) ∙ not-left (c .if2 .left))
+    let good = sym (c .before .before .good-in .ensures) ∙ not-left (c .before .if2 .left) in
+    check-turn t (full s) left _ (loop .end) (loop .i) _ (loop .inv) more good (c .end-of .ensures)
 
 is-bad-list-requires : tie.Need-is-bad-list-requires Inv-loop μ-loop Inv-loop2 μ-loop2 Inv-loop3 μ-loop3
 is-bad-list-requires c κs = search needs
@@ -115,7 +120,7 @@ returns-3 c =
     let done = c .before .before .before .loop-test .left in
     let a = s .args in
     let t = a .table in
-    past-18 (a .direction) (listed t) (a .tuples .now) (a .columns .now) _ _ _ (check-end t (full s) left _ (loop .i) (loop .inv) done)
+    past-18 (a .direction) (listed t) (a .tuples .now) (a .columns .now) _ _ _ (check-end t (full s) left _ (loop .end) (loop .i) (loop .inv) done)
     (refuses-15 (running (a .direction) (listed t)) (a .tuples .now) (a .columns .now) (sym (c .before .is-bad-list .ensures) ∙ c .if3 .taken))
 
 loop2-holds : tie.Need-loop2-holds Inv-loop μ-loop Inv-loop2 μ-loop2 Inv-loop3 μ-loop3
@@ -126,7 +131,7 @@ loop2-holds c =
     let done = c .before .before .before .loop-test .left in
     let a = s .args in
     let t = a .table in
-    (check-end t (full s) left _ (loop .i) (loop .inv) done, sym (c .before .is-bad-list .ensures) ∙ c .if3 .left, plan-none (a .direction) (take (t .n) (t .steps)), refl, refl)
+    (check-end t (full s) left _ (loop .end) (loop .i) (loop .inv) done, sym (c .before .is-bad-list .ensures) ∙ c .if3 .left, plan-none (a .direction) (take (t .n) (t .steps)), refl, refl)
 
 visited-of-requires : tie.Need-visited-of-requires Inv-loop μ-loop Inv-loop2 μ-loop2 Inv-loop3 μ-loop3
 visited-of-requires c κs = omega arith
@@ -154,8 +159,8 @@ run-step-requires c κs =
     let v = l .inv in
     (v .2 .within, (table-made t (full s) (v .0) _ _ (visited-of .1), (no-room _ (l .no-tuples) (l .no-columns) (v .3), no-room _ (l .no-tuples) (l .no-columns) (v .3))))
 
-add-t49 : tie.Need-add-t49 Inv-loop μ-loop Inv-loop2 μ-loop2 Inv-loop3 μ-loop3
-add-t49 c =
+add-t50 : tie.Need-add-t50 Inv-loop μ-loop Inv-loop2 μ-loop2 Inv-loop3 μ-loop3
+add-t50 c =
     let left = c .before .before .before .before .before .before .before .before .before .before .before .before .before .before .before .before .if1 .left in
     let visited-of = c .before .before .before .before .before .before .before .visited-of .ensures in
     omega (arith, left, visited-of .1)
@@ -384,6 +389,7 @@ run-spec =
     add-i
     good-in-requires
     returns-2
+    end-of-requires
     loop-less
     loop-again
     is-bad-list-requires
@@ -396,7 +402,7 @@ run-spec =
     slice-aggregate-run-step
     slice-aggregate-run-step-2
     run-step-requires
-    add-t49
+    add-t50
     same-length-2
     returns-4
     max-of-requires

@@ -1,8 +1,8 @@
--- `answer`: the text's normal form stands in a; it has no separator but `|` and is no longer than the buffers, which is what `prepare_steps` asks for.
+-- `answer`: the text's normal form stands in a; it has no separator but `|` and is no longer than 40,960 bytes and than the buffers, which is what `prepare_steps` asks for.
 use mathlib.Core.Path.{_∙_}
 use denote.Ref.{now}
 use Rattle.text.proofs.Wrote.{wrote-fits, wrote-counts}
-use Rattle.prepare.proofs.TextReply.{normal-there, normal-room, normal-roomy, prepare-so}
+use Rattle.prepare.proofs.TextReply.{normal-there, normal-most, normal-room, normal-roomy, prepare-so}
 use Rattle.prepare.proofs.answer.Statement.{statement}
 use Rattle.prepare.proofs.answer.Tie as tie
 
@@ -25,12 +25,13 @@ prepare-steps-requires : tie.Need-prepare-steps-requires
 prepare-steps-requires c κs =
     let cleaned = c .before .before .before .before .before .before .before .before .before .before in
     let start = cleaned .before .before .before .before .before .before .before .before .before in
+    let short = start .pre .0 in
     let p = start .pre .1 .1 in
     let text = now (start .args .text) in
     let table = start .args .table in
     let roomy = normal-roomy text table (cleaned .clean-into .ensures) (p .1 .1 .1 .1) (p .1 .1 .0) (cleaned .clean-into .kept .1 .1 .0) in
     let room = normal-room text table (cleaned .clean-into .ensures) (p .1 .1 .1 .0) (cleaned .clean-into .kept .1 .1 .1 .0) in
-    (normal-there text table (cleaned .clean-into .ensures), (p .0, (roomy, room)))
+    (normal-there text table (cleaned .clean-into .ensures), (normal-most text table (cleaned .clean-into .ensures) short, (p .0, (roomy, room))))
 
 same-length : tie.Need-same-length
 same-length c =

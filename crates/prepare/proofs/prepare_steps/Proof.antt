@@ -1,4 +1,4 @@
--- `prepare_steps`: n steps stand before the reader's place, and either their records are made or the first refusal is known (`Reaches`). The reader
+-- `prepare_steps`: n steps stand before the reader's place, and either their records are made, each with its span, or the first refusal is known (`Reaches`). The reader
 -- moves ahead, so what is left of the text is the measure.
 use mathlib.Core.Path.{sym, _∙_}
 use Prim.Native.Nat.{_-_}
@@ -9,7 +9,7 @@ use borrow.Author.Needs.{needs}
 use Rattle.laws_text.specs.Walk.{walk-ahead}
 use Rattle.prepare.proofs.StepByStep.{line-some, line-within}
 use Rattle.prepare.proofs.StepByStep.{Reaches, reaches-none, reaches-end, reaches-room, reaches-only, reaches-line, reaches-refused}
-use Rattle.prepare.proofs.StepByStep.{reaches-many, reaches-roomy, reaches-more}
+use Rattle.prepare.proofs.StepByStep.{reaches-many, reaches-short, reaches-roomy, reaches-more}
 use Rattle.prepare.proofs.prepare_steps.Statement.{statement}
 use Rattle.prepare.proofs.prepare_steps.Tie as tie
 
@@ -23,7 +23,7 @@ loop-holds : tie.Need-loop-holds Inv-loop μ-loop
 loop-holds c =
     let start = c .before .before .before .before .before in
     let p = start .pre in
-    reaches-none _ _ _ _ _ _ (p .0) (p .1 .0) (p .1 .1 .0) (p .1 .1 .1)
+    reaches-none _ _ _ _ _ _ (p .0) (p .1 .1 .0) (p .1 .1 .1 .0) (p .1 .1 .1 .1)
 
 next-from-requires : tie.Need-next-from-requires Inv-loop μ-loop
 next-from-requires c κs = search needs
@@ -131,8 +131,8 @@ loop-again-2 c =
     let line = reaches-line inv step _ _ (wrote .line-at .ensures) (lined .line .given .1) in
     reaches-many inv step line (wrote .line-at .kept .1 .0) (c .if2 .taken)
 
-sub-prepare-step : tie.Need-sub-prepare-step Inv-loop μ-loop
-sub-prepare-step c =
+sub-length : tie.Need-sub-length Inv-loop μ-loop
+sub-length c =
     let lined = c .before .before .before in
     let wrote = lined .before .before .before .before in
     let there = wrote .before .before .before .before in
@@ -179,26 +179,42 @@ prepare-step-requires c κs =
     let line = reaches-line inv step _ _ (wrote .line-at .ensures) (lined .line .given .1) in
     reaches-roomy inv step line
 
+-- what the reader found lies within the text, and so much is not passed; nor by the step's text as it is written out
+spanned-requires : tie.Need-spanned-requires Inv-loop μ-loop
+spanned-requires c κs =
+    let second = c .before .before .before .before .before .before .before .before .before in
+    let lined = second .before .before .before in
+    let wrote = lined .before .before .before .before in
+    let there = wrote .before .before .before .before in
+    let walked = there .before .before in
+    let turn = walked .before in
+    let inv = turn .loop .inv in
+    let step = sym (walked .next-from .ensures) ∙ there .found .given .1 in
+    let line = reaches-line inv step _ _ (wrote .line-at .ensures) (lined .line .given .1) in
+    let h = walk-ahead _ _ _ _ _ step in
+    let most = turn .before .before .before .before .before .before .pre .1 .0 in
+    (omega (arith, h .longer), omega (arith, h .within, most, reaches-short inv step line))
+
 mul-steps : tie.Need-mul-steps Inv-loop μ-loop
 mul-steps c =
-    let second = c .before .before .before .before .before .before .before .before .before in
+    let second = c .before .before .before .before .before .before .before .before .before .before in
     let h = second .if2 .left in search (needs, h)
 
 array-set-from-steps : tie.Need-array-set-from-steps Inv-loop μ-loop
 array-set-from-steps c =
-    let second = c .before .before .before .before .before .before .before .before .before in
+    let second = c .before .before .before .before .before .before .before .before .before .before in
     omega (arith, second .if2 .left)
 
 loop-less-3 : tie.Need-loop-less-3 Inv-loop μ-loop
 loop-less-3 c =
-    let there = c .before .before .before .before .before .before .before .before .before .before .before .before .before .before .before .before .before .before .before .before in
+    let there = c .before .before .before .before .before .before .before .before .before .before .before .before .before .before .before .before .before .before .before .before .before in
     let walked = there .before .before in
     let h = walk-ahead _ _ _ _ _ (sym (walked .next-from .ensures) ∙ there .found .given .1) in
     omega (arith, h .ahead, h .longer, h .within, h .goes-on)
 
 loop-again-3 : tie.Need-loop-again-3 Inv-loop μ-loop
 loop-again-3 c =
-    let judged = c .before .before .before .before .before in
+    let judged = c .before .before .before .before .before .before in
     let second = judged .before .before .before .before in
     let first = second .before in
     let lined = first .before .before in
@@ -210,7 +226,8 @@ loop-again-3 c =
     let step = sym (walked .next-from .ensures) ∙ there .found .given .1 in
     let made = judged .prepare-step in
     let line = reaches-line inv step _ _ (wrote .line-at .ensures) (lined .line .given .1) in
-    reaches-more inv step line (first .if1 .left) (second .if2 .left) _ (made .ensures) (made .kept .1 .1 .0) (made .kept .1 .1 .1 .0) (wrote .line-at .kept .1 .0)
+    reaches-more inv step line (first .if1 .left) (second .if2 .left) _ (made .ensures) (c .spanned .ensures) (made .kept .1 .1 .0) (made .kept .1 .1 .1 .0)
+    (wrote .line-at .kept .1 .0)
 
 answer-of-requires : tie.Need-answer-of-requires Inv-loop μ-loop
 answer-of-requires c κs = search needs
@@ -257,10 +274,11 @@ prepare-steps-spec =
     loop-again
     loop-less-2
     loop-again-2
-    sub-prepare-step
+    sub-length
     slice-reshare-prefix-prepare-step
     slice-aggregate-prepare-step
     prepare-step-requires
+    spanned-requires
     mul-steps
     array-set-from-steps
     loop-less-3

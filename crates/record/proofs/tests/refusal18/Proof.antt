@@ -6,7 +6,8 @@ use Prim.Native.Nat.{_+_, _-_}
 use mathlib.Core.Path.{_≡_, sym, ap, _∙_}
 use lib.ListN.{length, take, length-map, length-take}
 use lib.Seq.{getD-take}
-use Rattle.rules.specs.Pipeline.Record.{goodIn, firstBad}
+use Rattle.rules.specs.Pipeline.Record.{spanEnd, goodIn, firstBad}
+use Rattle.rules.specs.declared.Step.{Step}
 use Rattle.laws_lists.specs.Tests.{not-so, not-left}
 use Rattle.record.proofs.Refused18.{bad-long, bad-few, bad-next, bad-here, bad-none}
 use Rattle.numbers.proofs.Rest.{Rest, rest-all, rest-next, rest-here, rest-end}
@@ -15,10 +16,10 @@ use Rattle.record.proofs.tests.refusal18.Statement.{statement}
 use Rattle.record.proofs.tests.refusal18.Tie as tie
 
 abbrev Inv-loop : tie.InvT-loop
-Inv-loop table n reading i₀ i = Rest (firstBad reading (i + 1)) (take n (table .steps)) i (firstBad reading 1 (take n (table .steps)))
+Inv-loop table n reading end₀ i₀ end i = Rest (firstBad reading end (i + 1)) (take n (table .steps)) i (firstBad reading 0 1 (take n (table .steps)))
 
 abbrev μ-loop : tie.MeasureT-loop
-μ-loop table n reading i₀ i = n - i
+μ-loop table n reading end₀ i₀ end i = n - i
 
 -- the table has 64 rows
 full : (s : tie.Start Inv-loop μ-loop) → length (s .args .t1 .steps) ≡ 64
@@ -53,28 +54,32 @@ returns-2 c =
     let loop = c .before .before .before .before .loop in
     let more = c .before .before .before .loop-test .taken in
     ap badOf (rest-here _ (loop .inv) (rw length-take (omega (arith, more, left, full s)))
-    (bad-here _ _ _ _ (ap (goodIn _) (getD-take _ _ _ _ more) ∙ sym (c .before .good-in .ensures) ∙ not-so (c .if2 .taken)))
+    (bad-here _ _ _ _ _ (ap (goodIn _ _) (getD-take _ _ _ _ more) ∙ sym (c .before .good-in .ensures) ∙ not-so (c .if2 .taken)))
     ∙ sym (bad-few _ _ (full s) left))
 
 loop-less : tie.Need-loop-less Inv-loop μ-loop
 loop-less c = search needs
 
+end-of-requires : tie.Need-end-of-requires Inv-loop μ-loop
+end-of-requires c κs = search needs
+
 loop-again : tie.Need-loop-again Inv-loop μ-loop
 loop-again c =
-    let s = c .before .before .before .before .before .before .before in
-    let left = c .before .before .before .before .before .before .if1 .left in
-    let loop = c .before .before .before .before .loop in
-    let more = c .before .before .before .loop-test .taken in
-    rest-next (firstBad _ _) _ (loop .inv)
+    let s = c .before .before .before .before .before .before .before .before in
+    let left = c .before .before .before .before .before .before .before .if1 .left in
+    let loop = c .before .before .before .before .before .loop in
+    let more = c .before .before .before .before .loop-test .taken in
+    rest-next (firstBad _ _ _) _ (loop .inv)
     (rw length-take (omega (arith, more, left, full s)))
-    (bad-next _ _ _ _ (ap (goodIn _) (getD-take _ _ _ _ more) ∙ sym (c .before .good-in .ensures) ∙ not-left (c .if2 .left)))
+    (bad-next _ _ _ _ _ (ap (goodIn _ _) (getD-take _ _ _ _ more) ∙ sym (c .before .before .good-in .ensures) ∙ not-left (c .before .if2 .left))
+    (c .end-of .ensures ∙ ap (λ (t : Step). spanEnd (t .span)) (sym (getD-take _ _ _ _ more))))
 
 returns-3 : tie.Need-returns-3 Inv-loop μ-loop
 unfolding badOf
 returns-3 c =
     let s = c .before .before .before .before in
     let left = c .before .before .before .if1 .left in
-    ap badOf (sym (bad-none _ _)
+    ap badOf (sym (bad-none _ _ _)
     ∙ rest-end (c .before .loop .inv)
     (rw length-take (omega (arith, c .loop-test .left, left, full s)))
     ∙ sym (bad-few _ _ (full s) left))
@@ -93,6 +98,7 @@ refusal18-spec =
     add-i
     good-in-requires
     returns-2
+    end-of-requires
     loop-less
     loop-again
     returns-3)
