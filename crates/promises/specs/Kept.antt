@@ -1,35 +1,49 @@
 -- Every promise of specs/Promises.antt is kept: a line for each, which cites where it is proved. Of a call's code that is the theorem that the prover
 -- has of the function itself.
 use mathlib.Core.Path.{_≡_, refl, sym, ap, _∙_, subst}
-use Prim.Native.Nat.{ℕ, _*_, _/_, _%_, _≤_, _<_}
+use Prim.Native.Nat.{ℕ, _-_, _*_, _/_, _%_, _≤_, _<_}
 use mathlib.Core.Bool.{Bool, true, false}
-use mathlib.Core.List.{List, [], _∷_}
+use mathlib.Core.Option.{none}
+use mathlib.Core.List.{List, [], _∷_, map}
 use lib.Dec.{T}
-use lib.ListN.{length}
+use lib.ListN.{length, getD, take}
 use lib.Ieee.{Float, binary64, neg, mul, fits}
 use lib.Ieee.Bits.{ofBits-fits}
 use borrow.Fn.World.{World}
+use Rattle.rules.specs.Text.Bytes.{Bytes, joined}
+use Rattle.rules.specs.Text.Refusal.{Reply, Lends, Writes}
+use Rattle.rules.specs.Text.Split.{steps}
+use Rattle.rules.specs.Text.Reader.{definition, define}
 use Rattle.rules.specs.Operators.Numbers.{turn}
 use Rattle.rules.specs.Operators.Adapt.{one}
 use Rattle.rules.specs.Pipeline.Run.{Outcome, runs, Runs}
-use Rattle.rules.specs.Pipeline.Record.{args}
+use Rattle.rules.specs.Pipeline.Record.{args, refusal18}
+use Rattle.rules.specs.Pipeline.Prepare.{PreparesAs}
 use Rattle.rules.specs.Pipeline.Running.{opposite, running}
-use Rattle.rules.specs.Face.Demands.{numberAt, Bits, Alike, EachUnit}
-use Rattle.rules.specs.Pipeline.Check.{anyAdapt, check, Checks}
+use Rattle.rules.specs.Face.Demands.{numberAt, Bits, Alike, EachUnit, bytesAt, Walk, SameButSpans}
+use Rattle.rules.specs.Pipeline.Check.{anyAdapt, spanAt, check, Checks}
 use Rattle.rules.specs.ExamplesHold.{examples-hold}
+use Rattle.rules.specs.declared.Mode.{Mode}
 use Rattle.rules.specs.declared.Mode.the-variants as mode-is
+use Rattle.rules.specs.declared.Reading.{Reading}
 use Rattle.rules.specs.declared.Reading.the-variants.{Crate}
+use Rattle.rules.specs.declared.Span.{Span}
 use Rattle.rules.specs.declared.Step.{Step}
+use Rattle.rules.specs.declared.Written.the-variants as written-is
+use Rattle.rules.specs.declared.Prepared.the-variants as prepared-is
+use Rattle.rules.specs.declared.Verdict.{Verdict}
 use Rattle.rules.specs.declared.Direction.{Direction}
 use Rattle.rules.specs.declared.Foretold.{Foretold}
 use Rattle.rules.specs.declared.Ran.{Ran}
 use Rattle.rules.specs.declared.Ran.the-variants.{Done}
 use Rattle.rules.specs.declared.Verdict.the-variants.{Passes}
 use Rattle.laws_text.specs.Entry.{answers-so}
+use Rattle.laws_text.specs.Spans.{walk-rises}
 use Rattle.laws_text.specs.Offsets.{offset-of-12, offset-of-12-as, no-other-offset, no-other-offset-as}
 use Rattle.laws_text.specs.Once.{once, lends-once, check-once, run-once, plain-check-once, plain-run-once}
 use Rattle.laws_records.specs.Readings.{inv-turns}
-use Rattle.laws_records.specs.Made.{prepare-as-made, table-prepared, check-never-18, run-never-18}
+use Rattle.laws_records.specs.Made.{prepare-as-made}
+use Rattle.laws_records.specs.Prepared.{prepared-walks, prepared-bytes, prepared-short, check-never-18, run-never-18, table-tested, table-prepared}
 use Rattle.laws_records.specs.Exact.{prepare-is-crates, crates-prepare, made-exactly}
 use Rattle.laws_records.specs.ReadBack.{written-returns, not-18-exactly, not-18-each}
 use Rattle.laws_records.specs.Modes.{same-refusal, same-refusal-12}
@@ -38,19 +52,22 @@ use Rattle.laws_records.specs.Operators.Adapt.FactorsByAxis.{same-axis, forward
 use Rattle.laws_records.specs.Ieee.{turn-mul}
 use Rattle.laws_steps.specs.Foretold.{told-exactly, foretells}
 use Rattle.laws_steps.specs.Exactly.{passes-exactly, few-exactly, many-exactly, refused-exactly}
+use Rattle.laws_steps.specs.Aside.{check-aside, run-aside, write-aside}
+use Rattle.laws_steps.specs.Spans.{spanOf, check-span, bytes-at}
 use Rattle.laws_steps.specs.Runs.{answered, accepts, as-foretold, as-many}
 use Rattle.laws_steps.specs.OwnNumbers.{is-named, own-number}
 use Rattle.laws_steps.specs.Bits.{has-bits, alike}
-use Rattle.laws_steps.specs.Ending.{normalise-ends, split-ends, parameters-ends, translate-ends, write-ends, prepare-ends, prepare-as-ends, check-ends, run-ends, next-ends}
-use Rattle.laws_steps.specs.Exported.{behind-normalise, behind-split, behind-parameters, behind-translate, behind-next, behind-prepare, behind-prepare-as, behind-pass, behind-run}
+use Rattle.laws_steps.specs.Ending.{normalise-ends, definition-ends, split-ends, parameters-ends, translate-ends, write-ends, prepare-ends, prepare-as-ends, check-ends, run-ends, next-ends}
+use Rattle.laws_steps.specs.Exported.{behind-normalise, behind-definition, behind-split, behind-parameters, behind-translate, behind-next, behind-prepare, behind-prepare-as, behind-pass, behind-run}
 use Rattle.sakondreno.proofs as code
 use Rattle.reader.proofs as reading
 use Rattle.show.proofs as program
-use Rattle.promises.specs.Promises.{Calls, Demand1, Demand2, AsForetold, FromThePlacesNamed, Demand3, Readings, Modes, Offsets, Exports, Promises}
+use Rattle.promises.specs.Promises.{Calls, Demand1, Demand2, AsForetold, FromThePlacesNamed, Demand3, Readings, Modes, Offsets, SameOfBoth, Spans, Exports, Promises}
 
 pub calls : (w : World) → Calls w
 calls w = record {
   normalise-keeps = code.normalise.Met.met (w .𝓤) (w .H) (w .𝓜) (w .𝓖) (w .𝓡);
+  definition-keeps = code.definition.Met.met (w .𝓤) (w .H) (w .𝓜) (w .𝓖) (w .𝓡);
   split-keeps = code.split.Met.met (w .𝓤) (w .H) (w .𝓜) (w .𝓖) (w .𝓡);
   parameters-keeps = code.parameters.Met.met (w .𝓤) (w .H) (w .𝓜) (w .𝓖) (w .𝓡);
   translate-keeps = code.translate.Met.met (w .𝓤) (w .H) (w .𝓜) (w .𝓖) (w .𝓡);
@@ -63,6 +80,7 @@ calls w = record {
   write-keeps = code.write.Met.met (w .𝓤) (w .H) (w .𝓜) (w .𝓖) (w .𝓡);
   write-step-keeps = code.write_step.Met.met (w .𝓤) (w .H) (w .𝓜) (w .𝓖) (w .𝓡);
   sakondreno-normalise-keeps = code.sakondreno_normalise.Met.met (w .𝓤) (w .H) (w .𝓜) (w .𝓖) (w .𝓡);
+  sakondreno-definition-keeps = code.sakondreno_definition.Met.met (w .𝓤) (w .H) (w .𝓜) (w .𝓖) (w .𝓡);
   sakondreno-split-keeps = code.sakondreno_split.Met.met (w .𝓤) (w .H) (w .𝓜) (w .𝓖) (w .𝓡);
   sakondreno-parameters-keeps = code.sakondreno_parameters.Met.met (w .𝓤) (w .H) (w .𝓜) (w .𝓖) (w .𝓡);
   sakondreno-translate-keeps = code.sakondreno_translate.Met.met (w .𝓤) (w .H) (w .𝓜) (w .𝓖) (w .𝓡);
@@ -77,6 +95,7 @@ calls w = record {
 pub demand1 : Demand1
 demand1 = record {
   normalise-ends = normalise-ends;
+  definition-ends = definition-ends;
   split-ends = split-ends;
   parameters-ends = parameters-ends;
   translate-ends = translate-ends;
@@ -148,8 +167,8 @@ module _ {d : Direction} {t : List Step} {f : Foretold} (checks : Checks d t f) 
 
 pub demand3 : Demand3
 demand3 = record {
-  check-takes-what-is-prepared = λ how mode k p checks h. check-never-18 how mode _ _ (table-prepared how mode p) _ 18 k (rw (checks .exactly) at h);
-  run-takes-what-is-prepared = λ how mode k p ran. run-never-18 how mode _ _ (table-prepared how mode p) _ _ _ k (ran-answer ran);
+  check-takes-what-is-prepared = λ how mode k p checks h. check-never-18 how mode _ _ (table-tested how mode p) _ 18 k (rw (checks .exactly) at h);
+  run-takes-what-is-prepared = λ how mode k p ran. run-never-18 how mode _ _ (table-tested how mode p) _ _ _ k (ran-answer ran);
   passes-exactly-when = λ checks xs. rw (checks .exactly) (passes-exactly _ _ xs);
   too-few-exactly-when = λ checks xs k. rw (checks .exactly) (few-exactly _ _ xs k);
   too-many-exactly-when = λ checks xs k. rw (checks .exactly) (many-exactly _ _ xs k);
@@ -210,9 +229,55 @@ offsets = record {
   no-other-as = λ how mode p h. no-other-offset-as how mode p h;
 }
 
+-- a check of a prepared definition that names a step
+module _ (how : Reading) (mode : Mode) {text : Bytes} {table : List Step} {n : ℕ} {table′ : List Step} (p : PreparesAs how mode text table (prepared-is.Steps n) table′) where
+  walks : Walk (definition text) 0 (take n table′)
+  walks = prepared-walks how mode text (take n table′) (table-tested how mode p)
+
+  at-each : map (λ (s : Step). bytesAt (definition text) (s .span)) (take n table′) ≡ map joined (steps text)
+  at-each = prepared-bytes how mode text (take n table′) (table-tested how mode p)
+
+  at-span : (k : ℕ) {q : Span} → q ≡ spanAt k (take n table′) → bytesAt (definition text) q ≡ getD (map joined (steps text)) (k - 1) []
+  at-span k e = ap (bytesAt (definition text)) e ∙ bytes-at (definition text) (map joined (steps text)) (take n table′) at-each k
+
+-- the span of a check's answer
+module _ {d : Direction} {t : List Step} {f : Foretold} (checks : Checks d t f) where
+  span-is : {v : Verdict} → f .verdict ≡ v → f .span ≡ spanOf v t
+  span-is e = ap (λ (g : Foretold). g .span) (checks .exactly) ∙ check-span d t ∙ ap (λ (w : Verdict). spanOf w t) (sym (ap (λ (g : Foretold). g .verdict) (checks .exactly)) ∙ e)
+
+-- two tables that differ only in spans
+module _ (t u : List Step) (t-good : refusal18 t ≡ none) (u-good : refusal18 u ≡ none) (same : SameButSpans t u) where
+  both : SameOfBoth t u
+  both = record {
+    checks = λ c k. rw (c .exactly, k .exactly) (check-aside t u t-good u-good same _);
+    runs = λ a b. run-once a (record { exactly = b .exactly ∙ sym (run-aside t u t-good u-good same _ _ _) });
+    writes = λ {out} {r} {s} {out′} {out″} a b. lends-once a (subst (λ (w : Reply Bytes). Lends w out s out″) (sym (write-aside t u t-good u-good same)) b);
+  }
+
+-- what the call `definition` answers
+defined : {text out : Bytes} {m : ℕ} {out′ : Bytes} → Writes define text out (written-is.Wrote m) out′ → definition text ≡ take m out′
+unfolding define
+defined p = cc (answers-so p .answer)
+
+pub spans : Spans
+spans = record {
+  definition-answer = defined;
+  spans-are-the-readers = λ how mode p. walks how mode p;
+  bytes-there = λ how mode p. at-each how mode p;
+  spans-rise = λ how mode p. (walk-rises _ 0 _ (walks how mode p), prepared-short how mode _ _ (table-tested how mode p));
+  few-span = λ k checks e. span-is checks e;
+  many-span = λ k checks e. span-is checks e;
+  pass-span = λ checks e. span-is checks e;
+  refused-span = λ number k checks e. span-is checks e;
+  underlines-few = λ how mode k p checks e. at-span how mode p k (span-is checks e);
+  underlines-many = λ how mode k p checks e. at-span how mode p k (span-is checks e);
+  spans-aside = both;
+}
+
 pub exports : Exports
 exports = record {
   normalise-export = behind-normalise;
+  definition-export = behind-definition;
   split-export = behind-split;
   parameters-export = behind-parameters;
   translate-export = behind-translate;
@@ -227,4 +292,4 @@ exports = record {
 }
 
 pub kept : (w : World) → Promises w
-kept w = record { calls = calls w; demand1 = demand1; demand2 = demand2; demand3 = demand3; readings = readings; modes = modes; offsets = offsets; exports = exports }
+kept w = record { calls = calls w; demand1 = demand1; demand2 = demand2; demand3 = demand3; readings = readings; modes = modes; offsets = offsets; spans = spans; exports = exports }

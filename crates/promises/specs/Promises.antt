@@ -2,26 +2,26 @@
 -- speak of what a caller holds, results and lent storage before and after, through the calls' contracts, in the words of crates/rules.
 use mathlib.Core.Path.{_≡_}
 use mathlib.Core.Logic.{_↔_}
-use Prim.Native.Nat.{ℕ, _*_, _/_, _%_, _≤_, _<_}
+use Prim.Native.Nat.{ℕ, _-_, _*_, _/_, _%_, _≤_, _<_}
 use mathlib.Core.Bool.{Bool, true, false, not}
 use mathlib.Core.Option.{none, some}
-use mathlib.Core.List.{List, [], _∷_, _++_}
+use mathlib.Core.List.{List, [], _∷_, _++_, map}
 use lib.Dec.{T}
-use lib.ListN.{length, take, drop}
+use lib.ListN.{length, getD, take, drop}
 use lib.IntN.{ℤ}
 use lib.Ieee.{Float, binary64, mul, div, fits, toBits}
 use borrow.Fn.World.{World}
 use denote.Ref.{now}
-use Rattle.rules.specs.Text.Bytes.{Bytes}
+use Rattle.rules.specs.Text.Bytes.{Bytes, joined}
 use Rattle.rules.specs.Text.Lists.{allOf}
 use Rattle.rules.specs.Text.Refusal.{Reply, answers, refuses, refuses12, Promised, Writes, Lends, Wrote}
 use Rattle.rules.specs.Text.Normal.{normalise}
-use Rattle.rules.specs.Text.Split.{split}
+use Rattle.rules.specs.Text.Split.{steps, split}
 use Rattle.rules.specs.Text.Parameters.{parameters}
 use Rattle.rules.specs.Proj.Translate.{translate}
-use Rattle.rules.specs.Text.Reader.{next}
+use Rattle.rules.specs.Text.Reader.{next, definition, define}
 use Rattle.rules.specs.Pipeline.Prepare.{prepare, prepareAs, Prepares, PreparesAs}
-use Rattle.rules.specs.Pipeline.Record.{readingNumber, readingOf, stepWith, inReading, operator, args, isSet, ofMode, made, tableReading, refusal18, listed}
+use Rattle.rules.specs.Pipeline.Record.{readingNumber, readingOf, noSpan, stepWith, inReading, withSpans, operator, args, isSet, ofMode, made, tableReading, refusal18, listed}
 use Rattle.rules.specs.Pipeline.Running.{opposite, act, running}
 use Rattle.rules.specs.Operators.Arguments.{size, arg}
 use Rattle.rules.specs.Operators.Descriptions.{Documented}
@@ -31,10 +31,10 @@ use Rattle.rules.specs.Operators.Documented.{inputAt, combinedByAxis, adaptedBy
 use Rattle.rules.specs.Pipeline.Columns.{after, depths, deepest}
 use Rattle.rules.specs.Pipeline.Tuples.{numbers, acted}
 use Rattle.rules.specs.Pipeline.Run.{start, count, Runs}
-use Rattle.rules.specs.Pipeline.Check.{place, anyAdapt, Checks}
-use Rattle.rules.specs.Pipeline.Write.{write}
+use Rattle.rules.specs.Pipeline.Check.{place, anyAdapt, spanAt, Checks}
+use Rattle.rules.specs.Pipeline.Write.{writtenSpans, write}
 use Rattle.rules.specs.Face.Plain.{plainPrepared, replied, recordCount, plainFound, modeOf, directionOf, plainCheck, PlainChecks, plainRan, PlainRuns}
-use Rattle.rules.specs.Examples.{examples, also, printed, rewritten, readings, modes, offsets, demanded, AllHold}
+use Rattle.rules.specs.Examples.{examples, also, printed, rewritten, readings, modes, offsets, underlined, demanded, AllHold}
 use Rattle.rules.specs.declared.Mode.{Mode}
 use Rattle.rules.specs.declared.Mode.the-variants as mode-is
 use Rattle.rules.specs.declared.Reading.{Reading}
@@ -68,6 +68,7 @@ use Rattle.sakondreno.proofs as calls
 use Rattle.reader.proofs as reading
 use Rattle.show.proofs as program
 use Rattle.rules.specs.Face.Demands.{Ends, textRefusal, RunEnds, CheckEnds, NextEnds, ExportsText, EachWell, Few, Many, FirstAtFault, numberAt, Bits, Alike, signAngle, EachUnit, FirstFault}
+use Rattle.rules.specs.Face.Demands.{bytesAt, Rise, Walk, SameButSpans, SaysTheSame}
 
 -- ==== The public calls. "Every entry point ends on every text, step table and list .. No caller is asked to have looked first": each call's own code,
 -- whatever it is given, returns; its contract asks nothing; and what it says is one equation with the written rule, of the result and of all that was lent.
@@ -76,6 +77,8 @@ use Rattle.rules.specs.Face.Demands.{Ends, textRefusal, RunEnds, CheckEnds, Nex
 pub record Calls (w : World) : Type 1 where
   pub normalise-keeps : Keeps w calls.normalise.ended calls.normalise.Symbol.routine
       (λ l before r after. Writes normalise (now (before .0)) (now (before .1 .0)) r (now (after .1 .0)))
+  pub definition-keeps : Keeps w calls.definition.ended calls.definition.Symbol.routine
+      (λ l before r after. Writes define (now (before .0)) (now (before .1 .0)) r (now (after .1 .0)))
   pub split-keeps : Keeps w calls.split.ended calls.split.Symbol.routine
       (λ l before r after. Writes split (now (before .0)) (now (before .1 .0)) r (now (after .1 .0)))
   pub parameters-keeps : Keeps w calls.parameters.ended calls.parameters.Symbol.routine
@@ -101,6 +104,8 @@ pub record Calls (w : World) : Type 1 where
   -- the same for C and Rust, in the words of plain records
   pub sakondreno-normalise-keeps : Keeps w calls.sakondreno_normalise.ended calls.sakondreno_normalise.Symbol.routine
       (λ l before r after. Promised replied normalise (now (before .0)) (now (before .1 .0)) r (now (after .1 .0)))
+  pub sakondreno-definition-keeps : Keeps w calls.sakondreno_definition.ended calls.sakondreno_definition.Symbol.routine
+      (λ l before r after. Promised replied define (now (before .0)) (now (before .1 .0)) r (now (after .1 .0)))
   pub sakondreno-split-keeps : Keeps w calls.sakondreno_split.ended calls.sakondreno_split.Symbol.routine
       (λ l before r after. Promised replied split (now (before .0)) (now (before .1 .0)) r (now (after .1 .0)))
   pub sakondreno-parameters-keeps : Keeps w calls.sakondreno_parameters.ended calls.sakondreno_parameters.Symbol.routine
@@ -128,6 +133,8 @@ pub record Calls (w : World) : Type 1 where
 pub record Demand1 : Type 1 where
   -- the text calls, each with its numbers; an answer writes nothing past its own end
   pub normalise-ends : {text out : Bytes} {r : Written} {out′ : Bytes} → Writes normalise text out r out′
+      → Ends written-is.Wrote textRefusal (1 ∷ 2 ∷ 7 ∷ []) out r out′
+  pub definition-ends : {text out : Bytes} {r : Written} {out′ : Bytes} → Writes define text out r out′
       → Ends written-is.Wrote textRefusal (1 ∷ 2 ∷ 7 ∷ []) out r out′
   pub split-ends : {text out : Bytes} {r : Written} {out′ : Bytes} → Writes split text out r out′
       → Ends written-is.Wrote textRefusal (1 ∷ 2 ∷ 6 ∷ 7 ∷ 8 ∷ []) out r out′
@@ -170,7 +177,7 @@ pub record Demand2 : Type 0 where
   -- a sign that is turned or kept is the Rust's product with -1 or 1, for every f64 (IEEE 754 as the kit defines it)
   pub sign-is-product : (minus : Bool) (x : Float) → T (fits binary64 x) → turn minus x ≡ mul binary64 x (turn minus one)
   -- and the documents' examples are so
-  pub examples-hold : AllHold examples × AllHold also × AllHold printed × AllHold rewritten × AllHold readings × AllHold modes × AllHold offsets × AllHold demanded
+  pub examples-hold : AllHold examples × AllHold also × AllHold printed × AllHold rewritten × AllHold readings × AllHold modes × AllHold offsets × AllHold underlined × AllHold demanded
 
 -- ==== Demand 3. "A check reads a prepared pipeline and a direction, never the data."
 
@@ -206,7 +213,7 @@ pub record Demand3 : Type 0 where
       → (f .verdict ≡ TooFew k) ↔ ((refusal18 t ≡ none) × FirstAtFault (Few xs) k (running d t) xs)
   pub too-many-exactly-when : {d : Direction} {t : List Step} {f : Foretold} → Checks d t f → (xs : List Float) (k : ℕ)
       → (f .verdict ≡ TooMany k) ↔ ((refusal18 t ≡ none) × FirstAtFault (Many xs) k (running d t) xs)
-  -- (or the first record that no preparation in the first's reading makes)
+  -- (or the first record that no preparation in the first's reading makes, or whose span does not rise)
   pub refused-exactly-when : {d : Direction} {t : List Step} {f : Foretold} → Checks d t f → (number k : ℕ)
       → (f .verdict ≡ Refused number k) ↔ ((number ≡ 18) × (refusal18 t ≡ some k))
   -- "on every list the run accepts": after a pass that is every list of whole tuples, 65,536 at most, with a store for the deepest
@@ -233,17 +240,21 @@ pub record Readings : Type 0 where
   -- "`inv` also turns `push`, `pop` and `stack`": whatever the operator, a step with `inv` does what the step without it does in the other direction
   pub inv-turns-every-operator : (d : Direction) (number : ℕ) (l : List ℤ) (fwd back : ℕ)
       → act d (inReading Proj (stepWith number l 1 fwd back)) ≡ act (opposite d) (inReading Proj (stepWith number l 0 fwd back))
-  -- "18 at a record whose reading is not the first's": a table of one mode (of records with eight slots, as all are) is not refused 18 exactly when some text
-  -- prepares to it in that mode
-  pub refused-18-unless-prepared : (mode : Mode) (t : List Step) → Every Slots t → allOf (ofMode mode) t ≡ true → (refusal18 t ≡ none) ↔ ((how : Reading) × Texted how mode t)
-  -- and any table, exactly when it has 64 records at most, all of its first one's reading, and each alone has a text, in some mode
-  pub refused-18-unless-each : (t : List Step) → Every Slots t → (refusal18 t ≡ none) ↔ ((length t ≤ 64) × Every (InIt (tableReading t)) t × Every TextedAlone t)
-  -- a record alone, in its own reading: it is made, and of a mode, exactly when some text prepares to it in that mode
+  -- "18 at a record whose reading is not the first's": a table of one mode (of records with eight slots, as all are) is not refused 18 exactly when its spans rise, up to
+  -- byte 40,960, and some text prepares to it in that mode, spans aside
+  pub refused-18-unless-prepared : (mode : Mode) (t : List Step) → Every Slots t → allOf (ofMode mode) t ≡ true
+      → (refusal18 t ≡ none) ↔ (Rise 40960 0 t × ((how : Reading) × Texted how mode t))
+  -- and any table, exactly when it has 64 records at most, all of its first one's reading, its spans rise, and each alone has a text, in some mode, spans aside
+  pub refused-18-unless-each : (t : List Step) → Every Slots t
+      → (refusal18 t ≡ none) ↔ ((length t ≤ 64) × Every (InIt (tableReading t)) t × Rise 40960 0 t × Every TextedAlone t)
+  -- a record alone, in its own reading: it is made, and of a mode, exactly when some text prepares to it in that mode, spans aside
   pub made-exactly : (mode : Mode) (s : Step) → Slots s → ((made s ≡ true) × (ofMode mode s ≡ true)) ↔ Texted (readingOf (s .reading)) mode (s ∷ [])
-  -- what `write` answered of a table of one mode gives the table back, prepared in its reading and that mode
+  -- what `write` answered of a table of one mode gives the table back, prepared in its reading and that mode, with the spans of that text: its steps' texts in turn, a
+  -- byte between
   pub written-returns : (mode : Mode) (t : List Step) → Every Slots t → allOf (ofMode mode) t ≡ true → {out : Bytes} {n : ℕ} {out′ : Bytes}
       → Lends (write t) out (written-is.Wrote n) out′ → (table : List Step) → length t ≤ length table → {r : Prepared} {table′ : List Step}
-      → PreparesAs (readingOf (tableReading t)) mode (take n out′) table r table′ → (r ≡ prepared-is.Steps (length t)) × (table′ ≡ t ++ drop (length t) table)
+      → PreparesAs (readingOf (tableReading t)) mode (take n out′) table r table′
+      → (r ≡ prepared-is.Steps (length t)) × (table′ ≡ withSpans (writtenSpans t) t ++ drop (length t) table)
 
 -- ==== Document 02, request 2. "Add a documented mode, chosen for a whole preparation".
 
@@ -286,11 +297,49 @@ pub record Offsets : Type 0 where
   pub no-other-as : (how : Reading) (mode : Mode) {text : Bytes} {table table′ : List Step} {number place offset : ℕ}
       → PreparesAs how mode text table (prepared-is.Refused number place offset) table′ → (number ≡ 12 → ⊥) → offset ≡ 0
 
+-- ==== Document 02, request 4. "Underline the faulty step."
+
+-- "Depths, places and tuples must not depend on spans": what the calls say of one table they say of the other, but for the span that the check returns
+pub record SameOfBoth (t u : List Step) : Type 0 where
+  pub checks : {d : Direction} {f g : Foretold} → Checks d t f → Checks d u g → SaysTheSame f g
+  pub runs : {d : Direction} {xs store : List Float} {r s : Ran} {xs′ xs″ store′ store″ : List Float}
+      → Runs d t xs store r xs′ store′ → Runs d u xs store s xs″ store″ → (r ≡ s) × (xs′ ≡ xs″) × (store′ ≡ store″)
+  pub writes : {out : Bytes} {r s : Written} {out′ out″ : Bytes} → Lends (write t) out r out′ → Lends (write u) out s out″ → (r ≡ s) × (out′ ≡ out″)
+
+pub record Spans : Type 0 where
+  -- "the normalised definition", which the call `definition` answers
+  pub definition-answer : {text out : Bytes} {m : ℕ} {out′ : Bytes} → Writes define text out (written-is.Wrote m) out′ → definition text ≡ take m out′
+  -- "Each step record gains the first byte and length of its text in the normalised definition": the reader, from the definition's first byte on, finds the first record's
+  -- text at its span, from there on the second's, and so on, and none behind the last
+  pub spans-are-the-readers : (how : Reading) (mode : Mode) {text : Bytes} {table : List Step} {n : ℕ} {table′ : List Step}
+      → PreparesAs how mode text table (prepared-is.Steps n) table′ → Walk (definition text) 0 (take n table′)
+  -- "taken before leading modifiers are turned to the end": the bytes there are the step's words as it is split off, a space between, and no more
+  pub bytes-there : (how : Reading) (mode : Mode) {text : Bytes} {table : List Step} {n : ℕ} {table′ : List Step}
+      → PreparesAs how mode text table (prepared-is.Steps n) table′ → map (λ (s : Step). bytesAt (definition text) (s .span)) (take n table′) ≡ map joined (steps text)
+  -- "Spans of a table rise and do not overlap", within the definition, which has 40,960 bytes at most
+  pub spans-rise : (how : Reading) (mode : Mode) {text : Bytes} {table : List Step} {n : ℕ} {table′ : List Step}
+      → PreparesAs how mode text table (prepared-is.Steps n) table′ → Rise (length (definition text)) 0 (take n table′) × (length (definition text) ≤ 40960)
+  -- "the check returns the span with its step", and none where it names none
+  pub few-span : {d : Direction} {t : List Step} {f : Foretold} (k : ℕ) → Checks d t f → f .verdict ≡ TooFew k → f .span ≡ spanAt k t
+  pub many-span : {d : Direction} {t : List Step} {f : Foretold} (k : ℕ) → Checks d t f → f .verdict ≡ TooMany k → f .span ≡ spanAt k t
+  pub pass-span : {d : Direction} {t : List Step} {f : Foretold} → Checks d t f → f .verdict ≡ Passes → f .span ≡ noSpan
+  pub refused-span : {d : Direction} {t : List Step} {f : Foretold} (number k : ℕ) → Checks d t f → f .verdict ≡ Refused number k → f .span ≡ noSpan
+  -- "The site editor marks the step the check names": the bytes at the span that the check of a prepared definition returns are the text of the step that it names
+  pub underlines-few : (how : Reading) (mode : Mode) {text : Bytes} {table : List Step} {n : ℕ} {table′ : List Step} {d : Direction} {f : Foretold} (k : ℕ)
+      → PreparesAs how mode text table (prepared-is.Steps n) table′ → Checks d (take n table′) f → f .verdict ≡ TooFew k
+      → bytesAt (definition text) (f .span) ≡ getD (map joined (steps text)) (k - 1) []
+  pub underlines-many : (how : Reading) (mode : Mode) {text : Bytes} {table : List Step} {n : ℕ} {table′ : List Step} {d : Direction} {f : Foretold} (k : ℕ)
+      → PreparesAs how mode text table (prepared-is.Steps n) table′ → Checks d (take n table′) f → f .verdict ≡ TooMany k
+      → bytesAt (definition text) (f .span) ≡ getD (map joined (steps text)) (k - 1) []
+  -- "and that is proved of two accepted tables that differ only there"
+  pub spans-aside : (t u : List Step) → refusal18 t ≡ none → refusal18 u ≡ none → SameButSpans t u → SameOfBoth t u
+
 -- ==== From C and from Rust: behind each answer of an export there is one of the call that it exports, with the same storage afterwards, so all of the above
 -- holds there too. Number 0 is an answer, a pass, or a run that is done; and a reader that finds nothing is at the end.
 
 pub record Exports : Type 0 where
   pub normalise-export : ExportsText normalise
+  pub definition-export : ExportsText define
   pub split-export : ExportsText split
   pub parameters-export : ExportsText parameters
   pub translate-export : ExportsText translate
@@ -320,4 +369,5 @@ pub record Promises (w : World) : Type 1 where
   pub readings : Readings
   pub modes : Modes
   pub offsets : Offsets
+  pub spans : Spans
   pub exports : Exports

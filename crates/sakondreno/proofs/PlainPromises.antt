@@ -15,9 +15,9 @@ use Rattle.rules.specs.declared.Done.{Done}
 use Rattle.rules.specs.Face.Plain.{directionOf, plainVerdict, plainCheck, PlainChecks, plainRan, plainOutcome, PlainRuns}
 
 pub check-plain : (f : Foretold) {v : Said} → v ≡ plainVerdict (f .verdict)
-    → _≡_ {A = Checked} (record { said = v; run = f .run; depths = f .depths; deepest = f .deepest; left = f .left; told = f .told; places = f .places }) (plainCheck f)
+    → _≡_ {A = Checked} (record { said = v; span = f .span; run = f .run; depths = f .depths; deepest = f .deepest; left = f .left; told = f .told; places = f .places }) (plainCheck f)
 unfolding plainCheck
-check-plain f h = λ i. record { said = h i; run = f .run; depths = f .depths; deepest = f .deepest; left = f .left; told = f .told; places = f .places }
+check-plain f h = λ i. record { said = h i; span = f .span; run = f .run; depths = f .depths; deepest = f .deepest; left = f .left; told = f .told; places = f .places }
 
 pub checks-plain : {inverse : ℕ} {t : List Step} {d : Direction} {f : Foretold} {r : Checked}
     → d ≡ directionOf inverse → Checks d t f → r ≡ plainCheck f → PlainChecks inverse t r

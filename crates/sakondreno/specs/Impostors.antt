@@ -17,16 +17,18 @@ use Rattle.rules.specs.Text.Split.{split}
 use Rattle.rules.specs.Text.Parameters.{parameters}
 use Rattle.rules.specs.Proj.Translate.{translate}
 use Rattle.rules.specs.Pipeline.Prepare.{prepare, prepareAs}
-use Rattle.rules.specs.Text.Reader.{next}
-use Rattle.rules.specs.Pipeline.Check.{check}
+use Rattle.rules.specs.Text.Reader.{next, define}
+use Rattle.rules.specs.Pipeline.Check.{spanAt, check}
 use Rattle.rules.specs.Pipeline.Run.{runs}
-use Rattle.rules.specs.Pipeline.Record.{readingOf, stepWith, blank}
+use Rattle.rules.specs.Pipeline.Record.{readingOf, noSpan, stepWith, blank, withSpans}
+use Rattle.rules.specs.Pipeline.Write.{spansInTurn}
 use Rattle.rules.specs.Examples.{on, records, oneToFour}
 use Rattle.rules.specs.Opened.{opened}
 use Rattle.rules.specs.declared.Mode.{Mode}
 use Rattle.rules.specs.declared.Mode.the-variants as mode-is
 use Rattle.rules.specs.declared.Reading.{Reading}
 use Rattle.rules.specs.declared.Reading.the-variants.{Crate, Proj}
+use Rattle.rules.specs.declared.Span.{Span}
 use Rattle.rules.specs.declared.Step.{Step}
 use Rattle.rules.specs.declared.Answer.{Answer}
 use Rattle.rules.specs.declared.Part.{Part}
@@ -37,7 +39,7 @@ use Rattle.rules.specs.Face.Plain.{plainWritten, replied, plainFound, plainPrep
 no : {k : ℕ} → 0 ≡ suc k → ⊥
 no z = omega arith
 
--- ---- `normalise`, `split`, `parameters`, `translate`, `prepare` and `prepare_as`
+-- ---- `normalise`, `definition`, `split`, `parameters`, `translate`, `prepare` and `prepare_as`
 
 module _ {A : Type 0} (inWords : Reply ℕ → Answer) (own : Bytes → Reply (List A)) where
   abbrev pub Meets : (Bytes → List A → Answer × List A) → Type 0
@@ -76,6 +78,10 @@ first (x ∷ t) = x
 pub tells-normalise : Telling replied normalise
 unfolding opened plainWritten first
 tells-normalise = record { nothing = refl; text = ascii "a"; storage = 0 ∷ []; more = 0; after = ascii "a"; something = refl; altered = λ e. no (ap first e) }
+
+pub tells-definition : Telling replied define
+unfolding opened plainWritten first
+tells-definition = record { nothing = refl; text = ascii "a"; storage = 0 ∷ []; more = 0; after = ascii "a"; something = refl; altered = λ e. no (ap first e) }
 
 pub tells-split : Telling replied split
 unfolding opened plainWritten first
@@ -184,6 +190,25 @@ place-for-offset program alike meets =
     nine-one : _≡_ {A = ℕ} 9 1 → ⊥
     nine-one z = omega arith
 
+-- the span of the first record
+pub spanOfFirst : List Step → Span
+spanOfFirst [] = noSpan
+spanOfFirst (s ∷ l) = s .span
+
+-- The spans left out: records that tell of no bytes
+pub spans-left-out : (program : Bytes → List Step → Answer × List Step) → ((t : Bytes) (storage : List Step) → spanOfFirst (program t storage .1) .length ≡ 0)
+    → Meets recordCount prepare program → ⊥
+unfolding opened plainPrepared spanOfFirst
+spans-left-out program out meets =
+    no (sym (out (ascii "push") (blank ∷ [])) ∙ ap (λ (x : Answer × List Step). spanOfFirst (x .1) .length) (meets (ascii "push") (blank ∷ []) .exactly))
+
+-- Spans in the lines of a split, whose first begins with the first byte
+pub spans-of-lines : (program : Bytes → List Step → Answer × List Step) → ((t : Bytes) (storage : List Step) → spanOfFirst (program t storage .1) .from ≡ 0)
+    → Meets recordCount prepare program → ⊥
+unfolding opened plainPrepared spanOfFirst
+spans-of-lines program first-byte meets =
+    no (sym (first-byte (ascii "|push") (blank ∷ [])) ∙ ap (λ (x : Answer × List Step). spanOfFirst (x .1) .from) (meets (ascii "|push") (blank ∷ []) .exactly))
+
 -- ---- the walk over the steps
 
 abbrev pub MeetsNext : (Bytes → ℕ → Part) → Type 0
@@ -232,6 +257,23 @@ unfolding opened directionOf plainCheck plainVerdict
 invented-depth depth answer invented meets =
     no (sym (ap (λ (x : Checked). x .deepest) (meets 0 (table (ascii "push")) .exactly)) ∙ invented 0 (table (ascii "push"))
     ∙ sym (invented 0 (table (ascii "push v_1"))) ∙ ap (λ (x : Checked). x .deepest) (meets 0 (table (ascii "push v_1")) .exactly))
+
+-- The span forgotten: never one with a byte
+pub span-forgotten : (answer : ℕ → List Step → Checked) → ((inverse : ℕ) (t : List Step) → answer inverse t .span .length ≡ 0) → MeetsCheck answer → ⊥
+unfolding opened directionOf plainCheck
+span-forgotten answer forgotten meets =
+    no (sym (forgotten 0 (table (ascii "pop v_1"))) ∙ ap (λ (x : Checked). x .span .length) (meets 0 (table (ascii "pop v_1")) .exactly))
+
+-- The next step's span, for that of the step named
+abbrev two : List Step
+two = table (ascii "pop v_1|push")
+
+pub next-span : (answer : ℕ → List Step → Checked) → ((inverse : ℕ) (t : List Step) → answer inverse t .span ≡ spanAt (suc (answer inverse t .said .place)) t)
+    → MeetsCheck answer → ⊥
+unfolding opened directionOf plainCheck plainVerdict
+next-span answer next meets =
+    no (sym (ap (λ (x : Checked). x .span .from) (meets 0 two .exactly)) ∙ ap (λ (p : Span). p .from) (next 0 two)
+    ∙ ap (λ (x : Checked). spanAt (suc (x .said .place)) two .from) (meets 0 two .exactly))
 
 -- ---- the run
 
@@ -288,15 +330,19 @@ invented-count count program invented meets =
 
 -- ---- and three slips of the calls over a row
 
+-- 65 good records
+abbrev tooMany : List Step
+tooMany = withSpans (spansInTurn 0 (replicate 65 (ascii "x"))) (replicate 65 blank)
+
 -- More than 64 records cut at 64: the check
 pub check-cut : MeetsCheck (λ inverse t. plainCheck (check (directionOf inverse) (take 64 t))) → ⊥
 unfolding opened directionOf plainCheck plainVerdict
-check-cut meets = no (ap (λ (x : Checked). x .said .number) (meets 0 (replicate 65 blank) .exactly))
+check-cut meets = no (ap (λ (x : Checked). x .said .number) (meets 0 tooMany .exactly))
 
 -- The same of the run
 pub run-cut : MeetsRun (λ inverse t xs store. plainOutcome (runs (directionOf inverse) (take 64 t) xs store)) → ⊥
 unfolding opened directionOf plainOutcome plainRan
-run-cut meets = no (ap (λ (x : PlainOutcome). x .answer .number) (meets 0 (replicate 65 blank) [] [] .exactly))
+run-cut meets = no (ap (λ (x : PlainOutcome). x .answer .number) (meets 0 tooMany [] [] .exactly))
 
 -- The direction forgotten
 pub check-forward : (answer : List Step → Checked) → MeetsCheck (λ inverse t. answer t) → ⊥

@@ -7,6 +7,7 @@ pub use entry::check;
 pub use entry::prepare;
 pub use entry::prepare_as;
 pub use entry::run;
+pub use normalise::definition;
 pub use normalise::normalise;
 pub use parameters::parameters;
 pub use proj::translate;
@@ -26,6 +27,7 @@ pub use rules::Prepared;
 pub use rules::Ran;
 pub use rules::Reading;
 pub use rules::Said;
+pub use rules::Span;
 pub use rules::Step;
 pub use rules::Table;
 pub use rules::Verdict;
@@ -41,7 +43,7 @@ ghost use Rattle.rules.specs.Text.Parameters.{parameters};
 ghost use Rattle.rules.specs.Proj.Translate.{translate};
 ghost use Rattle.rules.specs.Pipeline.Record.{readingOf};
 ghost use Rattle.rules.specs.Pipeline.Prepare.{prepare, prepareAs};
-ghost use Rattle.rules.specs.Text.Reader.{next};
+ghost use Rattle.rules.specs.Text.Reader.{next, define};
 ghost use Rattle.rules.specs.Face.Plain.{replied, plainFound, recordCount, modeOf, PlainChecks, PlainRuns};
 
 // Brings a definition into its normal form.
@@ -50,6 +52,14 @@ pub extern "C" fn sakondreno_normalise(text: &[u8], out: &mut [u8]) -> Answer
     ensures { λ r. ⌜ Promised replied normalise (now (text .entry)) (now (out .entry)) r (now (out .exit)) ⌝ }
 {
     plain::answered(normalise::normalise(text, out))
+}
+
+// Brings a definition without its comments into its normal form: the text in which spans are counted.
+#[no_mangle]
+pub extern "C" fn sakondreno_definition(text: &[u8], out: &mut [u8]) -> Answer
+    ensures { λ r. ⌜ Promised replied define (now (text .entry)) (now (out .entry)) r (now (out .exit)) ⌝ }
+{
+    plain::answered(normalise::definition(text, out))
 }
 
 // Cuts a definition into its steps, each with a newline after it.

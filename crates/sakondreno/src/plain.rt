@@ -141,11 +141,13 @@ pub fn checked_of(f: Foretold) -> Checked
     ensures { λ r. ⌜ r ≡ plainCheck f ⌝ }
 {
     let verdict = f.verdict;
+    let span = f.span;
     let depths = f.depths;
     let places = f.places;
     let s = verdict_of(verdict);
     Checked {
         said: s,
+        span: span,
         run: f.run,
         depths: depths,
         deepest: f.deepest,

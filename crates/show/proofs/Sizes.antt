@@ -33,7 +33,8 @@ use Rattle.laws_text.specs.Sizes.{steps-few, proj-few}
 use Rattle.laws_text.specs.Refusals.{Refusing, OfAStep, then-refuses, tested-refuses, split-refuses, translate-refuses, prepare-refuses}
 use Rattle.laws_steps.specs.Named.{Named, FourNamed}
 use Rattle.laws_steps.specs.Foretold.{foretells}
-use Rattle.laws_records.specs.Made.{prepare-as-made, check-never-18, tested-answers}
+use Rattle.laws_records.specs.Made.{prepare-as-made, tested-answers}
+use Rattle.laws_records.specs.Prepared.{check-never-18}
 use Rattle.laws_steps.specs.Limits.{few-within, many-within, pass-within}
 use Rattle.show.proofs.Located.{Other, Located, split-other, translate-other, prepare-located}
 use Rattle.show.proofs.Replies.{Of, of-refusal, of-answers, of-then, of-tested, Made, split-made}
@@ -107,9 +108,9 @@ unfolding ascii
 step-length k w h = omega (arith, length-append (counted (ascii "step ") k) w, counted-length (ascii "step ") k h)
 
 -- of a table that was prepared in a reading and a mode
-module _ (r : Reading) (mode : Mode) (t : Bytes) (ss : List Step) (e : prepareAs r mode t ≡ answers ss) where
+module _ (r : Reading) (mode : Mode) (t : Bytes) (ss : List Step) (e : tested (prepareAs r mode) t ≡ answers ss) where
   step-small : (k : ℕ) → k ≤ length ss → Small k
-  step-small k h = omega (arith, prepare-as-made r mode t ss e .1)
+  step-small k h = omega (arith, prepare-as-made r mode t ss (tested-answers (prepareAs r mode) t ss e) .1)
 
   judged-length : (d : Direction) (v : Verdict) → check d ss .verdict ≡ v → length (verdictText v (check d ss)) ≤ 59
   unfolding verdictText ascii
@@ -246,7 +247,7 @@ shown-checks-length r mode t =
     let Is : List Step → Type 0 = λ ss. reply ≡ answers ss in
     printed Is reply bothChecks 138 (omega arith) (tested-refuses BothSmall (prepareAs r mode) t (omega arith) (omega arith) (prepare-small r mode t)) (prepare-located r mode t)
     (of-answers Is reply (λ ss e. e))
-    (λ ss e. checks-length r mode t ss (tested-answers (prepareAs r mode) t ss e))
+    (checks-length r mode t)
 
 shown-steps-length : (r : Reading) (mode : Mode) (t : Bytes) → length (shownSteps r mode t) ≤ 66442
 unfolding shownSteps
