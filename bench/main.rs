@@ -32,6 +32,13 @@ struct Reply {
 
 #[repr(C)]
 #[derive(Clone, Copy, Default)]
+struct Span {
+    from: u32,
+    length: u32,
+}
+
+#[repr(C)]
+#[derive(Clone, Copy, Default)]
 struct Step {
     operator: u8,
     n: u8,
@@ -40,6 +47,7 @@ struct Step {
     omit_inv: u8,
     reading: u8,
     args: [i32; 8],
+    span: Span,
 }
 
 // A row of 64 records to lend, of which the first n are in use.
@@ -58,6 +66,7 @@ struct Place {
 struct Checked {
     number: u8,
     place: usize,
+    span: Span,
     run: usize,
     depths: [usize; 64],
     deepest: usize,

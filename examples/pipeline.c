@@ -4,7 +4,8 @@
  *     pipeline [-p | -m] [-d] -x   the same for each line of standard input, which holds a definition in hexadecimal digits
  *
  * With -p the definition is read in PROJ's reading. With -m the first record is then marked as of the crate's: a mixture, which is
- * refused. With -d it is prepared in the documented mode. A number that is none is underlined in its step (not with -x).
+ * refused. With -d it is prepared in the documented mode. A number that is none is underlined in its step, and a step that the check
+ * names in the normalised definition (not with -x).
  *
  * examples/run builds it.
  */
@@ -13,7 +14,20 @@
 
 #include "sakondreno.h"
 
-static void say_check(const char *direction, const sakondreno_step *table, size_t steps, uint8_t inverse)
+/* The normalised definition, and a line under a step of it: an editor's underline. */
+static void underline_step(const uint8_t *text, size_t length, sakondreno_span span)
+{
+    static uint8_t form[65536];
+    sakondreno_answer all = sakondreno_definition(text, length, form, sizeof form);
+    fwrite(form, 1, all.length, stdout);
+    printf("\n%*s", (int)span.from, "");
+    for (uint32_t i = 0; i < span.length; i++)
+        putchar('^');
+    printf("\n");
+}
+
+/* What the check says; the span of a step that it names. */
+static sakondreno_span say_check(const char *direction, const sakondreno_step *table, size_t steps, uint8_t inverse)
 {
     sakondreno_checked c = sakondreno_check(table, steps, inverse);
     printf("%s: ", direction);
@@ -25,8 +39,10 @@ static void say_check(const char *direction, const sakondreno_step *table, size_
     } else if (c.said.number == SAKONDRENO_RECORD) {
         printf("refused 18 %zu\n", c.said.place);
     } else {
-        printf("step %zu too %s\n", c.said.place, c.said.number == 1 ? "few" : "many");
+        const char *what = c.said.number == 1 ? "few" : "many";
+        printf("step %zu too %s at %u+%u\n", c.said.place, what, (unsigned)c.span.from, (unsigned)c.span.length);
     }
+    return c.span;
 }
 
 static void say_run(const char *direction, const sakondreno_step *table, size_t steps, uint8_t inverse)
@@ -86,8 +102,11 @@ static void say(const uint8_t *text, size_t length, way how, bool underlined)
     if (how.mixed && p.length > 0)
         table[0].reading = SAKONDRENO_CRATE;
     printf("steps %zu\n", p.length);
-    say_check("check forward", table, p.length, 0);
-    say_check("check inverse", table, p.length, 1);
+    for (uint8_t inverse = 0; inverse < 2; inverse++) {
+        sakondreno_span span = say_check(inverse ? "check inverse" : "check forward", table, p.length, inverse);
+        if (underlined && span.length > 0)
+            underline_step(text, length, span);
+    }
     say_run("run forward", table, p.length, 0);
     say_run("run inverse", table, p.length, 1);
 }

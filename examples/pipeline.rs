@@ -4,7 +4,8 @@
 //!     pipeline [-p | -m] [-d] -x   the same for each line of standard input, which holds a definition in hexadecimal digits
 //!
 //! With -p the definition is read in PROJ's reading. With -m the first record is then marked as of the crate's: a mixture, which is
-//! refused. With -d it is prepared in the documented mode. A number that is none is underlined in its step (not with -x).
+//! refused. With -d it is prepared in the documented mode. A number that is none is underlined in its step, and a step that the check
+//! names in the normalised definition (not with -x).
 //!
 //! examples/run builds it. `mod sakondreno` is what a Rust program needs of the library: the records and the calls, each in
 //! a safe wrapper. The calls keep no reference, write only to what they are lent, and end on every input.
@@ -24,6 +25,14 @@ mod sakondreno {
         Documented = 1,
     }
 
+    /// Where a step's text stands in the normalised definition: its first byte, and how many there are.
+    #[repr(C)]
+    #[derive(Clone, Copy, Default)]
+    pub struct Span {
+        pub from: u32,
+        pub length: u32,
+    }
+
     #[repr(C)]
     #[derive(Clone, Copy, Default)]
     pub struct Step {
@@ -34,6 +43,7 @@ mod sakondreno {
         pub omit_inv: u8,
         pub reading: u8,
         pub args: [i32; 8],
+        pub span: Span,
     }
 
     #[repr(C)]
@@ -60,6 +70,7 @@ mod sakondreno {
     #[repr(C)]
     pub struct Checked {
         pub said: Said,
+        pub span: Span,
         pub run: usize,
         pub depths: [usize; 64],
         pub deepest: usize,
@@ -84,6 +95,7 @@ mod sakondreno {
     }
 
     unsafe extern "C" {
+        fn sakondreno_definition(text: *const u8, length: usize, out: *mut u8, room: usize) -> Answer;
         fn sakondreno_split(text: *const u8, length: usize, out: *mut u8, room: usize) -> Answer;
         fn sakondreno_prepare(text: *const u8, length: usize, table: *mut Step, room: usize) -> Answer;
         fn sakondreno_prepare_as(text: *const u8, length: usize, reading: u8, mode: u8, table: *mut Step, room: usize) -> Answer;
@@ -98,6 +110,13 @@ mod sakondreno {
         }
         row.truncate(a.length);
         Ok(row)
+    }
+
+    /// A definition without its comments, in its normal form: the text in which spans are counted.
+    pub fn definition(text: &[u8]) -> Result<Vec<u8>, Refused> {
+        let mut out = vec![0; 65536];
+        let a = unsafe { sakondreno_definition(text.as_ptr(), text.len(), out.as_mut_ptr(), out.len()) };
+        answered(a, out)
     }
 
     /// The steps of a definition, each with a newline after it.
@@ -136,10 +155,18 @@ mod sakondreno {
     }
 }
 
-use sakondreno::{Mode, Reading, Refused, Step, check, run, split};
+use sakondreno::{Mode, Reading, Refused, Span, Step, check, definition, run, split};
 use std::io::{BufRead, Read, Write};
 
-fn say_check(out: &mut impl Write, direction: &str, table: &[Step], inverse: bool) -> std::io::Result<()> {
+/// The normalised definition, and a line under a step of it: an editor's underline.
+fn underline_step(out: &mut impl Write, text: &[u8], span: Span) -> std::io::Result<()> {
+    let Ok(form) = definition(text) else { return Ok(()) };
+    out.write_all(&form)?;
+    writeln!(out, "\n{}{}", " ".repeat(span.from as usize), "^".repeat(span.length as usize))
+}
+
+/// What the check says; the span of a step that it names.
+fn say_check(out: &mut impl Write, direction: &str, table: &[Step], inverse: bool) -> std::io::Result<Span> {
     let c = check(table, inverse);
     write!(out, "{direction}: ")?;
     match c.said.number {
@@ -149,11 +176,15 @@ fn say_check(out: &mut impl Write, direction: &str, table: &[Step], inverse: boo
                 let places: Vec<String> = c.places.iter().map(|p| format!("{}{}", if p.minus { "-" } else { "" }, p.axis)).collect();
                 write!(out, " places {}", places.join(","))?;
             }
-            writeln!(out)
+            writeln!(out)?
         }
-        18 => writeln!(out, "refused 18 {}", c.said.place),
-        n => writeln!(out, "step {} too {}", c.said.place, if n == 1 { "few" } else { "many" }),
+        18 => writeln!(out, "refused 18 {}", c.said.place)?,
+        n => {
+            let what = if n == 1 { "few" } else { "many" };
+            writeln!(out, "step {} too {what} at {}+{}", c.said.place, c.span.from, c.span.length)?
+        }
     }
+    Ok(c.span)
 }
 
 fn say_run(out: &mut impl Write, direction: &str, table: &[Step], inverse: bool) -> std::io::Result<()> {
@@ -207,8 +238,12 @@ fn say(out: &mut impl Write, text: &[u8], way: Way, underlined: bool) -> std::io
         table[0].reading = Reading::Crate as u8;
     }
     writeln!(out, "steps {}", table.len())?;
-    say_check(out, "check forward", &table, false)?;
-    say_check(out, "check inverse", &table, true)?;
+    for (direction, inverse) in [("check forward", false), ("check inverse", true)] {
+        let span = say_check(out, direction, &table, inverse)?;
+        if underlined && span.length > 0 {
+            underline_step(out, text, span)?;
+        }
+    }
     say_run(out, "run forward", &table, false)?;
     say_run(out, "run inverse", &table, true)
 }

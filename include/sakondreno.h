@@ -16,6 +16,10 @@
  * parameters: words one space apart, leading modifiers turned to the end. To have it, take the step's line from
  * `sakondreno_split` and split that line once more, since a step is normalised again when it is cut.
  *
+ * SPANS. A step record says where the step's text stands in the normalised definition: its first byte, counted from 0, and how
+ * many there are, modifiers in front included. A check that names a step gives its span, for an editor to underline. The
+ * normalised definition is what `sakondreno_definition` answers; `sakondreno_next` finds its steps at the same places.
+ *
  * TEXTS are bytes, without a zero at the end: ASCII and the ten subscript digits, at most 4,096 bytes.
  */
 #ifndef SAKONDRENO_H
@@ -48,8 +52,8 @@ enum {
     SAKONDRENO_LIST = 15,      /* run: the list's length is no multiple of 4, or it has over 65,536 tuples */
     SAKONDRENO_DEPTH = 16,     /* run: more than 64 columns after the step */
     SAKONDRENO_STORE = 17,     /* run: the store is shorter than the deepest depth times the tuples */
-    SAKONDRENO_RECORD = 18     /* check, run: a record that no preparation makes, or of another reading than the first;
-                                * at 0: over 64 records */
+    SAKONDRENO_RECORD = 18     /* check, run: a record that no preparation makes, or of another reading than the first, or whose
+                                * span is empty, ends past byte 40,960 or begins before the last one ends; at 0: over 64 records */
 };
 
 /* ---- step records */
@@ -91,9 +95,17 @@ enum {
                                     * 1,2,3,4 becomes -2,1,3,4. Inverse undoes forward, but for rounding where a unit changes. */
 };
 
+/* Where a step's text stands in the normalised definition. */
+typedef struct {
+    uint32_t from;   /* its first byte, counted from 0 */
+    uint32_t length; /* how many bytes it has */
+} sakondreno_span;
+
 /* A step. `sakondreno_prepare` makes it; a record made otherwise is refused 18 unless preparing could have made it: slots of
  * args that are not used hold 0, marks are 0 or 1, and all records of a table have one reading. The mode of an `adapt` step is
- * in its operator's number, and a table may hold both. 40 bytes. */
+ * in its operator's number, and a table may hold both. Of spans no more is asked than that each has a byte, none passes byte
+ * 40,960, and none begins before the last one ends. What a check or a run does with a table does not depend on them, but for the
+ * span that the check gives back. 48 bytes. */
 typedef struct {
     uint8_t operator_; /* by its number */
     uint8_t n;         /* how many of args are used */
@@ -102,6 +114,7 @@ typedef struct {
     uint8_t omit_inv;
     uint8_t reading;   /* by its number */
     int32_t args[8];
+    sakondreno_span span;
 } sakondreno_step;
 
 /* ---- texts: each call reads `text` and writes its answer to the front of `out` */
@@ -113,8 +126,10 @@ typedef struct {
     size_t offset;  /* of refusal 12, which is preparing's: the byte of the step's text at which the fault is; else 0 */
 } sakondreno_answer;
 
-/* The definition in its normal form. */
+/* A text in its normal form. */
 sakondreno_answer sakondreno_normalise(const uint8_t *text, size_t length, uint8_t *out, size_t room);
+/* A definition without its comments, in its normal form: the text in which spans are counted. */
+sakondreno_answer sakondreno_definition(const uint8_t *text, size_t length, uint8_t *out, size_t room);
 /* Its steps, each with a newline after it. */
 sakondreno_answer sakondreno_split(const uint8_t *text, size_t length, uint8_t *out, size_t room);
 /* The parameters of one step, each as key=value with a newline after it, in byte order. */
@@ -153,6 +168,7 @@ typedef struct {
         uint8_t number; /* 0: passes. 1: the step at `place` finds too few columns. 2: it leaves too many. 18: refused */
         size_t place;
     } said;
+    sakondreno_span span; /* of the step at `place`, where it finds too few columns or leaves too many; else 0 and 0 */
     /* of a pass; else all of this is 0 */
     size_t run;                 /* how many steps run */
     size_t depths[64];          /* how many columns there are after each of them, in running order */

@@ -69,6 +69,9 @@ fn asked_text(word: &[u8]) -> Request {
     if is_same(word, b"translate") {
         return Request::Text(TextCall::Translate);
     }
+    if is_same(word, b"definition") {
+        return Request::Text(TextCall::Definition);
+    }
     if is_same(word, b"steps") {
         return Request::Steps;
     }

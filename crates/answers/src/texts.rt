@@ -10,6 +10,7 @@ use answers_say::say_ok;
 use answers_say::say_what;
 use answers_wire::Natural;
 use answers_wire::Text;
+use normalise::definition;
 use normalise::normalise;
 use parameters::parameters;
 use proj::translate;
@@ -24,6 +25,7 @@ pub enum TextCall {
     Split,
     Parameters,
     Translate,
+    Definition,
 }
 
 // Makes the call that was asked for.
@@ -33,6 +35,7 @@ fn call(which: TextCall, text: &[u8], lent: &mut [u8]) -> Written {
         TextCall::Split => split(text, lent),
         TextCall::Parameters => parameters(text, lent),
         TextCall::Translate => translate(text, lent),
+        TextCall::Definition => definition(text, lent),
     }
 }
 

@@ -1,5 +1,6 @@
 // What a check foretells.
 use crate::records::MOST_STEPS;
+use crate::records::say_span;
 use answers_say::end_line;
 use answers_say::say;
 use answers_say::say_byte;
@@ -11,8 +12,10 @@ use answers_say::say_sizes;
 use answers_say::say_two;
 use rules::Foretold;
 use rules::Place;
+use rules::Span;
 use rules::Verdict;
 ghost use Prim.Native.Nat.{_≤_};
+ghost use lib.ListN.{length};
 
 // The line of a check.
 pub fn say_foretold(f: Foretold, kept: bool, out: &mut [u8; 65536], at: usize) -> usize
@@ -28,24 +31,24 @@ fn say_verdict(f: Foretold, out: &mut [u8; 65536], at: usize) -> usize
     ensures { λ r. ⌜ r ≤ 65536 ⌝ }
 {
     let verdict = f.verdict;
+    let span = f.span;
     match verdict {
         Verdict::Passes => say_pass(f, out, at),
-        Verdict::TooFew(step) => say_fault(step, true, out, at),
-        Verdict::TooMany(step) => say_fault(step, false, out, at),
+        Verdict::TooFew(step) => say_fault(step, b" few ", span, out, at),
+        Verdict::TooMany(step) => say_fault(step, b" many ", span, out, at),
         Verdict::Refused { number, place } => say_refused(number, place, out, at),
     }
 }
 
-// `fails STEP`, and of what: too few columns, or too many.
-fn say_fault(step: usize, few: bool, out: &mut [u8; 65536], at: usize) -> usize
+// `fails STEP`, of what (too few columns, or too many), and where the step stands.
+fn say_fault(step: usize, what: &[u8], span: Span, out: &mut [u8; 65536], at: usize) -> usize
     requires { ⌜ at ≤ 65536 ⌝ }
+    requires { ⌜ length (now what) ≤ 64 ⌝ }
     ensures { λ r. ⌜ r ≤ 65536 ⌝ }
 {
     let numbered = say_counted(b"fails ", step, out, at);
-    if few {
-        return say(b" few", out, numbered);
-    }
-    say(b" many", out, numbered)
+    let faulty = say(what, out, numbered);
+    say_span(span, out, faulty)
 }
 
 // `passes DEEPEST LEFT PLACES DEPTHS`.

@@ -1,9 +1,10 @@
-// A table that is lent, and its records, said as `NAME:MARKS:ARGS`.
+// A table that is lent, and its records, said as `NAME:MARKS:ARGS@FROM+LENGTH`.
 use answers_say::end_line;
 use answers_say::say;
 use answers_say::say_byte;
 use answers_say::say_comma;
 use answers_say::say_counted;
+use answers_say::say_number;
 use answers_say::say_numbers;
 use answers_say::say_signed;
 use answers_say::say_sizes;
@@ -23,6 +24,7 @@ use rules::STACK_PUSH;
 use rules::STACK_ROLL;
 use rules::STACK_SWAP;
 use rules::STACK_UNROLL;
+use rules::Span;
 use rules::Step;
 use rules::Table;
 ghost use Prim.Native.Nat.{_≤_};
@@ -35,10 +37,16 @@ const BYTE: u8 = 0xaa;
 
 const ARG: i32 = -1431655766;
 
+const PLACE: u32 = 0xaaaaaaaa;
+
 // ---- the lent table
 
 fn untouched_step() -> Step {
     let args = [ARG; 8];
+    let span = Span {
+        from: PLACE,
+        length: PLACE,
+    };
     Step {
         operator: BYTE,
         n: BYTE,
@@ -47,6 +55,7 @@ fn untouched_step() -> Step {
         omit_inv: BYTE,
         reading: BYTE,
         args: args,
+        span: span,
     }
 }
 
@@ -62,6 +71,10 @@ fn is_untouched_step(s: Step) -> bool {
         return false;
     }
     if (s.inv ^ BYTE) | (s.omit_fwd ^ BYTE) | (s.omit_inv ^ BYTE) != 0 {
+        return false;
+    }
+    let span = s.span;
+    if (span.from ^ PLACE) | (span.length ^ PLACE) != 0 {
         return false;
     }
     let args = s.args;
@@ -227,7 +240,17 @@ fn say_args(operator: u8, args: [i32; 8], n: usize, out: &mut [u8; 65536], at: u
     say_list(&args[0..n], out, at)
 }
 
-// RECORD: the name, the marks and the arguments, with colons between.
+// `FROM+LENGTH`: where a step's text stands.
+pub fn say_span(p: Span, out: &mut [u8; 65536], at: usize) -> usize
+    requires { ⌜ at ≤ 65536 ⌝ }
+    ensures { λ r. ⌜ r ≤ 65536 ⌝ }
+{
+    let begun = say_number(p.from as usize, out, at);
+    let parted = say_byte(b'+', out, begun);
+    say_number(p.length as usize, out, parted)
+}
+
+// RECORD: the name, the marks and the arguments, with colons between, and the span behind an `@`.
 fn say_record(s: Step, out: &mut [u8; 65536], at: usize) -> usize
     requires { ⌜ at ≤ 65536 ⌝ }
     ensures { λ r. ⌜ r ≤ 65536 ⌝ }
@@ -237,7 +260,10 @@ fn say_record(s: Step, out: &mut [u8; 65536], at: usize) -> usize
     let marked = say_marks(s.inv, s.omit_fwd, s.omit_inv, s.reading, out, parted);
     let again = say_byte(b':', out, marked);
     let args = s.args;
-    say_args(s.operator, args, s.n as usize, out, again)
+    let given = say_args(s.operator, args, s.n as usize, out, again);
+    let span = s.span;
+    let placed = say_byte(b'@', out, given);
+    say_span(span, out, placed)
 }
 
 // The first n records, each behind a space.

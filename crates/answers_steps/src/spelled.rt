@@ -1,14 +1,16 @@
-// ROWS: step records as a caller would lend them, whatever is in them. They are joined by `;`, and each is fourteen whole
-// numbers joined by commas: operator, n, inv, omit_fwd, omit_inv, the eight arguments, the reading.
+// ROWS: step records as a caller would lend them, whatever is in them. They are joined by `;`, and each is sixteen whole
+// numbers joined by commas: operator, n, inv, omit_fwd, omit_inv, the eight arguments, the reading, the span's first byte and length.
 use crate::records::MOST_STEPS;
 use crate::records::untouched;
 use answers_wire::Natural;
 use answers_wire::Whole;
 use answers_wire::part;
 use answers_wire::parts;
+use answers_wire::read_unsigned;
 use answers_wire::read_whole;
 use numbers::is_minus;
 use numbers::size_of;
+use rules::Span;
 use rules::Step;
 use rules::Table;
 use text::is_same;
@@ -33,8 +35,12 @@ const LAST_ARG: usize = 12;
 
 const READING: usize = 13;
 
+const FROM: usize = 14;
+
+const LENGTH: usize = 15;
+
 // How many there are.
-const EACH: usize = 14;
+const EACH: usize = 16;
 
 // The greatest byte.
 const MOST_BYTE: usize = 255;
@@ -75,10 +81,24 @@ fn is_row(row: &[u8]) -> bool {
     true
 }
 
-// Is number k one that its field holds? An argument holds each whole number, a byte those from 0 to 255; of n, each from 0 on is
-// taken.
+// Is number k one that its field holds? Those of a span hold each number without a sign.
 fn is_held(row: &[u8], k: usize) -> bool {
-    let Whole::Is(x) = read_whole(part(row, b',', k)) else {
+    match k {
+        FROM..=LENGTH => is_unsigned(part(row, b',', k)),
+        _ => is_whole(part(row, b',', k), k),
+    }
+}
+
+fn is_unsigned(spelt: &[u8]) -> bool {
+    match read_unsigned(spelt) {
+        Natural::Is(_) => true,
+        Natural::Not => false,
+    }
+}
+
+// Of the others an argument holds each whole number, a byte those from 0 to 255; of n, each from 0 on is taken.
+fn is_whole(spelt: &[u8], k: usize) -> bool {
+    let Whole::Is(x) = read_whole(spelt) else {
         return false;
     };
     match k {
@@ -119,6 +139,7 @@ fn table_of(steps: [Step; 64], n: usize) -> Table {
 // A record.
 fn read_row(row: &[u8]) -> Step {
     let args = read_args(row);
+    let span = read_span(row);
     Step {
         operator: byte(row, OPERATOR),
         n: byte(row, N),
@@ -127,6 +148,14 @@ fn read_row(row: &[u8]) -> Step {
         omit_inv: byte(row, OMIT_INV),
         reading: byte(row, READING),
         args: args,
+        span: span,
+    }
+}
+
+fn read_span(row: &[u8]) -> Span {
+    Span {
+        from: unsigned(row, FROM),
+        length: unsigned(row, LENGTH),
     }
 }
 
@@ -146,6 +175,14 @@ fn whole(row: &[u8], k: usize) -> i32 {
         return 0;
     };
     x
+}
+
+// Number k of a record without a sign; 0 where it spells none.
+fn unsigned(row: &[u8], k: usize) -> u32 {
+    let Natural::Is(n) = read_unsigned(part(row, b',', k)) else {
+        return 0;
+    };
+    n as u32
 }
 
 // Number k of a record as a byte. An n that is over the greatest byte is lent as that one: a record has room for eight

@@ -30,4 +30,5 @@ pub use read::read_natural;
 pub use read::read_text;
 pub use read::read_text_of;
 pub use whole::Whole;
+pub use whole::read_unsigned;
 pub use whole::read_whole;

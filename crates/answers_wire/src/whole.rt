@@ -1,5 +1,6 @@
-// Whole numbers with their signs, as a record's fields hold them.
+// Whole numbers of 32 bits, as a record's fields hold them.
 ghost use Prim.Native.Nat.{_≤_};
+ghost use Rattle.answers_wire.specs.Bounds.{upTo};
 use crate::read::Natural;
 use crate::read::read_digits;
 
@@ -9,6 +10,9 @@ const MOST_DIGITS: usize = 10;
 const GREATEST: usize = 2147483647;
 
 const LEAST: usize = 2147483648;
+
+// The greatest of the numbers without a sign.
+const WIDEST: usize = 4294967295;
 
 pub enum Whole {
     Is(i32),
@@ -24,6 +28,19 @@ pub fn read_whole(s: &[u8]) -> Whole {
         return below_zero(&s[1..]);
     }
     from_zero(s)
+}
+
+// A number of 32 bits without a sign: one to ten decimal digits. A `-` may stand before zero.
+pub fn read_unsigned(s: &[u8]) -> Natural
+    ensures { λ r. ⌜ upTo 4294967295 r ⌝ }
+{
+    if s.len() == 0 {
+        return Natural::Not;
+    }
+    if s[0] == b'-' {
+        return read_digits(&s[1..], MOST_DIGITS, 0);
+    }
+    read_digits(s, MOST_DIGITS, WIDEST)
 }
 
 // The number that the digits spell.

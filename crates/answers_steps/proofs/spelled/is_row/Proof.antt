@@ -5,10 +5,10 @@ use Rattle.answers_steps.proofs.spelled.is_row.Statement.{statement}
 use Rattle.answers_steps.proofs.spelled.is_row.Tie as tie
 
 abbrev Inv-loop : tie.InvT-loop
-Inv-loop row k₀ k = k ≤ 14
+Inv-loop row k₀ k = k ≤ 16
 
 abbrev μ-loop : tie.MeasureT-loop
-μ-loop row k₀ k = 14 - k
+μ-loop row k₀ k = 16 - k
 
 parts-requires : tie.Need-parts-requires Inv-loop μ-loop
 parts-requires c κs = search needs
