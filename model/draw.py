@@ -10,9 +10,10 @@ import sys
 
 from model import (
     ADAPT, AXES_STEPS, AXISSWAP, CODES, CRATE, CRATE_MODE, DOCUMENTED, DOCUMENTED_MODE, FIELDS, FWD,
-    INV, MOST_BYTES, MOST_DEPTH, MOST_SIZE, POP, PROJ, PUSH, STACK_DROP, STACK_FLIP, STACK_POP,
-    STACK_PUSH, STACK_ROLL, STACK_SWAP, STACK_UNROLL, TEXT_CALLS, WAYS, act, columns_wanted,
-    depth_after, new_step, prepare, records_refusal, refuses, run_depths, running, sign, used)
+    INV, MOST_BYTE, MOST_BYTES, MOST_DEPTH, MOST_SIZE, POP, PROJ, PUSH, STACK_DROP, STACK_FLIP, STACK_POP,
+    STACK_PUSH, STACK_ROLL, STACK_SWAP, STACK_UNROLL, TEXT_CALLS, WAYS, Span, act, columns_wanted,
+    depth_after, new_step, prepare, records_refusal, refuses, run_depths, running, sign, span_end,
+    used)
 
 # ----- Texts of the syntax's own pieces --------------------------------------
 
@@ -318,6 +319,42 @@ def good_table(rng, direction):
     return omitted_table(rng) if kind < 0.97 else long_table(rng)[:64]
 
 
+# ----- Spans -----------------------------------------------------------------
+
+def in_turn(rng, steps, gap=20):
+    """The records with spans that rise: some begin where the last one ends."""
+    spanned, at = [], 0
+    for step in steps:
+        span = Span(at + rng.choice((0, 1, 1, rng.randint(0, gap))), rng.randint(1, 30))
+        spanned.append(step._replace(span=span))
+        at = span_end(span)
+    return spanned
+
+
+def other_span(rng, span, last):
+    """A span in the place of this one, behind another: good, or bad for one reason or for more."""
+    start = rng.choice((0, span_end(last) - 1, span_end(last), span.start, MOST_BYTE - span.length,
+                        MOST_BYTE - 1, MOST_BYTE, MOST_SIZE, 2**32 - 1))
+    length = rng.choice((0, 0, 1, span.length, MOST_BYTE - span.start, MOST_BYTE - span.start + 1,
+                         MOST_SIZE, 2**32 - 1, 2**32 - span.start))
+    return rng.choice((Span(max(start, 0), span.length), span._replace(length=min(length, 2**32 - 1)),
+                       Span(max(start, 0), min(length, 2**32 - 1)), last))
+
+
+def misplaced(rng, steps):
+    """One span made another, good or not."""
+    at = rng.randrange(len(steps))
+    last = steps[at - 1].span if at else Span(0, 0)
+    span = other_span(rng, steps[at].span, last)
+    return steps[:at] + [steps[at]._replace(span=span)] + steps[at + 1:]
+
+
+def spanned(rng, steps):
+    """A table with spans, most of them good."""
+    steps = in_turn(rng, steps, rng.choice((20, 20, 600)))
+    return misplaced(rng, steps) if steps and rng.random() < 0.2 else steps
+
+
 # ----- The two readings ------------------------------------------------------
 
 UNDOING = {PUSH: POP, POP: PUSH, STACK_PUSH: STACK_POP, STACK_POP: STACK_PUSH,
@@ -388,12 +425,12 @@ def lent_table(rng, direction):
     """No record, or 63 to 71."""
     if rng.random() < 0.3:
         return []
-    return [rng.choice(long_table(rng))] * rng.randint(63, 71)
+    return spanned(rng, [rng.choice(long_table(rng))] * rng.randint(63, 71))
 
 
 def table(rng, direction):
-    """Any table of either reading, in either mode or of both: also over 64 records, also damaged or
-    of mixed readings."""
+    """Any table of either reading, in either mode or of both: also over 64 records, also damaged, of
+    mixed readings or with bad spans."""
     steps = long_table(rng) if rng.random() < 0.03 else good_table(rng, direction)
     reading = rng.choice((CRATE, PROJ))
     steps = adapting(rng, reading, in_reading(rng, reading, steps))
@@ -403,7 +440,7 @@ def table(rng, direction):
         steps[at] = damaged(rng, steps[at])
     elif rng.random() < 0.1:
         steps = mixed(rng, steps)
-    return steps
+    return spanned(rng, steps)
 
 
 # ----- The text of a record --------------------------------------------------
@@ -891,11 +928,29 @@ def run_request(rng):
 
 
 # Numbers at the edge of what a field holds
-EDGES = [-2**31 - 1, -2**31, -1, 255, 256, 2**31 - 1, 2**31]
+EDGES = [-2**31 - 1, -2**31, -1, 255, 256, 2**31 - 1, 2**31, 2**32 - 1, 2**32]
 
 
 def row_numbers(step):
-    return [*step[:5], *step.args, step.reading]
+    return [*step[:5], *step.args, step.reading, *step.span]
+
+
+# Requests of before request 4 lend rows of fourteen numbers, which tell no span
+ROWS_FIELD = {"rows-write": 1, "rows-check": 2, "rows-run": 3}
+
+
+def placed_rows(rows):
+    """Each row of fourteen numbers with a span, in turn; what else there is stays."""
+    return ";".join(row + ",%d,%d" % (20 * at, 11 + at % 10) if row.count(",") == 13 else row
+                    for at, row in enumerate(rows.split(";")))
+
+
+def placed(line):
+    """The request, its rows with spans."""
+    fields = line.split(" ")
+    at = ROWS_FIELD.get(fields[0], len(fields))
+    fields[at:at + 1] = map(placed_rows, fields[at:at + 1])
+    return " ".join(fields)
 
 
 def edged(rng, rows):

@@ -1,4 +1,4 @@
-"""A model of the rules of document 01, and of requests 1 to 3 of document 02, in plain Python.
+"""A model of the rules of document 01, and of requests 1 to 4 of document 02, in plain Python.
 
 The words of the papers stand in quotes above the function that carries them.
 Texts are bytes. A call answers, or returns Refused(number, place, offset). Run as a
@@ -18,6 +18,7 @@ MOST_ARGUMENTS = 8
 MOST_DEPTH = 64
 MOST_TUPLES = 65536
 MOST_SIZE = 999_999_999  # "1 to 9 digits"
+MOST_BYTE = 40_960  # what no span passes
 
 
 # "A refusal returns its number and a place"; "Refusals: 12 gains the offset."
@@ -114,13 +115,26 @@ def turned(words):
     return None if words else []
 
 
-# "Splitting strips comments, normalises, cuts at `|`, drops empty steps and turns
-# leading modifiers to the end."; "Splitting tries 6, then 8"
+# "Splitting strips comments, normalises, cuts at `|`"
+def normalised_definition(t):
+    return normal(without_comments(t))
+
+
+def step_pieces(t):
+    return normalised_definition(t).split(b"|")
+
+
+# docs/DECISIONS.md, 80: the call that gives the text in which spans are counted
+def definition(t):
+    return text_refusal(t) or normalised_definition(t)
+
+
+# "drops empty steps and turns leading modifiers to the end."; "Splitting tries 6, then 8"
 def step_texts(t):
     refusal = text_refusal(t)
     if refusal:
         return refusal
-    pieces = (piece.split() for piece in normal(without_comments(t)).split(b"|"))
+    pieces = (piece.split() for piece in step_pieces(t))
     steps = []
     for words in filter(None, pieces):
         words = turned(words)
@@ -128,6 +142,27 @@ def step_texts(t):
             return Refused(6, len(steps) + 1)
         steps.append(b" ".join(words))
     return Refused(8, 0) if len(steps) > MOST_STEPS else steps
+
+
+class Span(NamedTuple):
+    start: int
+    length: int
+
+
+NO_SPAN = Span(0, 0)
+
+
+# "the first byte and length of its text in the normalised definition, taken before leading modifiers
+# are turned to the end": of "the piece between two separators .., outer white space aside"
+def step_spans(t):
+    """One for each step that splitting finds."""
+    spans, at = [], 0
+    for piece in step_pieces(t):
+        inner = piece.strip()
+        if inner:
+            spans.append(Span(at + piece.index(inner), len(inner)))
+        at += len(piece + b"|")
+    return spans
 
 
 # "Steps, and parameters as `key=value`, are written each with a newline after it."
@@ -335,7 +370,8 @@ CRATE, PROJ = range(2)
 CRATE_MODE, DOCUMENTED_MODE = range(2)
 
 
-# "A step record carries up to eight arguments in place"; "Records name their reading."
+# "A step record carries up to eight arguments in place"; "Records name their reading."; "Each step
+# record gains the first byte and length of its text"
 class Step(NamedTuple):
     operator: int
     n: int       # how many arguments are used
@@ -344,11 +380,12 @@ class Step(NamedTuple):
     omit_inv: int
     reading: int
     args: tuple  # eight whole numbers, unused ones 0
+    span: Span = NO_SPAN
 
 
-def new_step(operator, args, inv=0, omit_fwd=0, omit_inv=0, reading=CRATE):
+def new_step(operator, args, inv=0, omit_fwd=0, omit_inv=0, reading=CRATE, span=NO_SPAN):
     filled = tuple(args) + (0,) * (MOST_ARGUMENTS - len(args))
-    return Step(operator, len(args), inv, omit_fwd, omit_inv, reading, filled)
+    return Step(operator, len(args), inv, omit_fwd, omit_inv, reading, filled, span)
 
 
 def used(step):
@@ -608,11 +645,11 @@ def prepare(t, reading=CRATE, mode=CRATE_MODE):
     if refuses(texts):
         return texts
     steps = []
-    for place, text in enumerate(texts, 1):
+    for place, (text, span) in enumerate(zip(texts, step_spans(t), strict=True), 1):
         step = prepare_step(text, mode, place)
         if refuses(step):
             return step
-        steps.append(step._replace(reading=reading))
+        steps.append(step._replace(reading=reading, span=span))
     return steps
 
 
@@ -662,16 +699,29 @@ def made(step):
             and MADE[step.operator](used(step)))
 
 
-# "18 is 0 for over 64 records, else the first bad record."
+def span_end(span):
+    return span.start + span.length
+
+
+# "18 also names the first record whose span is empty, passes byte 40,960 or starts before the last
+# one ends; nothing else of spans is judged"
+def bad_span(span, last):
+    return span.length == 0 or span_end(span) > MOST_BYTE or span.start < span_end(last)
+
+
+# "18 is 0 for over 64 records, else the first bad record.": "the first record that is bad for any
+# reason"
 # "18 at a record whose reading is not the first's"; of modes: "Tables that mix both are accepted,
 # each step in its own mode"
 def records_refusal(steps):
     """None for none."""
     if len(steps) > MOST_STEPS:
         return Refused(18, 0)
+    last = NO_SPAN
     for place, step in enumerate(steps, 1):
-        if not made(step) or step.reading != steps[0].reading:
+        if not made(step) or step.reading != steps[0].reading or bad_span(step.span, last):
             return Refused(18, place)
+        last = step.span
     return None
 
 
@@ -816,10 +866,11 @@ class Passes(NamedTuple):
     places: Optional[list]
 
 
-# "or step and too few or too many"
+# "or step and too few or too many"; "the check returns the span with its step"
 class Fails(NamedTuple):
     step: int
     few: bool
+    span: Span
 
 
 def check(direction, steps):
@@ -830,9 +881,9 @@ def check(direction, steps):
     for place, step in running(direction, steps):
         name, args = act(direction, step)
         if columns_wanted(name, args) > len(columns):
-            return Fails(place, True)
+            return Fails(place, True, step.span)
         if depth_after(name, args, len(columns)) > MOST_DEPTH:
-            return Fails(place, False)
+            return Fails(place, False, step.span)
         if name in REARRANGE:
             REARRANGE[name](axes, columns, args)
         elif step.operator == AXISSWAP:
@@ -1073,13 +1124,13 @@ def read_numbers(field):
 
 
 # ROWS: "joined by `;`, `-` for none, up to 70"; "numbers joined by commas: operator, n, inv,
-# omit_fwd, omit_inv, the eight arguments, the reading"; "A number that its field cannot hold is
-# `what`."
+# omit_fwd, omit_inv, the eight arguments, the reading .., the span's first byte and length"; "A
+# number that its field cannot hold is `what`."
 MOST_ROWS = 70
-# What a field holds: a byte, an i32. Of n any number up to the greatest i32 is taken: the request's
-# vectors have 999,999,999 there, and want 18.
-BYTE, COUNT, WHOLE = (0, 255), (0, 2**31 - 1), (-2**31, 2**31 - 1)
-FIELDS = [BYTE, COUNT, BYTE, BYTE, BYTE] + [WHOLE] * MOST_ARGUMENTS + [BYTE]
+# What a field holds: a byte, an i32, a u32. Of n any number up to the greatest i32 is taken: the
+# request's vectors have 999,999,999 there, and want 18.
+BYTE, COUNT, WHOLE, PLACED = (0, 255), (0, 2**31 - 1), (-2**31, 2**31 - 1), (0, 2**32 - 1)
+FIELDS = [BYTE, COUNT, BYTE, BYTE, BYTE] + [WHOLE] * MOST_ARGUMENTS + [BYTE, PLACED, PLACED]
 ROW_NUMBER = re.compile(r"-?[0-9]{1,10}")
 
 
@@ -1094,7 +1145,8 @@ def read_row(field):
     if len(pieces) != len(FIELDS):
         raise What
     numbers = [read_row_number(piece, *bounds) for piece, bounds in zip(pieces, FIELDS)]
-    return Step(*numbers[:5], reading=numbers[-1], args=tuple(numbers[5:-1]))
+    args, (reading, *span) = tuple(numbers[5:-3]), numbers[-3:]
+    return Step(*numbers[:5], reading, args, Span(*span))
 
 
 def read_rows(field):
@@ -1127,11 +1179,16 @@ def show_args(step):
     return joined(map(abs, step.args[:4])) + "," + show_numbers(multipliers(step.args))
 
 
-# RECORD: "`NAME:MARKS:ARGS`, no spaces"
+def show_span(span):
+    return "%d+%d" % span
+
+
+# RECORD: "`NAME:MARKS:ARGS`, no spaces"; "`@FROM+LENGTH` stands behind ARGS"
 # "MARKS has a `p` behind `i`, `f`, `o` where the record's reading is PROJ's"
 def show_record(step):
     marks = "i" * step.inv + "f" * step.omit_fwd + "o" * step.omit_inv + "p" * step.reading
-    return "%s:%s:%s" % (NAMES[step.operator], marks or "-", show_args(step))
+    parts = NAMES[step.operator], marks or "-", show_args(step)
+    return ":".join(parts) + "@" + show_span(step.span)
 
 
 def answer_text(call, room, text):
@@ -1148,9 +1205,11 @@ def answer_prepare(way, room, text):
     return " ".join(["ok", str(len(steps))] + list(map(show_record, steps)))
 
 
+# "`fails STEP few FROM+LENGTH`, and `many` alike"
 def show_check(answer):
     if isinstance(answer, Fails):
-        return "fails %d %s" % (answer.step, "few" if answer.few else "many")
+        few = "few" if answer.few else "many"
+        return "fails %d %s %s" % (answer.step, few, show_span(answer.span))
     places = "-" if answer.places is None else joined(answer.places)
     depths = joined(answer.depths) or "-"
     return "passes %d %d %s %s" % (answer.deepest, answer.left, places, depths)
@@ -1244,7 +1303,7 @@ def answer_steps(text):
 
 
 TEXT_CALLS = {"normalise": normalise, "split": split, "parameters": parameters,
-              "translate": translate}
+              "translate": translate, "definition": definition}
 # The requests on a step table: of a TEXT that is prepared, or of ROWS
 TABLE_CALLS = {"check": (answer_check, 2), "run": (answer_run, 4), "write": (answer_write, 1)}
 

@@ -1,4 +1,4 @@
-"""The examples of document 01 (P1 to P13, "Also", `steps`), of requests 1 to 3 of document 02, and
+"""The examples of document 01 (P1 to P13, "Also", `steps`), of requests 1 to 4 of document 02, and
 of their open points, under their numbers, held against the model; then laws that drawn inputs must
 keep."""
 
@@ -8,13 +8,14 @@ import random
 import sys
 
 import draw
+import model
 from model import (
     ADAPT, AXES_STEPS, AXISSWAP, CODES, CRATE, CRATE_MODE, DOCUMENTED, DOCUMENTED_MODE, FWD, INV,
-    POP, PROJ, PUSH, STACK_DROP, STACK_FLIP, STACK_POP, STACK_PUSH, STACK_ROLL, STACK_SWAP,
-    STACK_UNROLL, WAYS, Fails, Passes, Ran, Refused, act, angle_code, answer, check, columns_wanted,
-    documented_args, made, made_documented, multipliers, new_step, normal, normalise, parameters,
-    prepare, prepare_step, read_rows, refuses, run, run_depths, running, show_number, split,
-    steps_output, translate, used, within, write)
+    NO_SPAN, POP, PROJ, PUSH, STACK_DROP, STACK_FLIP, STACK_POP, STACK_PUSH, STACK_ROLL, STACK_SWAP,
+    STACK_UNROLL, WAYS, Fails, Passes, Ran, Refused, Span, act, angle_code, answer, columns_wanted,
+    definition, documented_args, made, made_documented, multipliers, new_step, normal, normalise, parameters,
+    prepare_step, read_rows, refuses, run_depths, running, show_number, span_end, split, step_pieces,
+    step_spans, steps_output, translate, used, within)
 
 COUNTS = {"passed": 0, "failed": 0}
 
@@ -28,6 +29,35 @@ def same(label, got, want):
 
 def holds(label, condition):
     same(label, bool(condition), True)
+
+
+# ----- Spans aside: what requests 1 to 3 and document 01 say ------------------
+
+def laid(steps):
+    """Records, each with a span in its turn."""
+    return [step._replace(span=Span(10 * at, 10)) for at, step in enumerate(steps)]
+
+
+def spanless(answer):
+    if isinstance(answer, list):
+        return [step._replace(span=NO_SPAN) for step in answer]
+    return answer._replace(span=NO_SPAN) if isinstance(answer, Fails) else answer
+
+
+def prepare(definition, reading=CRATE, mode=CRATE_MODE):
+    return spanless(model.prepare(definition, reading, mode))
+
+
+def check(direction, steps):
+    return spanless(model.check(direction, laid(steps)))
+
+
+def run(direction, steps, numbers, store):
+    return model.run(direction, laid(steps), numbers, store)
+
+
+def write(steps):
+    return model.write(laid(steps))
 
 
 def ran(direction, definition, numbers, store=100):
@@ -69,7 +99,7 @@ def examples():
     same("P11 inverse", ran(INV, b"axisswap order=2,-1", [2, -1, 3, 4]).numbers, ONE)
     same("P12", ran(FWD, b"push v_1 v_2 v_3 | stack roll=3,2", ONE, 3).store, [2, 3, 1])
     same("P12 negative", ran(FWD, b"push v_1 v_2 v_3 | stack roll=3,-2", ONE, 3).store, [3, 1, 2])
-    same("P13", checked(FWD, b"pop inv v_3 | push inv v_3"), Fails(1, True))
+    same("P13", checked(FWD, b"pop inv v_3 | push inv v_3"), Fails(1, True, NO_SPAN))
 
 
 def also():
@@ -86,7 +116,7 @@ def also():
     deep = b"|".join([b"stack push=1,2,3,4,1,2,3,4"] * 8)
     same("depth 64", checked(FWD, deep).deepest, 64)
     same("depth 64 runs", ran(FWD, deep, ONE).left, 64)
-    same("depth 65", checked(FWD, deep + b"|push v_1"), Fails(9, False))
+    same("depth 65", checked(FWD, deep + b"|push v_1"), Fails(9, False, NO_SPAN))
     same("depth 65 runs", ran(FWD, deep + b"|push v_1", ONE), Refused(16, 9))
     same("nwuf", ran(FWD, b"adapt from=nwuf", ONE).numbers, [2, -1, 3, 4])
 
@@ -205,11 +235,11 @@ def points_of_steps():
     same("13 pop", (taken.count, taken.left, bits(taken.numbers)),
          (0, 0, bits([1.0, 2.0, math.nan, 4.0])))
     starving = b"|".join([b"stack push=1,1,1,1,1,1,1,1"] * 8) + b"|stack roll=65,1|push v_1"
-    same("13 check", checked(FWD, starving), Fails(9, True))
+    same("13 check", checked(FWD, starving), Fails(9, True, NO_SPAN))
     same("13 run", ran(FWD, starving, ONE), Refused(16, 10))
     same("14", checked(FWD, b"adapt"), Passes([0], 0, 0, None))
     same("14 omitted", checked(FWD, b"adapt omit_fwd"), Passes([], 0, 0, ONE))
-    same("15", checked(INV, b"push v_1 | axisswap"), Fails(1, True))
+    same("15", checked(INV, b"push v_1 | axisswap"), Fails(1, True, NO_SPAN))
     counting = (b"push v_1|stack swap", b"stack swap", b"stack drop")
     same("17", [ran(FWD, text, ONE * 2).count for text in counting], [2, 0, 0])
     same("17 none", ran(FWD, b"push v_1", []), Ran(0, 1, [], [-7.0] * 100))
@@ -255,8 +285,8 @@ def the_pair():
     same("R1 pair inverse", check(INV, steps), Passes([1, 0], 1, 0, ONE))
     same("R1 pair runs", run(FWD, steps, [1.0, 2.0, 3.0, 4.0], [-7.0] * 2),
          Ran(1, 0, ONE, [0.0, -7.0]))
-    same("R1 crate", check(FWD, prepare(PAIR)), Fails(1, True))
-    same("R1 crate inverse", check(INV, prepare(PAIR)), Fails(2, True))
+    same("R1 crate", check(FWD, prepare(PAIR)), Fails(1, True, NO_SPAN))
+    same("R1 crate inverse", check(INV, prepare(PAIR)), Fails(2, True, NO_SPAN))
     same("R1 steps", steps_output(PAIR, PROJ).splitlines()[-2:],
          [b"forward: deepest 1 left 0 places 1,2,3,4", b"inverse: deepest 1 left 0 places 1,2,3,4"])
     same("R1 steps, crate", steps_output(PAIR).splitlines()[-2:],
@@ -308,12 +338,13 @@ def point_2():
 
 def rows_tests():
     row = "1,1,1,0,0,3,0,0,0,0,0,0,0,1"
-    same("rows", read_rows(row + ";" + row), [proj(POP, [3], 1)] * 2)
+    pair = read_rows(draw.placed_rows(row + ";" + row))
+    same("rows", spanless(pair), [proj(POP, [3], 1)] * 2)
+    same("R4 rows", [step.span for step in pair], [(0, 11), (20, 12)])
     same("rows none", read_rows("-"), [])
-    places = [",".join("12" if i == at else "0" for i in range(14)) for at in range(14)]
-    fields = [[*read_rows(line)[0][:5], *read_rows(line)[0].args, read_rows(line)[0].reading]
-              for line in places]
-    same("rows in order", fields, [[12 * (i == at) for i in range(14)] for at in range(14)])
+    places = [",".join("12" if i == at else "0" for i in range(16)) for at in range(16)]
+    fields = [draw.row_numbers(read_rows(line)[0]) for line in places]
+    same("rows in order", fields, [[12 * (i == at) for i in range(16)] for at in range(16)])
 
 
 # ----- Request 2 of document 02 ----------------------------------------------
@@ -498,6 +529,86 @@ def point_7():
         same("R3 7 " + line.split(" ")[0], answer(line), "refused 12 2 15")
 
 
+# ----- Request 4 of document 02 ----------------------------------------------
+
+def spans_of(text):
+    return [tuple(step.span) for step in model.prepare(text)]
+
+
+def point_8():
+    for text, form, spans in (
+            (b"inv push v_1 | pop v_1", b"inv push v_1|pop v_1", [(0, 12), (13, 7)]),
+            (b"> push v_1 < pop v_1", b"|omit_inv push v_1|omit_fwd pop v_1", [(1, 17), (19, 16)]),
+            (b" | :push v_1 | | pop v_1 # c", b"|:push v_1||pop v_1", [(1, 9), (12, 7)]),
+            (b"", b"", []), (b"|||", b"|||", []), (b"# push", b"", []),
+            (b"push", b"push", [(0, 4)]), (b": : push", b":push", [(0, 5)]),
+            (b"# one\npush # two\n| pop\n", b"push|pop", [(0, 4), (5, 3)]),
+            (b"a _name=push  v\xe2\x82\x81 = true", b"a _name=push v_1=true", [(0, 21)]),
+            (b"push>|<pop", b"push|omit_inv ||omit_fwd pop", None)):
+        same("R4 8 form", definition(text), form)
+        same("R4 8 " + repr(text), spans and spans_of(text), spans)
+    same("R4 8 refused", prepare(b"push>|<pop"), Refused(6, 2))
+    same("R4 8 definition", [definition(b"x" * 4097), definition(b"\xc3\xa9"), definition(b"# \xff"),
+                             within(definition(b"a # b"), 0), definition(b"# b"), definition(b"a\r:b")],
+         [Refused(1, 0), Refused(2, 0), Refused(2, 0), Refused(7, 0), b"", b"a b"])
+    same("R4 8 in every way", [[step.span for step in model.prepare(b"|inv push v_1", *way)]
+                               for way in WAYS.values()], [[(1, 12)]] * 4)
+    same("R4 8 sixty-four", spans_of(b"push" + b">push" * 63)[-1], (4 + 63 * 14 - 13, 13))
+    glyphs = b">" * 4090 + b"push"
+    same("R4 8 the last", [len(definition(glyphs)), step_spans(glyphs)[-1]],
+         [4090 * 10 + 4, (4090 * 10 - 9, 13)])
+    same("R4 8 empty steps", spans_of(b"|" * 4092 + b"push"), [(4092, 4)])
+
+
+def spanned(*spans):
+    return [new_step(PUSH, [1], span=Span(*span)) for span in spans]
+
+
+def point_9():
+    for label, steps, want in (
+            ("good", spanned((0, 8), (9, 7)), None), ("empty", spanned((0, 0), (9, 7)), 1),
+            ("empty later", spanned((0, 8), (9, 0)), 2), ("empty anywhere", spanned((5, 0)), 1),
+            ("one byte", spanned((0, 1)), None), ("the last byte", spanned((40959, 1)), None),
+            ("ends at 40,960", spanned((0, 8), (40953, 7)), None),
+            ("ends at 40,961", spanned((0, 8), (40954, 7)), 2),
+            ("all of them", spanned((0, 40960)), None), ("one more", spanned((0, 40961)), 1),
+            ("empty at 40,960", spanned((40960, 0)), 1), ("over", spanned((999999999, 1)), 1),
+            ("long", spanned((1, 999999999)), 1), ("round", spanned((2**32 - 1, 2)), 1),
+            ("round twice", spanned((2**31, 2**31)), 1), ("widest", spanned((2**32 - 1, 2**32 - 1)), 1),
+            ("where the last ends", spanned((0, 8), (8, 7)), None),
+            ("before the last ends", spanned((0, 8), (7, 7)), 2),
+            ("the same twice", spanned((3, 8), (3, 8)), 2), ("falling", spanned((9, 7), (0, 8)), 2),
+            ("inside", spanned((0, 20), (5, 3)), 2), ("a gap", spanned((5, 1), (40000, 960)), None),
+            ("of the last only", spanned((9, 1), (0, 1), (1, 1)), 2),
+            ("the third", spanned((0, 1), (1, 1), (1, 1)), 3),
+            ("nothing else", spanned((0, 1), (1, 40959)), None),
+            ("its own fields too", spanned((0, 1)) + [new_step(PUSH, [5], span=Span(1, 1))], 2),
+            ("a reading before", [new_step(PUSH, [1], span=Span(0, 1)),
+                                  new_step(PUSH, [1], reading=PROJ, span=Span(1, 1)),
+                                  new_step(PUSH, [1])], 2),
+            ("a span before", [new_step(PUSH, [1]), new_step(PUSH, [5], span=Span(0, 1))], 1),
+            ("over 64", spanned(*[(0, 0)] * 65), 0), ("64", spanned(*[(k, 1) for k in range(64)]), None),
+            ("the 64th", spanned(*[(k, 1) for k in range(63)], (62, 1)), 64)):
+        refusals = [model.check(FWD, steps), model.run(FWD, steps, [], [0.0] * 64), model.write(steps)]
+        same("R4 9 " + label, [answer if refuses(answer) else None for answer in refusals],
+             [want if want is None else Refused(18, want)] * 3)
+    same("R4 9 before 15", model.run(FWD, spanned((0, 0)), [1.0], []), Refused(18, 1))
+    same("R4 9 made", [made(step) for step in spanned((0, 0), (2**32 - 1, 9))], [True] * 2)
+
+
+def point_10():
+    for text, direction, want in (
+            (b"axisswap | inv push v_1", INV, Fails(2, True, Span(9, 12))),
+            (b"inv pop v_1 | pop v_2", FWD, Fails(1, True, Span(0, 11))),
+            (b"push v_1 | push v_2", INV, Fails(2, True, Span(9, 8))),
+            (b"|".join([b"stack push=1,1,1,1,1,1,1,1"] * 8 + [b"push v_1"]), FWD,
+             Fails(9, False, Span(8 * 27, 8)))):
+        same("R4 10 span", model.check(direction, model.prepare(text)), want)
+    same("R4 10 steps", steps_output(b"inv pop v_1 | pop v_2"),
+         b"translated: inv pop v_1 | pop v_2\nstep 1: pop v_1 inv\nstep 2: pop v_2\n"
+         b"forward: step 1 too few\ninverse: deepest 2 left 2 places 1,2,3,4\n")
+
+
 ORDERS = [[axis * mark for axis, mark in zip(order, signs)]
           for order in itertools.permutations((1, 2, 3, 4))
           for signs in itertools.product((1, -1), repeat=4)]
@@ -602,18 +713,19 @@ ONE_BITS = ",".join(bits(map(float, ONE)))
 def requests():
     for line, want in (
             ("normalise 1 61", "ok 61"), ("normalise 0 61", "refused 7 0"),
-            ("normalise 0 -", "ok -"),
+            ("normalise 0 -", "ok -"), ("definition 1 612361", "ok 61"), ("definition 0 23", "ok -"),
+            ("definition 0 61", "refused 7 0"), ("definition/p 1 61", "what"),
             ("normalise 9 ff", "refused 2 0"), ("normalise 131072 -", "ok -"),
             ("normalise 131073 -", "what"), ("normalise 1 6", "what"), ("normalise 1 6A", "what"),
             ("normalise 1 ", "what"), ("normalise 1 61 ", "what"), ("", "what"),
             ("write -", "ok -"),
-            ("prepare 1 " + b"inv stack roll=3,-2".hex(), "ok 1 stack.roll:i:3,-2"),
+            ("prepare 1 " + b"inv stack roll=3,-2".hex(), "ok 1 stack.roll:i:3,-2@0+19"),
             ("prepare 64 -", "ok 0"), ("prepare 65 -", "what"),
             ("prepare 9 " + b"push|>axisswap|adapt omit_fwd|adapt to=seuf".hex(),
-             "ok 4 push:-:- axisswap:o:1,2,3,4 adapt:f:noop adapt:-:2,1,3,4,"
-             "bff0000000000000,3ff0000000000000,3ff0000000000000,3ff0000000000000"),
+             "ok 4 push:-:-@0+4 axisswap:o:1,2,3,4@6+17 adapt:f:noop@24+14 adapt:-:2,1,3,4,"
+             "bff0000000000000,3ff0000000000000,3ff0000000000000,3ff0000000000000@39+13"),
             ("check fwd " + b"push v_1|axisswap order=-1".hex(), "passes 1 1 -1,2,3,4 1,1"),
-            ("check inv " + b"push v_1|axisswap order=-1".hex(), "fails 1 few"),
+            ("check inv " + b"push v_1|axisswap order=-1".hex(), "fails 1 few 0+8"),
             ("check fwd -", "passes 0 0 1,2,3,4 -"), ("check fwd 0a7c", "passes 0 0 1,2,3,4 -"),
             ("check both -", "what"), ("check fwd " + b"foo".hex(), "refused 10 1"),
             ("check fwd " + b"adapt".hex(), "passes 0 0 - 0"),
@@ -627,10 +739,10 @@ def requests():
             ("run fwd 0 - zeros:262148", "refused 15 0"), ("run fwd 0 - zeros:3", "refused 15 0"),
             ("run fwd 0 - nan", "what"), ("run fwd 0 - 3ff0", "what"),
             ("check/p fwd " + PAIR.hex(), "passes 1 0 1,2,3,4 1,0"),
-            ("check fwd " + PAIR.hex(), "fails 1 few"),
-            ("prepare/p 2 " + PAIR.hex(), "ok 2 pop:ip:3 push:ip:3"),
-            ("prepare/p 1 " + b"omit_fwd omit_inv stack swap".hex(), "ok 1 stack.swap:fop:-"),
-            ("prepare/p 1 " + b"push".hex(), "ok 1 push:p:-"),
+            ("check fwd " + PAIR.hex(), "fails 1 few 0+11"),
+            ("prepare/p 2 " + PAIR.hex(), "ok 2 pop:ip:3@0+11 push:ip:3@12+12"),
+            ("prepare/p 1 " + b"omit_fwd omit_inv stack swap".hex(), "ok 1 stack.swap:fop:-@0+28"),
+            ("prepare/p 1 " + b"push".hex(), "ok 1 push:p:-@0+4"),
             ("prepare/p 1 " + PAIR.hex(), "refused 7 0"),
             ("write/p " + PAIR.hex(), "ok " + b"pop v_3 inv | push v_3 inv".hex()),
             ("run/p fwd 1 " + PAIR.hex() + " zeros:4",
@@ -641,17 +753,18 @@ def requests():
             ("split/p 9 -", "what"), ("steps/p -", "what"), ("rows-check/p fwd -", "what"),
             ("split/d 9 -", "what"), ("steps/d -", "what"), ("rows-check/d fwd -", "what"),
             ("prepare/d 9 " + b"adapt|adapt to=seuf inv|push".hex(),
-             "ok 3 documented:-:noop documented:i:2,1,3,4,"
-             "bff0000000000000,3ff0000000000000,3ff0000000000000,3ff0000000000000 push:-:-"),
+             "ok 3 documented:-:noop@0+5 documented:i:2,1,3,4,"
+             "bff0000000000000,3ff0000000000000,3ff0000000000000,3ff0000000000000@6+17 "
+             "push:-:-@24+4"),
             ("prepare/pd 1 " + b"adapt from=nwuf omit_fwd".hex(),
              "ok 1 documented:fp:2,1,3,4,"
-             "bff0000000000000,3ff0000000000000,3ff0000000000000,3ff0000000000000"),
+             "bff0000000000000,3ff0000000000000,3ff0000000000000,3ff0000000000000@0+24"),
             ("run/d fwd 0 %s %s" % (b"adapt from=nwuf".hex(), ONE_BITS),
              "ok 1 0 c000000000000000,3ff0000000000000,4008000000000000,4010000000000000 -"),
             ("check/d fwd " + b"adapt from=nwuf".hex(), "passes 0 0 - 0"),
             ("check/d inv " + b"adapt omit_inv".hex(), "passes 0 0 1,2,3,4 -"),
             ("check/pd fwd " + PAIR.hex(), "passes 1 0 1,2,3,4 1,0"),
-            ("check/d fwd " + PAIR.hex(), "fails 1 few"),
+            ("check/d fwd " + PAIR.hex(), "fails 1 few 0+11"),
             ("write/d " + b"adapt from=nwuf".hex(), "ok " + b"adapt from=enuf to=seuf".hex()),
             ("write/d " + b"adapt to=unef_deg".hex(), "ok " + b"adapt from=enuf to=unef_deg".hex()),
             ("write/d " + b"adapt from=x".hex(), "refused 14 1"),
@@ -664,7 +777,7 @@ def requests():
             ("rows-run inv 0 %s %s" % (PAGE_ROW, ONE_BITS),
              "ok 1 0 %s -" % ",".join(bits([2 * (1 / -DEGREE), 3.0, 1 / DEGREE, 4.0]))),
             ("rows-check fwd " + ROW, "passes 1 1 1,2,3,4 1"),
-            ("rows-check inv " + ROW, "fails 1 few"),
+            ("rows-check inv " + ROW, "fails 1 few 0+11"),
             ("rows-write " + ROW, "ok " + b"pop v_3 inv".hex()), ("rows-write -", "ok -"),
             ("rows-run fwd 1 %s zeros:4" % ROW,
              "ok 1 1 %s %s" % (",".join(["0" * 16] * 4), "0" * 16)),
@@ -685,8 +798,17 @@ def requests():
             ("rows-check fwd " + ";".join([ROW] * 65), "refused 18 0"),
             ("rows-check fwd " + ";".join([ROW] * 70), "refused 18 0"),
             ("rows-check fwd " + ";".join([ROW] * 71), "what"),
+            ("rows-check fwd " + ROW + ",7,9", "passes 1 1 1,2,3,4 1"),
+            ("rows-check inv " + ROW + ",7,9", "fails 1 few 7+9"),
+            ("rows-check fwd " + ROW + ",0,0", "refused 18 1"),
+            ("rows-check fwd " + ROW + ",4294967295,4294967295", "refused 18 1"),
+            ("rows-check fwd " + ROW + ",4294967296,1", "what"),
+            ("rows-check fwd " + ROW + ",0,4294967296", "what"),
+            ("rows-check fwd " + ROW + ",-1,1", "what"),
+            ("rows-check fwd " + ROW + ",0,1,0", "what"),
+            ("rows-check fwd " + ROW + ",0", "what"),
             ("steps " + STEPS_INPUT.hex(), "ok " + STEPS_OUTPUT.hex())):
-        same(line[:40], answer(line), want)
+        same(line[:40], answer(draw.placed(line)), want)
 
 
 # ----- Laws that drawn inputs keep -------------------------------------------
@@ -815,6 +937,57 @@ def drawn_written(rng):
     return prepare(write(steps), *way) == steps and read_rows(line) == steps
 
 
+def drawn_spans(rng):
+    """The bytes at a record's span hold no separator, begin and end in no white space, and are the
+    step's words, modifiers turned; the spans rise, within the normalised definition."""
+    text = draw.any_definition(rng)
+    steps, form = model.prepare(text), definition(text)
+    if refuses(steps):
+        return True
+    pieces = [form[span.start:span_end(span)] for span in (step.span for step in steps)]
+    turned_texts = [b" ".join(model.turned(piece.split())) for piece in pieces]
+    ends = [0] + [span_end(step.span) for step in steps]
+    return (b"".join(line + b"\n" for line in turned_texts) == split(text)
+            and all(b"|" not in piece and piece == piece.strip() for piece in pieces)
+            and all(end <= step.span.start for end, step in zip(ends, steps))
+            and ends[-1] <= len(form) and model.records_refusal(steps) is None)
+
+
+def drawn_pieces(rng):
+    """A step's span is the whole piece: white space stands beside a separator only in steps that are
+    refused 6."""
+    text = rng.choice((draw.text, draw.any_definition, draw.pieces_text))(rng)
+    if refuses(split(text)):
+        return True
+    return all(piece == piece.strip() for piece in step_pieces(text) if piece.split())
+
+
+def drawn_spans_apart(rng):
+    """Two accepted tables that differ only in spans: the same depths, places, verdict but for the
+    span, tuples, counts, columns and texts."""
+    direction = rng.choice((FWD, INV))
+    way, steps = draw.read_table(rng, direction)
+    one, other = draw.in_turn(rng, steps), draw.in_turn(rng, steps, 500)
+    checks = [model.check(direction, table) for table in (one, other)]
+    runs = [model.run(direction, table, [1.0, 2.0, 3.0, 4.0], [-7.0] * 64) for table in (one, other)]
+    spans = [table[check.step - 1].span == check.span for table, check in zip((one, other), checks)
+             if isinstance(check, Fails)]
+    shown = [model.said_of(ran, lambda ran: ran, model.show_run) for ran in runs]
+    return (spanless(checks[0]) == spanless(checks[1]) and all(spans) and shown[0] == shown[1]
+            and model.write(one) == model.write(other))
+
+
+def drawn_written_spans(rng):
+    """The text of a table, normalised, has its steps in turn, one byte apart."""
+    way, steps = draw.read_table(rng, FWD)
+    texts, at = write(steps).split(b" | ") if steps else [], 0
+    for step, text in zip(model.prepare(write(steps), *way), texts):
+        if step.span != (at, len(text)):
+            return False
+        at += len(text + b"|")
+    return True
+
+
 def drawn_modes(rng):
     """Both modes refuse alike; of accepted texts only the records of adapt differ, in operator and
     arguments; and every check says the same."""
@@ -899,7 +1072,8 @@ def drawn():
     every_order_restores()
     for law in (drawn_tables, drawn_wrongs, drawn_offsets, drawn_round_trips, drawn_starvation, drawn_turns,
                 drawn_readings, drawn_pipelines_turned, drawn_undone, drawn_written, drawn_modes,
-                drawn_mixtures, drawn_letters, drawn_restored):
+                drawn_mixtures, drawn_letters, drawn_restored, drawn_spans, drawn_pieces,
+                drawn_spans_apart, drawn_written_spans):
         rng = random.Random(7)
         same(law.__name__, [i for i in range(1500) if not law(rng)], [])
 
@@ -908,7 +1082,7 @@ def main():
     for part in (examples, also, program, slips, points_of_text, points_of_values, points_of_steps,
                  record_tests, the_pair, point_1, point_2, rows_tests, westish, point_3, point_4,
                  documented_records, documented_words, documented_texts, adapt_tests, point_5,
-                 point_6, point_7, requests, drawn):
+                 point_6, point_7, point_8, point_9, point_10, requests, drawn):
         part()
     print("%(passed)d passed, %(failed)d failed" % COUNTS)
     return 1 if COUNTS["failed"] else 0

@@ -16,7 +16,7 @@ NATIVE = os.path.join(TOP, "target/native/answers")
 MODEL = os.path.join(TOP, "model/model.py")
 SUBSCRIPT = re.compile(rb"\xe2\x82[\x80-\x89]")
 
-TEXT_CALLS = ["normalise", "split", "parameters", "translate"]
+TEXT_CALLS = ["normalise", "split", "parameters", "translate", "definition"]
 STEP_CALLS = ["prepare", "check", "run"]
 CALLS = TEXT_CALLS + STEP_CALLS
 # what may follow a call that prepares: the reading and the mode
@@ -188,8 +188,8 @@ def lines_of(told):
 
 
 def step_number(step):
-    """The number that refuses a step, by what the Rust says of it: LENGTH/KEYS/MOST/VERDICT; 0 for none."""
-    size, keys, most, verdict = step.split("/", 3)
+    """The number that refuses a step, by what the Rust says of it: LENGTH/KEYS/MOST/SPAN/VERDICT; 0 for none."""
+    size, keys, most, _, verdict = step.split("/", 4)
     holds = {1: int(size) > 4096, 6: verdict == "hang", 9: int(keys) > 32, 13: int(most) > 8, 14: verdict == "err",
              **{number: verdict == "shim:%d" % number for number in (10, 11, 12)}}
     return min((number for number in holds if holds[number]), default=0)
@@ -209,7 +209,20 @@ def wanted_prepare(room, told):
             return answer
     if len(steps) > room:
         return refused(7, 0)
-    return exactly(" ".join(["ok", str(len(steps))] + [step.split("/", 3)[3] for step in steps]))
+    return exactly(" ".join(["ok", str(len(steps))] + list(map(record_of, steps))))
+
+
+def record_of(step):
+    """RECORD, with the span that the Rust's normalised text gives the step."""
+    span, record = step.split("/", 4)[3:]
+    return record + "@" + span
+
+
+def with_span(checked, records):
+    """What the check says: of a step that it names, the span too."""
+    if not checked.startswith("fails "):
+        return checked
+    return checked + " " + records[int(checked.split(" ")[1]) - 1].rpartition("@")[2]
 
 
 def wanted_steps(line, told, prepared):
@@ -234,7 +247,7 @@ def wanted_of_crate(line, told, prepared):
         return Wanted("(ok|passes|fails|refused 1[567]) .*", UNROLL)
     if not told.startswith("ok "):
         return Wanted("the Rust refuses")
-    return exactly(told[3:]) if line.startswith("check ") else wanted_run(line, told)
+    return exactly(with_span(told[3:], records)) if line.startswith("check ") else wanted_run(line, told)
 
 
 def wanted_run(line, told):

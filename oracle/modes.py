@@ -7,7 +7,7 @@ makes; tables of both modes and of mixed readings; numbers that a factor makes t
 import itertools
 
 from asking import WAYS
-from definitions import ENDINGS, HOSTILE, NOT_WORDS, letter_orders
+from definitions import ENDINGS, HOSTILE, NOT_WORDS, draw, letter_orders
 from readings import (AROUND, BYTES, DIRECTIONS, FULL, NUMBERS, ONE, PASTED, REFUSED, WHOLES, hexed, on_marks, on_rows, on_text, replaced,
                       row, rows_of)
 
@@ -259,4 +259,4 @@ LINES = [
 def requests():
     """All of them, each once."""
     parts = (of_words(), of_steps(), of_refusals(), of_numbers(), of_good_rows(), of_bad_rows(), of_sizes(), of_mixed(), LINES)
-    return list(dict.fromkeys(itertools.chain(*parts)))
+    return list(map(draw.placed, dict.fromkeys(itertools.chain(*parts))))

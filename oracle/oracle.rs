@@ -35,7 +35,8 @@ fn answer(line: &[u8], foresee: bool) -> Option<String> {
     let fields: Vec<&str> = line.split(' ').collect();
     match fields[..] {
         [
-            call @ ("normalise" | "split" | "parameters" | "translate" | "prepare"),
+            call
+            @ ("normalise" | "split" | "parameters" | "translate" | "definition" | "prepare"),
             room,
             text,
         ] => {
@@ -59,6 +60,8 @@ fn answer(line: &[u8], foresee: bool) -> Option<String> {
 fn told_of_text(call: &str, text: &str, foresee: bool) -> String {
     match call {
         "normalise" => ok(&text.normalize()),
+        // What `split_into_steps` cuts
+        "definition" => ok(&text.remove_comments().normalize()),
         "split" if foresee && steps::splitting_hangs(text) => "hang".to_string(),
         "split" => {
             let steps = text.split_into_steps();

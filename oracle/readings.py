@@ -2,9 +2,11 @@
 
 `requests()` gives them, always the same: every operator with `inv` and without it, both ways, in both readings; what preparing refuses in PROJ's
 reading; depths of 64 and 65; tables of every size up to 71, with every field on both sides of what it holds and of what preparing makes, and of
-mixed readings; and lines that are no requests.
+mixed readings; and lines that are no requests. Rows are spelt here without spans: each gets one, in turn.
 """
 import itertools
+
+from definitions import draw
 
 DIRECTIONS = ("fwd", "inv")
 READINGS = ("", "/p")
@@ -215,4 +217,4 @@ def of_lines():
 def requests():
     """All of them, each once."""
     parts = of_operators(), of_texts(), of_rows(), of_sizes(), of_mixed(), of_lines()
-    return list(dict.fromkeys(itertools.chain(*parts)))
+    return list(map(draw.placed, dict.fromkeys(itertools.chain(*parts))))

@@ -45,14 +45,16 @@ impl No {
 
 // ----- preparing -----------------------------------------------------------------------------------------------------
 
-/// `COUNT` and for each step `LENGTH/KEYS/MOST/VERDICT`: the length of its text, how many distinct keys it has, the most
-/// elements of a series in it, and its RECORD or why there is none. All steps are judged, not only the first faulty one.
+/// `COUNT` and for each step `LENGTH/KEYS/MOST/SPAN/VERDICT`: the length of its text, how many distinct keys it has, the most
+/// elements of a series in it, where it stands, and its RECORD or why there is none. All steps are judged, not only the first
+/// faulty one.
 pub fn prepare(text: &str) -> Result<String, No> {
     if splitting_hangs(text) {
         return Err(No::Hang);
     }
-    let steps = text.split_into_steps();
-    let judged: Vec<String> = steps.iter().map(|step| judged(step)).collect();
+    let (steps, spans) = (text.split_into_steps(), spans(text));
+    assert_eq!(steps.len(), spans.len(), "steps and spans");
+    let judged: Vec<String> = steps.iter().zip(spans).map(|(step, span)| judged(step, &span)).collect();
     Ok(std::iter::once(steps.len().to_string())
         .chain(judged)
         .collect::<Vec<_>>()
@@ -68,9 +70,19 @@ pub fn splitting_hangs(text: &str) -> bool {
         .any(turns_for_ever)
 }
 
-fn judged(step: &str) -> String {
+/// `FROM+LENGTH` of each step in the text that `split_into_steps` cuts, white space at both ends aside: the crate turns leading
+/// modifiers after that, and tells no such thing.
+fn spans(text: &str) -> Vec<String> {
+    let normalised = text.remove_comments().normalize();
+    let start = normalised.as_ptr() as usize;
+    let span = |step: &str| format!("{}+{}", step.as_ptr() as usize - start, step.len());
+    let steps = normalised.split('|').map(str::trim);
+    steps.filter(|step| !step.is_empty()).map(span).collect()
+}
+
+fn judged(step: &str, span: &str) -> String {
     if turns_for_ever(&step.normalize()) {
-        return format!("{}/0/0/hang", step.len());
+        return format!("{}/0/0/{span}/hang", step.len());
     }
     let given = step.split_into_parameters();
     let name = given.get("_name").map_or("", String::as_str);
@@ -82,7 +94,7 @@ fn judged(step: &str) -> String {
     };
     let most = gamut(name).iter().map(elements).max().unwrap_or(0);
     let verdict = made(step, name).map_or_else(|no| no.word(), |op| record(&op));
-    format!("{}/{}/{most}/{verdict}", step.len(), given.len())
+    format!("{}/{}/{most}/{span}/{verdict}", step.len(), given.len())
 }
 
 /// The step by its operator's own constructor. A step named `pipeline` is document 01's 10.
