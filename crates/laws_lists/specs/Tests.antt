@@ -1,7 +1,7 @@
 -- What a test that passed, or did not, says of its parts: of one that is turned, of two joined, of two texts compared, of every number below a
 -- bound and of either Boolean.
 use mathlib.Core.Path.{_≡_, refl, sym, subst}
-use mathlib.Core.Bool.{Bool, true, false, not, _&&_, _||_, false≢true}
+use mathlib.Core.Bool.{Bool, Bool·beq, true, false, not, _&&_, _||_, false≢true}
 use mathlib.Core.List.{[], _∷_}
 use Prim.Native.Nat.{ℕ, zero, suc, _<_}
 use native.Mathlib.Omega.{arith}
@@ -45,6 +45,13 @@ and-left false b e = e
 pub and-right : (a b : Bool) → a && b ≡ true → b ≡ true
 and-right true b e = e
 and-right false b e = absurd (false≢true e)
+
+-- two tests that compare as the same are the same
+pub beq-is : (a b : Bool) → Bool·beq a b ≡ true → a ≡ b
+beq-is true true h = refl
+beq-is true false h = sym h
+beq-is false true h = h
+beq-is false false h = refl
 
 -- ---- two texts
 

@@ -12,7 +12,7 @@ use Rattle.rules.specs.Proj.Translate.{isInv, isPipeline, Pipeline, isWritten, 
 use Rattle.laws_lists.specs.Tests.{and-left, and-right, same-is}
 use Rattle.laws_proj.specs.Tests.{both, all-kept}
 use Rattle.laws_proj.specs.Solid.{mild}
-use Rattle.laws_proj.specs.Plain.{plain}
+use Rattle.laws_text.specs.Plain.{plain}
 use Rattle.laws_proj.specs.Step.{Global, step-mild}
 use Rattle.laws_proj.specs.Ordering.{whole, whole-is}
 

@@ -1,38 +1,23 @@
--- Words without white space: a text's words are such, and all that is made of them in tidying a step.
+-- Words without white space: all that is made of them in tidying a step is such.
 use mathlib.Core.Path.{_≡_, refl, _∙_}
 use mathlib.Core.Bool.{Bool, true, false, cond, not, _&&_, false≢true}
-use mathlib.Core.List.{List, [], _∷_, _++_}
+use mathlib.Core.List.{[], _∷_, _++_}
 use Prim.Native.Nat.{ℕ}
 use lib.ListN.{drop}
 use Rattle.rules.specs.Text.Ascii.{ascii}
-use Rattle.rules.specs.Text.Lists.{anyOf, allOf, kept, nonEmpty}
-use Rattle.rules.specs.Text.Bytes.{Bytes, Words, white, starts, onto, cut, words}
+use Rattle.rules.specs.Text.Lists.{anyOf, allOf, nonEmpty}
+use Rattle.rules.specs.Text.Bytes.{Bytes, Words, white, starts}
 use Rattle.rules.specs.Proj.Words.{isProj, firstProj, inItsPlace, exchanged, hasKey, lastOf, withoutLast, composed, ellipsoid, scale, tidied}
 use Rattle.laws_lists.specs.Tests.{and-left, and-right}
 use Rattle.laws_text.specs.Passes.{inWord}
+use Rattle.laws_text.specs.Plain.{dark, blankless, plain, plain-blankless}
 use Rattle.laws_proj.specs.Tests.{both, all-append, all-drop, all-each}
 use Rattle.laws_proj.specs.Solid.{lastFine, solid, mild, fine, solid-mild}
-
--- a byte that is no white space
-abbrev dark : ℕ → Bool
-dark b = not (white b)
-
--- no white space in it
-unfoldable pub blankless : Bytes → Bool
-blankless w = allOf dark w
-
--- and not empty
-unfoldable pub plain : Bytes → Bool
-plain w = nonEmpty w && blankless w
 
 -- words of which only the first may be empty
 unfoldable pub even : Words → Bool
 even [] = true
 even (x ∷ xs) = blankless x && allOf plain xs
-
-plain-blankless : (w : Bytes) → plain w ≡ true → blankless w ≡ true
-unfolding plain
-plain-blankless w e = and-right (nonEmpty w) (blankless w) e
 
 pub plain-even : (ws : Words) → allOf plain ws ≡ true → even ws ≡ true
 unfolding allOf even
@@ -64,37 +49,6 @@ even-fine (w ∷ ws) e = both (blankless-mild w (and-left (blankless w) (allOf p
 
 pub plain-solids : (ws : Words) → allOf plain ws ≡ true → allOf solid ws ≡ true
 plain-solids ws e = all-each plain solid plain-solid ws e
-
--- ---- a text's words
-
-onto-dark : (x : ℕ) (ps : List Bytes) → white x ≡ false → allOf blankless ps ≡ true → allOf blankless (onto x ps) ≡ true
-unfolding onto allOf blankless
-onto-dark x [] e f = rw e
-onto-dark x (p ∷ ps) e f = rw e f
-
-cut-dark : (t : Bytes) → allOf blankless (cut white t) ≡ true
-unfolding cut
-cut-dark [] = unfold allOf blankless in refl
-cut-dark (x ∷ t) = go (white x) refl (cut-dark t)
-  where
-    go : (b : Bool) → white x ≡ b → allOf blankless (cut white t) ≡ true → allOf blankless (cond b ([] ∷ cut white t) (onto x (cut white t))) ≡ true
-    go true e h = unfold allOf blankless in h
-    go false e h = onto-dark x (cut white t) e h
-
-kept-plain : (ps : List Bytes) → allOf blankless ps ≡ true → allOf plain (kept nonEmpty ps) ≡ true
-unfolding allOf kept
-kept-plain [] e = refl
-kept-plain (p ∷ ps) e = go (nonEmpty p) refl (kept-plain ps (and-right (blankless p) (allOf blankless ps) e))
-  where
-    go : (b : Bool) → nonEmpty p ≡ b → allOf plain (kept nonEmpty ps) ≡ true → allOf plain (cond b (p ∷ kept nonEmpty ps) (kept nonEmpty ps)) ≡ true
-    go true f h =
-        let q : plain p ≡ true = unfold plain in both f (and-left (blankless p) (allOf blankless ps) e) in
-        unfold allOf in both q h
-    go false f h = h
-
-pub words-plain : (t : Bytes) → allOf plain (words t) ≡ true
-unfolding words
-words-plain t = kept-plain (cut white t) (cut-dark t)
 
 -- ---- `proj=` in front
 

@@ -14,7 +14,8 @@ use Rattle.laws_proj.specs.Tests.{any-append, all-kept, kept-all}
 use Rattle.laws_proj.specs.Tidying.{without-any, without-key, has-count, a-no-rf}
 use Rattle.laws_proj.specs.Flowing.{flow, more}
 use Rattle.laws_proj.specs.Solid.{solid, mild, fine, fine-flow, fine-globals, trim-joined, more-mild, joined-solid, solid-mild}
-use Rattle.laws_proj.specs.Plain.{plain, even-fine, words-plain, tidied-even, plain-solids}
+use Rattle.laws_text.specs.Plain.{plain, words-plain}
+use Rattle.laws_proj.specs.Plain.{even-fine, tidied-even, plain-solids}
 use borrow.Author.Tests.{not-true}
 
 -- ---- `inv` among the words

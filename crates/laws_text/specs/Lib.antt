@@ -18,5 +18,6 @@ pub mod Apart
 pub mod Freed
 pub mod Spread
 pub mod Pieces
+pub mod Plain
 pub mod Edges
 pub mod Texts

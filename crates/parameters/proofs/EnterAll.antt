@@ -12,7 +12,7 @@ use Rattle.rules.specs.Text.Reader.{part}
 use Rattle.laws_text.specs.Table.{entered-map}
 use Rattle.text.specs.Runs.{Run}
 use Rattle.text.proofs.RunEnd.{other}
-use Rattle.text.proofs.Lead.{words-nil}
+use Rattle.laws_text.specs.Passes.{words-nil}
 use Rattle.parameters.specs.Parts.{Parts, Entered, placedOf, held, placedIn, partsWith, Good, Enters}
 use Rattle.parameters.specs.declared.table.Part.{Part}
 use Rattle.parameters.specs.Elements.{Spelt, Spot, wordsAt, element, elementsAt, IsPart, placedAll, EntersAll}

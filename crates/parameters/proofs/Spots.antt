@@ -12,7 +12,8 @@ use Rattle.rules.specs.Text.Bytes.{Bytes, Words, white, cut, onto, words, after
 use Rattle.rules.specs.Text.Parameters.{Parameter, parameter, name, elements, Placed, placedWord, placedName, placedWords, placedElements}
 use Rattle.rules.specs.Text.Reader.{part}
 use Rattle.laws_lists.specs.Tests.{and-left, and-right}
-use Rattle.laws_text.specs.Passes.{inWord, grow, words-cons}
+use Rattle.laws_text.specs.Passes.{inWord}
+use Rattle.laws_text.specs.Plain.{blankless, plain, words-plain}
 use Rattle.laws_text.specs.Table.{given, given-name}
 use Rattle.text.specs.Runs.{Run}
 use Rattle.text.proofs.RunEnd.{other, part-rest, length-part}
@@ -117,53 +118,26 @@ module _ {s : Bytes} {k a e : ℕ} (p : Run white s k a) (q : Run (other white) 
 
 -- ---- words with one space between
 
--- a word: a byte at least, and no white space
-abbrev pub is-word : Bytes → Bool
-is-word w = nonEmpty w && allOf (other white) w
+at-first : (at : ℕ) (w u : Bytes) → plain w ≡ true → inWord u ≡ false → wordsAt at (w ++ u) ≡ record { at = at; word = w } ∷ wordsAt (at + length w) u
+unfolding plain blankless
+at-first at w u h f = at-word at w u (and-left (nonEmpty w) (blankless w) h) (and-right (nonEmpty w) (blankless w) h) f
 
-grow-whole : (x : ℕ) (b : Bool) (ws : Words) → white x ≡ false → allOf is-word ws ≡ true → allOf is-word (grow x b ws) ≡ true
-unfolding grow allOf nonEmpty
-grow-whole x true [] e h = rw e
-grow-whole x true (w ∷ ws) e h =
-    rw (e, and-right (nonEmpty w) (allOf (other white) w) (and-left (is-word w) (allOf is-word ws) h)) (and-right (is-word w) (allOf is-word ws) h)
-grow-whole x false ws e h = rw e h
-
-pub words-whole : (t : Bytes) → allOf is-word (words t) ≡ true
-words-whole [] = unfold words kept cut nonEmpty allOf in refl
-words-whole (x ∷ t) = rw (words-cons x t) (go (white x) refl (words-whole t))
-  where
-    go : (b : Bool) → white x ≡ b → allOf is-word (words t) ≡ true → allOf is-word (cond b (words t) (grow x (inWord t) (words t))) ≡ true
-    go true e h = h
-    go false e h = grow-whole x (inWord t) (words t) e h
-
-at-first : (at : ℕ) (w u : Bytes) → is-word w ≡ true → inWord u ≡ false → wordsAt at (w ++ u) ≡ record { at = at; word = w } ∷ wordsAt (at + length w) u
-at-first at w u h f = at-word at w u (and-left (nonEmpty w) (allOf (other white) w) h) (and-right (nonEmpty w) (allOf (other white) w) h) f
-
-at-joined : (at : ℕ) (w : Bytes) (ws : Words) → allOf is-word (w ∷ ws) ≡ true → wordsAt at (w ++ afterEach (32 ∷ []) ws) ≡ spots at (w ∷ ws)
+at-joined : (at : ℕ) (w : Bytes) (ws : Words) → allOf plain (w ∷ ws) ≡ true → wordsAt at (w ++ afterEach (32 ∷ []) ws) ≡ spots at (w ∷ ws)
 unfolding allOf afterEach spots inWord white
-at-joined at w [] h = at-first at w [] (and-left (is-word w) true h) refl ∙ ap (λ (l : List Spot). record { at = at; word = w } ∷ l) (at-nil (at + length w))
+at-joined at w [] h = at-first at w [] (and-left (plain w) true h) refl ∙ ap (λ (l : List Spot). record { at = at; word = w } ∷ l) (at-nil (at + length w))
 at-joined at w (v ∷ ws) h =
     let u = v ++ afterEach (32 ∷ []) ws in
     let rest : wordsAt (at + length w) (32 ∷ u) ≡ spots (at + length w + 1) (v ∷ ws) =
-    at-space (at + length w) 32 u refl ∙ at-joined (at + length w + 1) v ws (and-right (is-word w) (allOf is-word (v ∷ ws)) h) in
-    at-first at w (32 ∷ u) (and-left (is-word w) (allOf is-word (v ∷ ws)) h) refl ∙ ap (λ (l : List Spot). record { at = at; word = w } ∷ l) rest
+    at-space (at + length w) 32 u refl ∙ at-joined (at + length w + 1) v ws (and-right (plain w) (allOf plain (v ∷ ws)) h) in
+    at-first at w (32 ∷ u) (and-left (plain w) (allOf plain (v ∷ ws)) h) refl ∙ ap (λ (l : List Spot). record { at = at; word = w } ∷ l) rest
 
-spots-of : (ws : Words) → allOf is-word ws ≡ true → wordsAt 0 (joined ws) ≡ spots 0 ws
+spots-of : (ws : Words) → allOf plain ws ≡ true → wordsAt 0 (joined ws) ≡ spots 0 ws
 unfolding joined joinedBy
 spots-of [] h = unfold spots in at-nil 0
 spots-of (w ∷ ws) h = at-joined 0 w ws h
 
 pub spots-joined : (t u : Bytes) → u ≡ joined (words t) → wordsAt 0 u ≡ spots 0 (words t)
-spots-joined t u e = ap (wordsAt 0) e ∙ spots-of (words t) (words-whole t)
-
--- so these are the text's words
-pub words-joined : (ws : Words) → allOf is-word ws ≡ true → words (joined ws) ≡ ws
-unfolding spots
-words-joined ws h = sym (spots-words 0 (joined ws)) ∙ ap (map word-of) (spots-of ws h) ∙ go 0 ws
-  where
-    go : (at : ℕ) (us : Words) → map word-of (spots at us) ≡ us
-    go at [] = refl
-    go at (u ∷ us) = ap (λ (l : Words). u ∷ l) (go (at + length u + 1) us)
+spots-joined t u e = ap (wordsAt 0) e ∙ spots-of (words t) (words-plain t)
 
 -- ---- elements
 

@@ -25,7 +25,9 @@ use Rattle.rules.specs.declared.Name.{Name}
 use Rattle.rules.specs.declared.Named.the-variants.{Not}
 use Rattle.rules.specs.declared.Step.{Step}
 use Rattle.laws_lists.specs.Tests.{and-left, and-right, or-left, or-right, same-is}
+use Rattle.laws_lists.specs.Lists.{all-append}
 use Rattle.laws_text.specs.Sizes.{weight, trimmed-weight}
+use Rattle.laws_text.specs.Plain.{plain, words-plain, words-joined}
 use Rattle.laws_text.specs.Table.{given, given-table}
 use Rattle.text.specs.Wrote.{Wrote, Holds}
 use Rattle.text.proofs.Wrote.{wrote-front}
@@ -40,7 +42,6 @@ use Rattle.parameters.proofs.Places.{held-length}
 use Rattle.parameters.specs.Elements.{Spelt, placedAll, Cut}
 use Rattle.parameters.proofs.Cut.{run-any, run-none}
 use Rattle.parameters.proofs.Spelt.{spelled, spelt-behind}
-use Rattle.parameters.proofs.Spots.{is-word, words-whole, words-joined}
 use Rattle.prepare.specs.StepReply.{Roomy, placedReply, cutReply, textReply, stepReply}
 use Rattle.prepare.proofs.StepByStep.{line-end, line-front}
 use Rattle.prepare.proofs.StepWeight.{normal-fits}
@@ -79,29 +80,24 @@ nothing-named mode = refl
 
 -- ---- words in another order
 
-abbrev is-words : Words → Type 0
-is-words ws = allOf is-word ws ≡ true
+abbrev plainly : Words → Type 0
+plainly ws = allOf plain ws ≡ true
 
-append-words : (ws us : Words) → is-words ws → is-words us → is-words (ws ++ us)
-unfolding allOf
-append-words [] us h k = k
-append-words (w ∷ ws) us h k = rw (and-left (is-word w) (allOf is-word ws) h) (append-words ws us (and-right (is-word w) (allOf is-word ws) h) k)
-
-leading-words : (ws : Words) → is-words ws → is-words (leading ws)
+leading-words : (ws : Words) → plainly ws → plainly (leading ws)
 unfolding allOf leading
 leading-words [] h = refl
-leading-words (w ∷ ws) h = go (modifier w) (leading-words ws (and-right (is-word w) (allOf is-word ws) h))
+leading-words (w ∷ ws) h = go (modifier w) (leading-words ws (and-right (plain w) (allOf plain ws) h))
   where
-    go : (b : Bool) → is-words (leading ws) → is-words (cond b (w ∷ leading ws) [])
-    go true k = rw (and-left (is-word w) (allOf is-word ws) h) k
+    go : (b : Bool) → plainly (leading ws) → plainly (cond b (w ∷ leading ws) [])
+    go true k = rw (and-left (plain w) (allOf plain ws) h) k
     go false k = refl
 
-following-words : (ws : Words) → is-words ws → is-words (following ws)
+following-words : (ws : Words) → plainly ws → plainly (following ws)
 unfolding allOf following
 following-words [] h = refl
-following-words (w ∷ ws) h = go (modifier w) (following-words ws (and-right (is-word w) (allOf is-word ws) h))
+following-words (w ∷ ws) h = go (modifier w) (following-words ws (and-right (plain w) (allOf plain ws) h))
   where
-    go : (b : Bool) → is-words (following ws) → is-words (cond b (following ws) (w ∷ ws))
+    go : (b : Bool) → plainly (following ws) → plainly (cond b (following ws) (w ∷ ws))
     go true k = k
     go false k = h
 
@@ -110,7 +106,7 @@ pub turned-words : (t : Bytes) → words (stepText (words t)) ≡ turned (words 
 unfolding stepText turned
 turned-words t =
     let ws = words t in
-    words-joined (following ws ++ leading ws) (append-words (following ws) (leading ws) (following-words ws (words-whole t)) (leading-words ws (words-whole t)))
+    words-joined (following ws ++ leading ws) (all-append plain (following ws) (leading ws) (following-words ws (words-plain t)) (leading-words ws (words-plain t)))
 
 -- ---- a normalised text
 

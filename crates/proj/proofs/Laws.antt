@@ -22,7 +22,7 @@ use Rattle.text.specs.Wrote.{Holds}
 use Rattle.text.specs.Places.{ahead}
 use Rattle.text.proofs.Wrote.{wrote-front}
 use Rattle.proj_words.specs.Clean.{cleaned}
-use Rattle.laws_proj.specs.Plain.{words-plain}
+use Rattle.laws_text.specs.Plain.{words-plain}
 use Rattle.laws_proj.specs.Step.{Global}
 use Rattle.laws_proj.specs.Ordering.{whole, whole-length}
 use Rattle.laws_proj.specs.Cutting.{steps-plain, translation-is}

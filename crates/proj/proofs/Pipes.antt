@@ -15,7 +15,8 @@ use Rattle.text.specs.Wrote.{Wrote}
 use Rattle.text.proofs.Wrote.{wrote-front, wrote-fits}
 use Rattle.text.proofs.RunEnd.{length-part}
 use Rattle.laws_proj.specs.Solid.{mild}
-use Rattle.laws_proj.specs.Plain.{words-plain, exchanged-even, tail-plain}
+use Rattle.laws_text.specs.Plain.{words-plain}
+use Rattle.laws_proj.specs.Plain.{exchanged-even, tail-plain}
 use Rattle.laws_proj.specs.Step.{Global, globals-fine}
 use Rattle.laws_proj.specs.Bounds.{globalsOf, globals-length}
 use Rattle.laws_proj.specs.Cutting.{pipeline-inv}

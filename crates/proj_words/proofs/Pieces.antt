@@ -15,8 +15,8 @@ use Rattle.rules.specs.Text.Reader.{part}
 use Rattle.rules.specs.declared.Cursor.{Cursor}
 use Rattle.rules.specs.declared.Found.{Found}
 use Rattle.rules.specs.declared.Found.the-variants.{Step, End}
-use Rattle.laws_text.specs.Passes.{inWord}
-use Rattle.text.proofs.Lead.{words-nil, one-word}
+use Rattle.laws_text.specs.Passes.{inWord, words-nil}
+use Rattle.text.proofs.Lead.{one-word}
 use Rattle.proj_words.specs.Words.{IsWord}
 use Rattle.proj_words.specs.Cuts.{stepsIn, stepsFrom, IsPiece, IsStart, beginning, IsStep, isFound, FoundStep}
 use Rattle.proj_words.specs.declared.walk.Piece.{Piece}

@@ -8,10 +8,10 @@ use native.Mathlib.Omega.{arith}
 use lib.ListN.{length, take, drop}
 use Rattle.rules.specs.Text.Bytes.{Bytes, white, words}
 use Rattle.rules.specs.Text.Reader.{part}
-use Rattle.laws_text.specs.Passes.{inWord}
+use Rattle.laws_text.specs.Passes.{inWord, words-append, words-nil}
 use Rattle.text.specs.Runs.{Run}
 use Rattle.text.proofs.RunEnd.{drop-next, other}
-use Rattle.text.proofs.Lead.{word-there, none-left, word-edge, one-word, part-some, part-join, words-append, words-white, words-nil}
+use Rattle.text.proofs.Lead.{word-there, none-left, word-edge, one-word, part-some, part-join, words-white}
 use Rattle.proj_words.specs.Words.{IsWord, isFound, FoundWord}
 use Rattle.proj_words.specs.declared.walk.Word.{Word}
 use Rattle.proj_words.specs.declared.walk.Word.the-variants.{At, End}

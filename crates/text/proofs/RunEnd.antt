@@ -11,7 +11,7 @@ use lib.Dec.{leb, eqb}
 use Rattle.rules.specs.Text.Lists.{allOf, kept, nonEmpty}
 use Rattle.rules.specs.Text.Bytes.{Bytes, Words, white, cut, words, same}
 use Rattle.rules.specs.Text.Reader.{part}
-use Rattle.laws_text.specs.Passes.{inWord, grow, words-cons}
+use Rattle.laws_text.specs.Passes.{inWord, grow, words-cons, grow-some}
 use Rattle.text.specs.Runs.{Run}
 pub use Rattle.text.proofs.Wrote.{drop-next}
 
@@ -38,12 +38,6 @@ module _ {s : Bytes} {i : ℕ} (m : Blank s i) where
   blank-end h = sym (m .same ∙ ap (allOf white) (drop-of-length-le s h))
 
 -- a text has a word exactly where it is not all white space
-pub grow-some : (x : ℕ) (b : Bool) (ws : Words) → nonEmpty (grow x b ws) ≡ true
-unfolding grow nonEmpty
-grow-some x true [] = refl
-grow-some x true (w ∷ ws) = refl
-grow-some x false ws = refl
-
 pub words-blank : (t : Bytes) → nonEmpty (words t) ≡ not (allOf white t)
 unfolding allOf
 words-blank [] = unfold words kept cut nonEmpty in refl

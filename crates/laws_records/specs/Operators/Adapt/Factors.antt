@@ -1,6 +1,6 @@
 -- The factors of `adapt` are the Rust's: the angle of one word over the angle of the other, each with its axis's sign, and
 -- one rounding.
-use mathlib.Core.Path.{_≡_, refl, sym}
+use mathlib.Core.Path.{_≡_, refl}
 use Prim.Native.Nat.{ℕ, zero, suc, _+_, _*_, _/_, _%_, _^_, _≤_}
 use mathlib.Core.Bool.{Bool, true, false, not, cond, Bool·beq}
 use native.Mathlib.Omega.{arith}
@@ -12,7 +12,7 @@ use Rattle.rules.specs.Text.Decimal.{signed, minus}
 use Rattle.rules.specs.Operators.Arguments.{size, arg}
 use Rattle.rules.specs.Operators.Adapt.{Word, position, outputOf, angles, combined, angle, factor, mult}
 use Rattle.rules.specs.Operators.Numbers.{turn}
-use Rattle.laws_lists.specs.Tests.{both, both-at}
+use Rattle.laws_lists.specs.Tests.{beq-is, both, both-at}
 use Rattle.laws_records.specs.Series.{size-signed}
 use Rattle.laws_records.specs.Operators.Adapt.Words.{Sized, order-sized, IsWord, outs-order}
 
@@ -89,12 +89,6 @@ unfolding neg
 neg-quotient f true true s a b = refl
 neg-quotient f true false s a b = refl
 neg-quotient f false w s a b = neg-round f s a b
-
-beq-is : (a b : Bool) → Bool·beq a b ≡ true → a ≡ b
-beq-is true true h = refl
-beq-is true false h = sym h
-beq-is false true h = h
-beq-is false false h = refl
 
 every-sign : both (λ a. both (λ b. both (λ s. both (λ t. Bool·beq (unlike (unlike a b) (unlike s t)) (unlike (unlike a s) (unlike b t)))))) ≡ true
 unfolding both
