@@ -38,7 +38,8 @@ fn letter_in(b: u8, letters: &[u8]) -> usize
     0
 }
 
-// The axis that a letter is: e n u f are axes 1 to 4, w s d p the same axes turned; another byte is none, 0.
+// The axis that a letter is: e n u f are axes 1 to 4, w s d p the same axes turned; another byte is none, 0. (The Rust has a
+// test for such a byte, and behind it a last case that no letter reaches: laws_source/Letters.)
 fn axis_of(b: u8) -> i32
     ensures { λ r. ⌜ r ≡ axis b ⌝ }
 {

@@ -1,4 +1,5 @@
-// Stripping the comments of a text, and normalising what is left. The Rust is `remove_comments` of src/token/mod.rs.
+// Stripping the comments of a text, and normalising what is left. The Rust is `remove_comments` of src/token/mod.rs. Its branch
+// for a line that is a comment is not here: no text reaches it (laws_source/Branch).
 use crate::normal::normal_of;
 use text::Edge;
 use text::find;

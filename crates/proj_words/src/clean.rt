@@ -1,5 +1,5 @@
 // Cleaning a PROJ text before it is cut into steps: line ends, the `+` signs, comments, the normal form. The Rust is the
-// first half of `parse_proj` of src/token/mod.rs.
+// first half of `parse_proj` of src/token/mod.rs, without its branch for a line that is a comment (laws_source/Branch).
 use normalise::lines_into;
 use normalise::newlines_into;
 use normalise::normal_of;

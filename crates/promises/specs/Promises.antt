@@ -165,7 +165,8 @@ pub record Demand1 : Type 1 where
 
 -- ==== Demand 2. "Within document 01's domain, normalised text, steps, parameters, PROJ translation, transformed tuples and success count equal the
 -- Rust's, bit for bit .. Each is also proved against definitions". What is proved: a call's answer is the written rule's, and by demand 1 no other. That
--- the written rules are the Rust's is tested, on ten million inputs: docs/DIFFERENCES.md. This is a statement about the crate's reading and the crate's mode.
+-- the written rules are the Rust's is tested, on ten million inputs: docs/DIFFERENCES.md. Three parts of that are also proved, from the Rust's lines as crates/laws_source
+-- restates them: stripping comments, once normalised; cutting a PROJ text into steps; reading a word of `adapt`. This is a statement about the crate's reading and the crate's mode.
 
 pub record Demand2 : Type 0 where
   -- the bytes that a text call answers, and the records that preparing answers, are those of its rule

@@ -19,7 +19,7 @@ unfoldable pub isStep : Bytes → Bool
 isStep w = same w (ascii "step")
 
 -- The words cut at each `step`. The source cuts at ` step `, with both spaces, so that the word right after a cut never
--- is another.
+-- is another. (That these are the source's steps: laws_source/Steps.)
 unfoldable pub cutAtStep : Bool → Words → Steps
 cutAtStep rightAfter [] = [] ∷ []
 cutAtStep true (w ∷ ws) = onto w (cutAtStep false ws)

@@ -12,8 +12,8 @@ newlines t = replace (ascii "\r") (ascii "\n") (replace (ascii "\r\n") (ascii "\
 unfoldable pub uncommented : Bytes → Bytes
 uncommented line = 32 ∷ before (is "#") line
 
--- The lines without comments, in one. (The source also trims each and skips empty ones; normalising follows, which
--- makes that no difference.)
+-- The lines without comments, in one. (The source also trims each, and where it strips comments it skips empty ones;
+-- normalising follows, which makes that no difference: laws_source/Stripped.)
 unfoldable pub lined : Bytes → Bytes
 lined t = flatMap uncommented (cut (is "\n") t)
 
