@@ -53,6 +53,24 @@ fn answer(line: &[u8], foresee: bool) -> Option<String> {
                 told(steps::run(direction, text, &numbers, foresee))
             })
         }
+        ["source", reader, text] => on_text(text, |text| {
+            told_of_source(reader, text).map_or("what".to_string(), |parts| {
+                let parts: Vec<String> = parts.iter().map(|part| hex(part)).collect();
+                format!("ok {}", parts.join(","))
+            })
+        }),
+        _ => None,
+    }
+}
+
+/// A reader of the source, and what it asks of the Rust's library: the texts that it gives.
+fn told_of_source(reader: &str, text: &str) -> Option<Vec<String>> {
+    let texts = |parts: &mut dyn Iterator<Item = &str>| parts.map(str::to_string).collect();
+    match reader {
+        "remove_comments" => Some(vec![text.remove_comments()]),
+        "lines" => Some(texts(&mut text.lines())),
+        "split" => Some(texts(&mut text.split(" step "))),
+        "trim_start_matches" => Some(vec![text.trim_start_matches("step ").to_string()]),
         _ => None,
     }
 }
