@@ -12,7 +12,7 @@ use Rattle.rules.specs.Text.Bytes.{Bytes, white, trimStart, trimEnd, trimmed, b
 use Rattle.laws_source.specs.Strings.{withoutReturn}
 use Rattle.laws_text.specs.Passes.{inWord, words-cons, words-append, keep, trimEnd-cons}
 
--- a byte that is no white space
+-- a byte that is no white space is none that is
 pub dark-byte : (c : ℕ) → white c ≡ false → (x : ℕ) → white x ≡ true → eqb x c ≡ false
 dark-byte c d x e = go (eqb x c) refl
   where
