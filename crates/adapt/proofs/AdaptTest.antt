@@ -11,11 +11,11 @@ use borrow.Author.Tests.{eq-eqb, ne_eqb, eqb-true}
 use Rattle.rules.specs.Text.Lists.{all_of}
 use Rattle.rules.specs.Text.Decimal.{minus}
 use Rattle.rules.specs.Operators.Arguments.{size, arg, is_order}
-use Rattle.rules.specs.Operators.Adapt.{is_code, isAdapt}
+use Rattle.rules.specs.Operators.Adapt.{is_code, is_adapt}
 use Rattle.numbers.proofs.Rest.{rest_of}
 use Rattle.numbers.specs.Tests.{is_of}
 use Rattle.numbers.specs.declared.tests.Kind.TheVariants.{Zero}
-use Rattle.adapt.specs.Arguments.{areFactors}
+use Rattle.adapt.specs.Arguments.{are_factors}
 
 -- ---- one code
 
@@ -42,22 +42,22 @@ code-plain x m h e n = rw (e, sym h, ne_eqb _ _ n) (go (leb m 7))
 -- ---- four factors
 
 module _ (l : List ℤ) where
-  pub first-no : {b : Bool} → b ≡ is_code (get_or l 0 (pos 0)) → b ≡ false → false ≡ areFactors l
-  unfolding areFactors
+  pub first-no : {b : Bool} → b ≡ is_code (get_or l 0 (pos 0)) → b ≡ false → false ≡ are_factors l
+  unfolding are_factors
   first-no e h = sym (rw (sym e, h) refl)
 
   module _ {a : Bool} (e : a ≡ is_code (get_or l 0 (pos 0))) (h : a ≡ true) where
-    pub second-no : {b : Bool} → b ≡ is_code (get_or l 1 (pos 0)) → b ≡ false → false ≡ areFactors l
-    unfolding areFactors
+    pub second-no : {b : Bool} → b ≡ is_code (get_or l 1 (pos 0)) → b ≡ false → false ≡ are_factors l
+    unfolding are_factors
     second-no f k = sym (rw (sym e, h, sym f, k) refl)
 
     module _ {b : Bool} (f : b ≡ is_code (get_or l 1 (pos 0))) (k : b ≡ true) {x y : ℕ} (p : x ≡ size (get_or l 1 (pos 0))) (q : y ≡ size (get_or l 0 (pos 0))) where
-      pub differ : (x ≡ y → ⊥) → false ≡ areFactors l
-      unfolding areFactors
+      pub differ : (x ≡ y → ⊥) → false ≡ are_factors l
+      unfolding are_factors
       differ n = sym (rw (sym e, h, sym f, k, sym p, sym q, ne_eqb x y n) refl)
 
-      pub alike : {r : Bool} → x ≡ y → r ≡ all_of (is_of Zero) (take (length l - 2) (drop 2 l)) → r ≡ areFactors l
-      unfolding areFactors
+      pub alike : {r : Bool} → x ≡ y → r ≡ all_of (is_of Zero) (take (length l - 2) (drop 2 l)) → r ≡ are_factors l
+      unfolding are_factors
       alike n g = g ∙ ap (all_of (is_of Zero)) (rest_of l 2) ∙ sym (rw (sym e, h, sym f, k, sym p, sym q, eq-eqb x y n) refl)
 
 -- ---- all eight
@@ -83,8 +83,8 @@ codes true true c d true false r f g = and-false (c && (d && true))
 codes true true c d true true false f g = and-false (c && (d && true))
 codes true true c d true true true f g = rw (f refl, g refl) refl
 
-pub adapt-tests : (l : List ℤ) → length l ≡ 8 → isAdapt l ≡ (is_order (take 4 l) && areFactors (drop 4 l))
-unfolding isAdapt areFactors all_of arg
+pub adapt-tests : (l : List ℤ) → length l ≡ 8 → is_adapt l ≡ (is_order (take 4 l) && are_factors (drop 4 l))
+unfolding is_adapt are_factors all_of arg
 adapt-tests (a ∷ b ∷ c ∷ d ∷ e ∷ f ∷ g ∷ h ∷ []) n =
     ap (λ (x : Bool). is_order (a ∷ b ∷ c ∷ d ∷ []) && x)
     (codes (is_code e) (is_code f) (is_code g) (is_code h) (eqb (size f) (size e)) (eqb (size g) 0) (eqb (size h) 0) (zero-code g) (zero-code h))

@@ -11,33 +11,33 @@ use lib.ListN.{length, get_or, take, drop}
 use Rattle.rules.specs.Text.Lists.{all_of}
 use Rattle.rules.specs.Text.Decimal.{signed, minus}
 use Rattle.rules.specs.Operators.Arguments.{size, arg, is_order}
-use Rattle.rules.specs.Operators.Adapt.{position, outputOf, angles, is_code}
-use Rattle.rules.specs.Operators.Documented.{input_at, outputByAxis, carriesAngle, angleByAxis, combinedByAxis, twoAlike, isDocumented}
+use Rattle.rules.specs.Operators.Adapt.{position, output_of, angles, is_code}
+use Rattle.rules.specs.Operators.Documented.{input_at, output_by_axis, carries_angle, angle_by_axis, combined_by_axis, two_alike, is_documented}
 use Rattle.laws_records.specs.Series.{size-signed}
 use Rattle.laws_records.specs.Operators.Adapt.Words.{Sized, order-sized, IsWord, outs-order}
 use Rattle.adapt.specs.declared.words.Word.{Word}
-use Rattle.adapt.specs.Words.{wordAs, Ready}
+use Rattle.adapt.specs.Words.{word_as, Ready}
 use Rattle.adapt.proofs.FirstPlace.{finds-size, place-most}
 use Rattle.adapt.proofs.TwoWords.{differ}
 
 -- ---- the place of an axis
 
-word-is : (w : Word) → Ready w → IsWord (wordAs w)
-unfolding wordAs
+word-is : (w : Word) → Ready w → IsWord (word_as w)
+unfolding word_as
 word-is w h = record { four = h.four; ordered = h.ordered; angle-small = h.small }
 
 module _ (v w : Word) (p : Ready v) (q : Ready w) where
   -- each axis of `to` stands somewhere in `from`
-  sized-some : (k : ℕ) → Sized (outputOf (wordAs v) (wordAs w) k) → 1 ≤ position 1 (size (arg k w.axes)) v.axes
-  unfolding outputOf wordAs
+  sized-some : (k : ℕ) → Sized (output_of (word_as v) (word_as w) k) → 1 ≤ position 1 (size (arg k w.axes)) v.axes
+  unfolding output_of word_as
   sized-some k s = omega (arith, s.least, size-signed (xor (minus (arg k v.axes)) (minus (arg k w.axes))) (position 1 (size (arg k w.axes)) v.axes))
 
   axis-some : (i : ℕ) → i < 4 → 1 ≤ position 1 (size (get_or w.axes i (pos 0))) v.axes
   unfolding arg
   axis-some i h = go i h
     where
-      s : Sized (outputOf (wordAs v) (wordAs w) 1) × Sized (outputOf (wordAs v) (wordAs w) 2) × Sized (outputOf (wordAs v) (wordAs w) 3) × Sized (outputOf (wordAs v) (wordAs w) 4)
-      s = order-sized _ _ _ _ (outs-order (wordAs v) (wordAs w) (word-is v p) (word-is w q))
+      s : Sized (output_of (word_as v) (word_as w) 1) × Sized (output_of (word_as v) (word_as w) 2) × Sized (output_of (word_as v) (word_as w) 3) × Sized (output_of (word_as v) (word_as w) 4)
+      s = order-sized _ _ _ _ (outs-order (word_as v) (word_as w) (word-is v p) (word-is w q))
 
       go : (i : ℕ) → i < 4 → 1 ≤ position 1 (size (get_or w.axes i (pos 0))) v.axes
       go zero h = sized-some 1 s.0
@@ -59,24 +59,24 @@ place-few v h s e = omega (arith, place-most (finds-size s) v.axes, h.four)
 
 module _ (v w : Word) where
   pub axis-so : (i : ℕ) {s k : ℕ} {a b : Bool} → s ≡ size (get_or w.axes i (pos 0)) → k ≡ position 1 s v.axes → a ≡ minus (get_or v.axes (k - 1) (pos 0))
-      → b ≡ minus (get_or w.axes i (pos 0)) → signed (not (beq a b)) k ≡ outputByAxis (wordAs v) (wordAs w) (i + 1)
-  unfolding outputByAxis input_at wordAs arg
+      → b ≡ minus (get_or w.axes i (pos 0)) → signed (not (beq a b)) k ≡ output_by_axis (word_as v) (word_as w) (i + 1)
+  unfolding output_by_axis input_at word_as arg
   axis-so i {s} {k} {a} {b} d e f g = let n : i + 1 - 1 ≡ i = omega arith in sym (rw (n, ← d, ← e, ← f, ← g, ← differ a b))
 
-  pub angle-none : (i : ℕ) {s : ℕ} → s ≡ size (get_or w.axes i (pos 0)) → 2 < s → pos 0 ≡ angleByAxis (wordAs v) (wordAs w) (i + 1)
-  unfolding angleByAxis carriesAngle wordAs arg
+  pub angle-none : (i : ℕ) {s : ℕ} → s ≡ size (get_or w.axes i (pos 0)) → 2 < s → pos 0 ≡ angle_by_axis (word_as v) (word_as w) (i + 1)
+  unfolding angle_by_axis carries_angle word_as arg
   angle-none i {s} d h = let n : i + 1 - 1 ≡ i = omega arith in sym (rw (n, ← d, lt-leb s 2 h) refl)
 
-  pub angle-so : (i : ℕ) {s : ℕ} → s ≡ size (get_or w.axes i (pos 0)) → s ≤ 2 → angles (wordAs v) (wordAs w) ≡ angleByAxis (wordAs v) (wordAs w) (i + 1)
-  unfolding angleByAxis carriesAngle wordAs arg
+  pub angle-so : (i : ℕ) {s : ℕ} → s ≡ size (get_or w.axes i (pos 0)) → s ≤ 2 → angles (word_as v) (word_as w) ≡ angle_by_axis (word_as v) (word_as w) (i + 1)
+  unfolding angle_by_axis carries_angle word_as arg
   angle-so i {s} d h = let n : i + 1 - 1 ≡ i = omega arith in sym (rw (n, ← d, le-leb s 2 h) refl)
 
   -- all eight
-  pub by-axis-so : {a b c d e f g h : ℤ} → a ≡ outputByAxis (wordAs v) (wordAs w) 1 → b ≡ outputByAxis (wordAs v) (wordAs w) 2
-      → c ≡ outputByAxis (wordAs v) (wordAs w) 3 → d ≡ outputByAxis (wordAs v) (wordAs w) 4 → e ≡ angleByAxis (wordAs v) (wordAs w) 1
-      → f ≡ angleByAxis (wordAs v) (wordAs w) 2 → g ≡ angleByAxis (wordAs v) (wordAs w) 3 → h ≡ angleByAxis (wordAs v) (wordAs w) 4
-      → a ∷ b ∷ c ∷ d ∷ e ∷ f ∷ g ∷ h ∷ [] ≡ combinedByAxis (wordAs v) (wordAs w)
-  unfolding combinedByAxis
+  pub by-axis-so : {a b c d e f g h : ℤ} → a ≡ output_by_axis (word_as v) (word_as w) 1 → b ≡ output_by_axis (word_as v) (word_as w) 2
+      → c ≡ output_by_axis (word_as v) (word_as w) 3 → d ≡ output_by_axis (word_as v) (word_as w) 4 → e ≡ angle_by_axis (word_as v) (word_as w) 1
+      → f ≡ angle_by_axis (word_as v) (word_as w) 2 → g ≡ angle_by_axis (word_as v) (word_as w) 3 → h ≡ angle_by_axis (word_as v) (word_as w) 4
+      → a ∷ b ∷ c ∷ d ∷ e ∷ f ∷ g ∷ h ∷ [] ≡ combined_by_axis (word_as v) (word_as w)
+  unfolding combined_by_axis
   by-axis-so p q r s t u x y = rw (p, q, r, s, t, u, x, y)
 
 -- ---- four codes
@@ -114,6 +114,6 @@ module _ (l : List ℤ) (four : length l ≡ 4) {a : Bool} (e : a ≡ is_code (g
 -- ---- all eight
 
 pub documented-tests : (l : List ℤ) → length l ≡ 8
-    → isDocumented l ≡ (is_order (take 4 l) && (all_of is_code (drop 4 l) && twoAlike (size (get_or l 4 (pos 0))) (size (get_or l 5 (pos 0))) (size (get_or l 6 (pos 0))) (size (get_or l 7 (pos 0)))))
-unfolding isDocumented arg
+    → is_documented l ≡ (is_order (take 4 l) && (all_of is_code (drop 4 l) && two_alike (size (get_or l 4 (pos 0))) (size (get_or l 5 (pos 0))) (size (get_or l 6 (pos 0))) (size (get_or l 7 (pos 0)))))
+unfolding is_documented arg
 documented-tests l h = rw (eq-eqb (length l) 8 h) refl

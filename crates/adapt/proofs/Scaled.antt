@@ -10,15 +10,15 @@ use lib.Dec.{eqb}
 use lib.IntN.{ℤ}
 use lib.Ieee.{Float, binary64, mul, div}
 use Rattle.rules.specs.Operators.Arguments.{arg, is_order}
-use Rattle.rules.specs.Operators.Adapt.{isAdapt, one, post, mult, output, sets, stays, noop, adaptedIf, adapted}
-use Rattle.rules.specs.Operators.Documented.{isDocumented, sendsBack, adaptedByAxis}
+use Rattle.rules.specs.Operators.Adapt.{is_adapt, one, post, mult, output, sets, stays, noop, adapted_if, adapted}
+use Rattle.rules.specs.Operators.Documented.{is_documented, sends_back, adapted_by_axis}
 use Rattle.rules.specs.Operators.Numbers.{number, put}
 use Rattle.rules.specs.declared.Coord.{Coord}
 use Rattle.laws_lists.specs.Lists.{map_same}
 use Rattle.laws_lists.specs.Tests.{and_left, and_right}
 use Rattle.laws_records.specs.Operators.Adapt.Words.{Sized, order-sized}
 use Rattle.columns.specs.Coords.{slot, slot_at, slots_of, picked, placed}
-use Rattle.adapt.specs.Factors.{staying, allStaying, mults, overs, scaledBy, scaled, unscaled, scaledIf, factorsFor, factorsByAxis}
+use Rattle.adapt.specs.Factors.{staying, all_staying, mults, overs, scaled_by, scaled, unscaled, scaled_if, factors_for, factors_by_axis}
 use Rattle.columns.specs.declared.slots.Slots.{Slots}
 use Rattle.columns.proofs.BySlot.{slot-number, slot-put}
 
@@ -80,13 +80,13 @@ record Ordered (l : List ℤ) : Type 0 where
   long : length l ≡ 8
   order : is_order (take 4 l) ≡ true
 
-crates-ordered : (l : List ℤ) → isAdapt l ≡ true → Ordered l
-unfolding isAdapt
+crates-ordered : (l : List ℤ) → is_adapt l ≡ true → Ordered l
+unfolding is_adapt
 crates-ordered l h =
     record { long = eqb-true (length l) 8 (and_left (eqb (length l) 8) _ h); order = and_left (is_order (take 4 l)) _ (and_right (eqb (length l) 8) _ h) }
 
-documented-ordered : (l : List ℤ) → isDocumented l ≡ true → Ordered l
-unfolding isDocumented
+documented-ordered : (l : List ℤ) → is_documented l ≡ true → Ordered l
+unfolding is_documented
 documented-ordered l h =
     record { long = eqb-true (length l) 8 (and_left (eqb (length l) 8) _ h); order = and_left (is_order (take 4 l)) _ (and_right (eqb (length l) 8) _ h) }
 
@@ -104,8 +104,8 @@ module _ (l : List ℤ) (h : Ordered l) where
   slots-made = ap slots_of (fours l h.long)
 
   module _ (c : Coord) where
-    scale-made : scaled slots (mults l) c ≡ adaptedIf false false l c
-    unfolding scaled scaledBy picked mults adaptedIf output
+    scale-made : scaled slots (mults l) c ≡ adapted_if false false l c
+    unfolding scaled scaled_by picked mults adapted_if output
     scale-made =
         let at : (i : ℕ) → mul binary64 (number (slot (post l i) + 1) c) (mult l i) ≡ output l c i =
         λ i. ap (λ (x : Float). mul binary64 x (mult l i)) (slot-number (post l i) c) in
@@ -119,8 +119,8 @@ module _ (l : List ℤ) (h : Ordered l) where
         let f = slot-number (post l j) (overs (mults l)) ∙ over-at l (post l j) p q in
         (λ i. put (slot (post l j) + 1) (mul binary64 (number j c) (f i)) (e i)) ∙ slot-put (post l j) _ out'
 
-    unscale-made : unscaled slots (picked slots (overs (mults l))) c ≡ adaptedIf false true l c
-    unfolding unscaled scaledBy picked placed adaptedIf number post
+    unscale-made : unscaled slots (picked slots (overs (mults l))) c ≡ adapted_if false true l c
+    unfolding unscaled scaled_by picked placed adapted_if number post
     unscale-made =
         let s = places-sized in
         back_one 4 s.3.least s.3.most
@@ -129,28 +129,28 @@ module _ (l : List ℤ) (h : Ordered l) where
         (back_one 1 s.0.least s.0.most refl)))
 
     -- in the documented mode
-    by-axis-scaled : scaled slots (mults l) c ≡ adaptedByAxis false l c
-    unfolding adaptedByAxis adaptedIf
+    by-axis-scaled : scaled slots (mults l) c ≡ adapted_by_axis false l c
+    unfolding adapted_by_axis adapted_if
     by-axis-scaled = scale-made
 
     sent-one : (j : ℕ) {out out' : Coord} → out ≡ out'
-        → put (slot (post l j) + 1) (mul binary64 (number j c) (div binary64 one (mult l j))) out ≡ sendsBack l c j out'
-    unfolding sendsBack
+        → put (slot (post l j) + 1) (mul binary64 (number j c) (div binary64 one (mult l j))) out ≡ sends_back l c j out'
+    unfolding sends_back
     sent-one j {out} {out'} e = ap (put (slot (post l j) + 1) (mul binary64 (number j c) (div binary64 one (mult l j)))) e ∙ slot-put (post l j) _ out'
 
-    by-axis-unscaled : unscaled slots (overs (mults l)) c ≡ adaptedByAxis true l c
-    unfolding unscaled scaledBy placed overs mults adaptedByAxis number
+    by-axis-unscaled : unscaled slots (overs (mults l)) c ≡ adapted_by_axis true l c
+    unfolding unscaled scaled_by placed overs mults adapted_by_axis number
     by-axis-unscaled = sent-one 4 (sent-one 3 (sent-one 2 (sent-one 1 refl)))
 
-  still-made : allStaying (slots.s1 + 1) (slots.s2 + 1) (slots.s3 + 1) (slots.s4 + 1) (mults l) ≡ noop l
-  unfolding allStaying staying noop stays mults post
+  still-made : all_staying (slots.s1 + 1) (slots.s2 + 1) (slots.s3 + 1) (slots.s4 + 1) (mults l) ≡ noop l
+  unfolding all_staying staying noop stays mults post
   still-made =
       let s = places-sized in
       let e1 = slot-place (post l 1) s.0.least s.0.most in
       let e2 = slot-place (post l 2) s.1.least s.1.most in
       let e3 = slot-place (post l 3) s.2.least s.2.most in
       let e4 = slot-place (post l 4) s.3.least s.3.most in
-      λ i. allStaying (e1 i) (e2 i) (e3 i) (e4 i) (mults l)
+      λ i. all_staying (e1 i) (e2 i) (e3 i) (e4 i) (mults l)
 
 -- ---- every coordinate of a list, from what the calls ensure
 
@@ -158,8 +158,8 @@ map-own : (f : Coord → Coord) → ((c : Coord) → c ≡ f c) → (ts : List C
 map-own f e [] = refl
 map-own f e (t ∷ ts) = λ i. e t i ∷ map-own f e ts i
 
-module _ (l : List ℤ) (is : isAdapt l ≡ true) (o : Slots) (m : Coord) (b : Bool) (ts : List Coord) (named : o ≡ slots_of (take 4 l))
-    (made : m ≡ mults l) (still : b ≡ allStaying (o.s1 + 1) (o.s2 + 1) (o.s3 + 1) (o.s4 + 1) m) where
+module _ (l : List ℤ) (is : is_adapt l ≡ true) (o : Slots) (m : Coord) (b : Bool) (ts : List Coord) (named : o ≡ slots_of (take 4 l))
+    (made : m ≡ mults l) (still : b ≡ all_staying (o.s1 + 1) (o.s2 + 1) (o.s3 + 1) (o.s4 + 1) m) where
   h : Ordered l
   h = crates-ordered l is
 
@@ -167,40 +167,40 @@ module _ (l : List ℤ) (is : isAdapt l ≡ true) (o : Slots) (m : Coord) (b : B
   same = named ∙ slots-made l h
 
   noop-is : noop l ≡ b
-  noop-is = sym (still ∙ (λ i. allStaying ((same i).s1 + 1) ((same i).s2 + 1) ((same i).s3 + 1) ((same i).s4 + 1) (made i)) ∙ still-made l h)
+  noop-is = sym (still ∙ (λ i. all_staying ((same i).s1 + 1) ((same i).s2 + 1) ((same i).s3 + 1) ((same i).s4 + 1) (made i)) ∙ still-made l h)
 
-  by-noop : (back : Bool) (c : Coord) → adaptedIf b back l c ≡ adapted back l c
+  by-noop : (back : Bool) (c : Coord) → adapted_if b back l c ≡ adapted back l c
   unfolding adapted
-  by-noop back c = ap (λ (z : Bool). adaptedIf z back l c) (sym noop-is)
+  by-noop back c = ap (λ (z : Bool). adapted_if z back l c) (sym noop-is)
 
   -- a no-op touches nothing
   pub all-still : (back : Bool) → b ≡ true → ts ≡ map (adapted back l) ts
-  unfolding adaptedIf
-  all-still back e = map-own (adapted back l) (λ c. ap (λ (z : Bool). adaptedIf z back l c) (sym e) ∙ by-noop back c) ts
+  unfolding adapted_if
+  all-still back e = map-own (adapted back l) (λ c. ap (λ (z : Bool). adapted_if z back l c) (sym e) ∙ by-noop back c) ts
 
-  scaled-so : (back : Bool) (w : Coord) → w ≡ factorsFor back o m → (c : Coord) → scaledIf back o w c ≡ adaptedIf false back l c
-  unfolding scaledIf factorsFor
+  scaled-so : (back : Bool) (w : Coord) → w ≡ factors_for back o m → (c : Coord) → scaled_if back o w c ≡ adapted_if false back l c
+  unfolding scaled_if factors_for
   scaled-so false w e c = (λ i. scaled (same i) ((e ∙ made) i) c) ∙ scale-made l h c
   scaled-so true w e c =
       let by : w ≡ picked (slots l h) (overs (mults l)) = e ∙ (λ i. picked (same i) (overs (made i))) in
       (λ i. unscaled (same i) (by i) c) ∙ unscale-made l h c
 
   -- else each tuple is scaled
-  pub all-scaled : (back : Bool) (w : Coord) → b ≡ false → w ≡ factorsFor back o m → map (scaledIf back o w) ts ≡ map (adapted back l) ts
+  pub all-scaled : (back : Bool) (w : Coord) → b ≡ false → w ≡ factors_for back o m → map (scaled_if back o w) ts ≡ map (adapted back l) ts
   all-scaled back w e f =
-      map_same (scaledIf back o w) (adapted back l) (λ c. scaled-so back w f c ∙ ap (λ (z : Bool). adaptedIf z back l c) (sym e) ∙ by-noop back c) ts
+      map_same (scaled_if back o w) (adapted back l) (λ c. scaled-so back w f c ∙ ap (λ (z : Bool). adapted_if z back l c) (sym e) ∙ by-noop back c) ts
 
 -- ---- in the documented mode
 
-module _ (l : List ℤ) (is : isDocumented l ≡ true) (o : Slots) (m : Coord) (ts : List Coord) (named : o ≡ slots_of (take 4 l)) (made : m ≡ mults l) where
+module _ (l : List ℤ) (is : is_documented l ≡ true) (o : Slots) (m : Coord) (ts : List Coord) (named : o ≡ slots_of (take 4 l)) (made : m ≡ mults l) where
   axis-slots : o ≡ slots l (documented-ordered l is)
   axis-slots = named ∙ slots-made l (documented-ordered l is)
 
-  axis-scaled-so : (back : Bool) (w : Coord) → w ≡ factorsByAxis back m → (c : Coord) → scaledIf back o w c ≡ adaptedByAxis back l c
-  unfolding scaledIf factorsByAxis
+  axis-scaled-so : (back : Bool) (w : Coord) → w ≡ factors_by_axis back m → (c : Coord) → scaled_if back o w c ≡ adapted_by_axis back l c
+  unfolding scaled_if factors_by_axis
   axis-scaled-so false w e c = (λ i. scaled (axis-slots i) ((e ∙ made) i) c) ∙ by-axis-scaled l (documented-ordered l is) c
   axis-scaled-so true w e c = (λ i. unscaled (axis-slots i) ((e ∙ ap overs made) i) c) ∙ by-axis-unscaled l (documented-ordered l is) c
 
   -- each tuple is scaled
-  pub all-by-axis : (back : Bool) (w : Coord) → w ≡ factorsByAxis back m → map (scaledIf back o w) ts ≡ map (adaptedByAxis back l) ts
-  all-by-axis back w f = map_same (scaledIf back o w) (adaptedByAxis back l) (axis-scaled-so back w f) ts
+  pub all-by-axis : (back : Bool) (w : Coord) → w ≡ factors_by_axis back m → map (scaled_if back o w) ts ≡ map (adapted_by_axis back l) ts
+  all-by-axis back w f = map_same (scaled_if back o w) (adapted_by_axis back l) (axis-scaled-so back w f) ts

@@ -12,10 +12,10 @@ use mir.Syntax.{w32}
 use mir.Val.{to_z}
 use Rattle.rules.specs.Text.Decimal.{signed, minus}
 use Rattle.rules.specs.Operators.Arguments.{size, arg}
-use Rattle.rules.specs.Operators.Adapt.{position, outputOf, angles, combined}
+use Rattle.rules.specs.Operators.Adapt.{position, output_of, angles, combined}
 use Rattle.numbers.proofs.SignMade.{plain-is}
 use Rattle.adapt.specs.declared.words.Word.{Word}
-use Rattle.adapt.specs.Words.{wordAs, Ready}
+use Rattle.adapt.specs.Words.{word_as, Ready}
 use Rattle.adapt.proofs.FirstPlace.{finds-size, place-most}
 
 pub differ : (a b : Bool) → not (beq a b) ≡ xor a b
@@ -32,23 +32,23 @@ module _ (v w : Word) where
   output-small h s e = omega (arith, place-most (finds-size s) v.axes, h.four)
 
   pub output-so : (i : ℕ) {s p : ℕ} {a b : Bool} → s ≡ size (get_or w.axes i (pos 0)) → p ≡ position 1 s v.axes → a ≡ minus (get_or v.axes i (pos 0))
-      → b ≡ minus (get_or w.axes i (pos 0)) → signed (not (beq a b)) p ≡ outputOf (wordAs v) (wordAs w) (i + 1)
-  unfolding outputOf wordAs arg
+      → b ≡ minus (get_or w.axes i (pos 0)) → signed (not (beq a b)) p ≡ output_of (word_as v) (word_as w) (i + 1)
+  unfolding output_of word_as arg
   output-so i {s} {p} {a} {b} d e f g = let k : i + 1 - 1 ≡ i = omega arith in sym (rw (k, ← d, ← e, ← f, ← g, ← differ a b))
 
   -- ---- the code of two angles
 
-  pub code_same : v.angle ≡ w.angle → pos 0 ≡ angles (wordAs v) (wordAs w)
-  unfolding angles wordAs
+  pub code_same : v.angle ≡ w.angle → pos 0 ≡ angles (word_as v) (word_as w)
+  unfolding angles word_as
   code_same e = sym (rw (eq-eqb v.angle w.angle e))
 
-  pub code_other : Ready v → Ready w → (v.angle ≡ w.angle → ⊥) → to_z w32 (3 * v.angle + w.angle) ≡ angles (wordAs v) (wordAs w)
-  unfolding angles wordAs signed
+  pub code_other : Ready v → Ready w → (v.angle ≡ w.angle → ⊥) → to_z w32 (3 * v.angle + w.angle) ≡ angles (word_as v) (word_as w)
+  unfolding angles word_as signed
   code_other h k n = plain-is (3 * v.angle + w.angle) (omega (arith, h.small, k.small)) ∙ sym (rw (ne_eqb v.angle w.angle n))
 
   -- ---- all eight
 
-  pub between-so : {a b c d k : ℤ} → a ≡ outputOf (wordAs v) (wordAs w) 1 → b ≡ outputOf (wordAs v) (wordAs w) 2 → c ≡ outputOf (wordAs v) (wordAs w) 3
-      → d ≡ outputOf (wordAs v) (wordAs w) 4 → k ≡ angles (wordAs v) (wordAs w) → a ∷ b ∷ c ∷ d ∷ k ∷ k ∷ pos 0 ∷ pos 0 ∷ [] ≡ combined (wordAs v) (wordAs w)
+  pub between-so : {a b c d k : ℤ} → a ≡ output_of (word_as v) (word_as w) 1 → b ≡ output_of (word_as v) (word_as w) 2 → c ≡ output_of (word_as v) (word_as w) 3
+      → d ≡ output_of (word_as v) (word_as w) 4 → k ≡ angles (word_as v) (word_as w) → a ∷ b ∷ c ∷ d ∷ k ∷ k ∷ pos 0 ∷ pos 0 ∷ [] ≡ combined (word_as v) (word_as w)
   unfolding combined
   between-so p q r s e = rw (p, q, r, s, e)

@@ -19,7 +19,7 @@ use Rattle.laws_lists.specs.Tests.{never}
 use Rattle.adapt.specs.declared.words.Word.{Word}
 use Rattle.adapt.specs.declared.words.Ending.{Ending}
 use Rattle.adapt.specs.declared.words.Ending.TheVariants.{Angle, Other}
-use Rattle.adapt.specs.Words.{angleOf, Ends, plainWord, wordAs, wordIs, IsRead}
+use Rattle.adapt.specs.Words.{angle_of, Ends, plain_word, word_as, word_is, IsRead}
 
 -- ---- an axis
 
@@ -59,7 +59,7 @@ not-nil (x ∷ t) h = refl
 
 module _ (t : Bytes) where
   ends-in : (k : ℕ) → k ≤ 2 → ending t ≡ some k → Ends t (Angle k)
-  unfolding angleOf
+  unfolding angle_of
   ends-in k h e = record { is = sym e; small = λ j f. let g : k ≡ j = cc f in omega arith }
 
   pub ends-deg : same t (ascii "_deg") ≡ true → Ends t (Angle 1)
@@ -87,14 +87,14 @@ module _ (t : Bytes) where
           ends-any d = ends-in 0 (lit≤ tt) (rw (a, b, not-nil t h, c, d))
 
           pub ends-other : same t (ascii "_any") ≡ false → Ends t Other
-          unfolding ending angleOf
+          unfolding ending angle_of
           ends-other d = record { is = sym (rw (a, b, not-nil t h, c, d)); small = λ k f. absurd (never (cc f)) }
 
 -- ---- a word
 
 -- a text that is no word, read as such
 not-word : (target : Option _) (a : List ℤ) (k : ℕ) → target ≡ none → IsRead target (record { is = false; axes = a; angle = k })
-unfolding wordIs
+unfolding word_is
 not-word target a k e = record { is = sym e; ready = λ f. absurd (false≢true f) }
 
 unordered-word : (l : List ℤ) (o : Option ℕ) → (eqb (length l) 4 && is_order l) ≡ false → word_of l o ≡ none
@@ -110,26 +110,26 @@ short-axes (a ∷ b ∷ c ∷ []) h = refl
 short-axes (a ∷ b ∷ c ∷ d ∷ t) h = absurd (never (omega arith))
 
 module _ (t : Bytes) where
-  pub word-short : {a : List ℤ} {k : ℕ} → length t < 4 → IsRead (plainWord t) (record { is = false; axes = a; angle = k })
-  word-short {a} {k} h = not-word (plainWord t) a k (unordered-word (map axis (take 4 t)) (ending (drop 4 t)) (rw (short-axes t h)))
+  pub word-short : {a : List ℤ} {k : ℕ} → length t < 4 → IsRead (plain_word t) (record { is = false; axes = a; angle = k })
+  word-short {a} {k} h = not-word (plain_word t) a k (unordered-word (map axis (take 4 t)) (ending (drop 4 t)) (rw (short-axes t h)))
 
   module _ (h : 4 ≤ length t) {axes : List ℤ} (are : axes ≡ map axis (take 4 t)) where
     four-axes : length axes ≡ 4
     four-axes = ap length are ∙ length-map (take 4 t) axis ∙ length-take-le 4 t h
 
-    pub word-unordered : {a : List ℤ} {k : ℕ} → is_order axes ≡ false → IsRead (plainWord t) (record { is = false; axes = a; angle = k })
-    word-unordered {a} {k} o = not-word (plainWord t) a k (rw (← are) (unordered-word axes (ending (drop 4 t)) (rw (four-axes, o))))
+    pub word-unordered : {a : List ℤ} {k : ℕ} → is_order axes ≡ false → IsRead (plain_word t) (record { is = false; axes = a; angle = k })
+    word-unordered {a} {k} o = not-word (plain_word t) a k (rw (← are) (unordered-word axes (ending (drop 4 t)) (rw (four-axes, o))))
 
     module _ (o : is_order axes ≡ true) {r : Ending} {rest : Bytes} (behind : rest ≡ drop 4 t) (e : Ends rest r) where
-      ending-is : ending (drop 4 t) ≡ angleOf r
+      ending-is : ending (drop 4 t) ≡ angle_of r
       ending-is = ap ending (sym behind) ∙ sym e.is
 
-      pub word-unended : {a : List ℤ} {k : ℕ} → r ≡ Other → IsRead (plainWord t) (record { is = false; axes = a; angle = k })
-      unfolding word_of angleOf
-      word-unended {a} {k} f = not-word (plainWord t) a k (rw (ending-is, f))
+      pub word-unended : {a : List ℤ} {k : ℕ} → r ≡ Other → IsRead (plain_word t) (record { is = false; axes = a; angle = k })
+      unfolding word_of angle_of
+      word-unended {a} {k} f = not-word (plain_word t) a k (rw (ending-is, f))
 
-      pub word-so : {angle : ℕ} → r ≡ Angle angle → IsRead (plainWord t) (record { is = true; axes = axes; angle = angle })
-      unfolding word_of angleOf wordIs wordAs
+      pub word-so : {angle : ℕ} → r ≡ Angle angle → IsRead (plain_word t) (record { is = true; axes = axes; angle = angle })
+      unfolding word_of angle_of word_is word_as
       word-so {angle} f =
           record {
             is = sym (rw (ending-is, f, ← are, four-axes, o));
@@ -138,10 +138,10 @@ module _ (t : Bytes) where
 
 -- `pass` is `enuf`
 module _ (t : Bytes) {r : Word} where
-  pub word-pass : same t (ascii "pass") ≡ true → IsRead (plainWord (ascii "enuf")) r → IsRead (word t) r
+  pub word-pass : same t (ascii "pass") ≡ true → IsRead (plain_word (ascii "enuf")) r → IsRead (word t) r
   unfolding word
   word-pass e m = rw e m
 
-  pub word-other : same t (ascii "pass") ≡ false → IsRead (plainWord t) r → IsRead (word t) r
+  pub word-other : same t (ascii "pass") ≡ false → IsRead (plain_word t) r → IsRead (word t) r
   unfolding word
   word-other e m = rw e m

@@ -12,8 +12,8 @@ unfoldable pub staying : ℕ → Float → ℕ → Bool
 staying p m i = eqb p i && eq m one
 
 -- of all four, by their places and factors
-unfoldable pub allStaying : ℕ → ℕ → ℕ → ℕ → Coord → Bool
-allStaying p1 p2 p3 p4 m =
+unfoldable pub all_staying : ℕ → ℕ → ℕ → ℕ → Coord → Bool
+all_staying p1 p2 p3 p4 m =
     staying p1 m.a 1 && (staying p2 m.b 2 && (staying p3 m.c 3 && staying p4 m.d 4))
 
 -- the four factors of a step, and each under 1
@@ -30,8 +30,8 @@ overs m =
     }
 
 -- each number times its factor
-unfoldable pub scaledBy : Coord → Coord → Coord
-scaledBy m c =
+unfoldable pub scaled_by : Coord → Coord → Coord
+scaled_by m c =
     record {
       a = mul binary64 c.a m.a;
       b = mul binary64 c.b m.b;
@@ -41,20 +41,20 @@ scaledBy m c =
 
 -- forward: output i is the number at slot i times factor i
 unfoldable pub scaled : Slots → Coord → Coord → Coord
-scaled o m c = scaledBy m (picked o c)
+scaled o m c = scaled_by m (picked o c)
 
 -- inverse: number i times factor i goes to slot i
 unfoldable pub unscaled : Slots → Coord → Coord → Coord
-unscaled o m c = placed o (scaledBy m c) c
+unscaled o m c = placed o (scaled_by m c) c
 
 -- forward or back
-unfoldable pub scaledIf : Bool → Slots → Coord → Coord → Coord
-scaledIf back o m c = cond back (unscaled o m c) (scaled o m c)
+unfoldable pub scaled_if : Bool → Slots → Coord → Coord → Coord
+scaled_if back o m c = cond back (unscaled o m c) (scaled o m c)
 
 -- the factors of a direction in the documented mode: back, that of a number is 1 over its own
-unfoldable pub factorsByAxis : Bool → Coord → Coord
-factorsByAxis back m = cond back (overs m) m
+unfoldable pub factors_by_axis : Bool → Coord → Coord
+factors_by_axis back m = cond back (overs m) m
 
 -- the factors of a direction: back, that of a number is 1 over that of its place
-unfoldable pub factorsFor : Bool → Slots → Coord → Coord
-factorsFor back o m = cond back (picked o (overs m)) m
+unfoldable pub factors_for : Bool → Slots → Coord → Coord
+factors_for back o m = cond back (picked o (overs m)) m

@@ -9,25 +9,25 @@ use Rattle.adapt.specs.declared.words.Ending.{Ending}
 use Rattle.adapt.specs.declared.words.Ending.TheVariants.{Angle, Other}
 
 -- the angle of an ending, if it is one
-unfoldable pub angleOf : Ending → Option ℕ
-angleOf (Angle k) = some k
-angleOf Other = none
+unfoldable pub angle_of : Ending → Option ℕ
+angle_of (Angle k) = some k
+angle_of Other = none
 
 -- what reading an ending gives
 pub record Ends (t : Bytes) (r : Ending) : Type 0 where
-  pub is : angleOf r ≡ adapt.ending t
+  pub is : angle_of r ≡ adapt.ending t
   pub small : (k : ℕ) → r ≡ Angle k → k ≤ 2
 
 -- "four letters, each axis once, and an ending or none"
-abbrev pub plainWord : Bytes → Option adapt.Word
-plainWord t = adapt.word_of (map adapt.axis (take 4 t)) (adapt.ending (drop 4 t))
+abbrev pub plain_word : Bytes → Option adapt.Word
+plain_word t = adapt.word_of (map adapt.axis (take 4 t)) (adapt.ending (drop 4 t))
 
 -- a word as the code has it
-unfoldable pub wordAs : Word → adapt.Word
-wordAs w = record { axes = w.axes; angle = w.angle }
+unfoldable pub word_as : Word → adapt.Word
+word_as w = record { axes = w.axes; angle = w.angle }
 
-unfoldable pub wordIs : Word → Option adapt.Word
-wordIs w = cond w.is (some (wordAs w)) none
+unfoldable pub word_is : Word → Option adapt.Word
+word_is w = cond w.is (some (word_as w)) none
 
 -- what is needed of a word: four axes, each once, and one of the three angles
 pub record Ready (w : Word) : Type 0 where
@@ -37,5 +37,5 @@ pub record Ready (w : Word) : Type 0 where
 
 -- what reading a word gives
 pub record IsRead (target : Option adapt.Word) (r : Word) : Type 0 where
-  pub is : wordIs r ≡ target
+  pub is : word_is r ≡ target
   pub ready : r.is ≡ true → Ready r

@@ -1,7 +1,7 @@
 // What it does in a direction, which `inv` has turned already.
 ghost use Rattle.std.specs.Prelude.{◌≡◌, true, ◌≤◌, take};
-ghost use Rattle.rules.specs.Operators.Documented.{isAdaptIn, adaptIn};
-ghost use Rattle.rules.specs.Pipeline.Running.{actOf};
+ghost use Rattle.rules.specs.Operators.Documented.{is_adapt_in, adapt_in};
+ghost use Rattle.rules.specs.Pipeline.Running.{act_of};
 ghost use Rattle.columns.specs.Doings.{Does};
 
 use columns::{Act, Doing};
@@ -9,8 +9,8 @@ use rules::{Direction, Mode};
 
 pub fn act_of(args: [i32; 8], n: usize, direction: Direction, mode: Mode) -> Doing
     requires n_bound { n ≤ 8 }
-    requires args_value { isAdaptIn mode (take n args) ≡ true }
-    ensures { Does (actOf direction (adaptIn mode) (take n args)) result }
+    requires args_value { is_adapt_in mode (take n args) ≡ true }
+    ensures { Does (act_of direction (adapt_in mode) (take n args)) result }
 {
     match direction {
         Direction::Forward => Doing {

@@ -1,7 +1,7 @@
 // The test of its arguments: used where a record is tested.
 ghost use Rattle.std.specs.Prelude.{◌≡◌, ◌<◌, length, get_or, pos};
-ghost use Rattle.rules.specs.Operators.Adapt.{is_code, isAdapt};
-ghost use Rattle.adapt.specs.Arguments.{areFactors};
+ghost use Rattle.rules.specs.Operators.Adapt.{is_code, is_adapt};
+ghost use Rattle.adapt.specs.Arguments.{are_factors};
 
 use numbers::{Kind, are_of, is_order, minus_at, size_at};
 
@@ -23,7 +23,7 @@ pub fn is_code(l: &[i32], i: usize) -> bool
 // The codes of four factors' sizes: the first two alike, the others 0.
 fn are_factors(l: &[i32]) -> bool
     requires { length l.now ≡ 4 }
-    ensures { result ≡ areFactors l.now }
+    ensures { result ≡ are_factors l.now }
 {
     if !is_code(l, 0) {
         return false;
@@ -39,7 +39,7 @@ fn are_factors(l: &[i32]) -> bool
 
 // An order of four, and the codes of four factors' sizes.
 pub fn is_adapt(l: &[i32]) -> bool
-    ensures { result ≡ isAdapt l.now }
+    ensures { result ≡ is_adapt l.now }
 {
     if l.len() != 8 {
         return false;

@@ -1,10 +1,10 @@
 // `adapt` on numbers: every coordinate of a list is read as a `Coord`, goes through it by value, and is put back.
 ghost use Rattle.std.specs.Prelude.{◌≡◌, true, map};
-ghost use Rattle.rules.specs.Operators.Adapt.{isAdapt, adapted};
-ghost use Rattle.rules.specs.Operators.Documented.{isDocumented, adaptedByAxis, isAdaptIn, adaptedIn};
+ghost use Rattle.rules.specs.Operators.Adapt.{is_adapt, adapted};
+ghost use Rattle.rules.specs.Operators.Documented.{is_documented, adapted_by_axis, is_adapt_in, adapted_in};
 ghost use Rattle.rules.specs.Pipeline.Tuples.{tuples};
 ghost use Rattle.columns.specs.Coords.{Within};
-ghost use Rattle.adapt.specs.Factors.{scaledBy, scaledIf, factorsFor, factorsByAxis};
+ghost use Rattle.adapt.specs.Factors.{scaled_by, scaled_if, factors_for, factors_by_axis};
 
 use crate::factors::{is_noop, mults_of, overs_of};
 use columns::{Slots, get_coord, pick, place, set_coord, slots_of};
@@ -12,7 +12,7 @@ use rules::{Coord, Mode};
 
 // Each number of a coordinate times its factor.
 fn scaled_by(m: Coord, c: Coord) -> Coord
-    ensures { result ≡ scaledBy m c }
+    ensures { result ≡ scaled_by m c }
 {
     Coord {
         a: c.a * m.a,
@@ -25,7 +25,7 @@ fn scaled_by(m: Coord, c: Coord) -> Coord
 // One coordinate: forward, output i is the number at slot i times factor i; back, number i times factor i goes to slot i.
 fn scaled(c: Coord, back: bool, o: Slots, m: Coord) -> Coord
     requires { Within o }
-    ensures { result ≡ scaledIf back o m c }
+    ensures { result ≡ scaled_if back o m c }
 {
     if back {
         return place(c, o, scaled_by(m, c));
@@ -36,7 +36,7 @@ fn scaled(c: Coord, back: bool, o: Slots, m: Coord) -> Coord
 // The factors of a direction: back, that of a number is 1 over that of its place.
 fn factors_for(back: bool, o: Slots, m: Coord) -> Coord
     requires { Within o }
-    ensures { result ≡ factorsFor back o m }
+    ensures { result ≡ factors_for back o m }
 {
     if back {
         return pick(overs_of(m), o);
@@ -46,7 +46,7 @@ fn factors_for(back: bool, o: Slots, m: Coord) -> Coord
 
 // The factors of a direction in the documented mode: back, that of a number is 1 over its own.
 fn factors_by_axis(back: bool, m: Coord) -> Coord
-    ensures { result ≡ factorsByAxis back m }
+    ensures { result ≡ factors_by_axis back m }
 {
     if back {
         return overs_of(m);
@@ -57,7 +57,7 @@ fn factors_by_axis(back: bool, m: Coord) -> Coord
 // Every coordinate of a list, by slots and factors that are made once.
 fn scale_all(xs: &mut [f64], back: bool, o: Slots, f: Coord)
     requires { Within o }
-    ensures { tuples xs.new ≡ map (scaledIf back o f) (tuples xs.old) }
+    ensures { tuples xs.new ≡ map (scaled_if back o f) (tuples xs.old) }
 {
     let n = xs.len() / 4;
     let mut k = 0;
@@ -70,7 +70,7 @@ fn scale_all(xs: &mut [f64], back: bool, o: Slots, f: Coord)
 
 // In the crate's mode. A no-op touches nothing.
 fn adapt_crate(xs: &mut [f64], back: bool, args: [i32; 8])
-    requires { isAdapt args ≡ true }
+    requires { is_adapt args ≡ true }
     ensures { tuples xs.new ≡ map (adapted back args) (tuples xs.old) }
 {
     let o = slots_of(&args[..4]);
@@ -83,8 +83,8 @@ fn adapt_crate(xs: &mut [f64], back: bool, args: [i32; 8])
 
 // In the documented mode.
 fn adapt_by_axis(xs: &mut [f64], back: bool, args: [i32; 8])
-    requires { isDocumented args ≡ true }
-    ensures { tuples xs.new ≡ map (adaptedByAxis back args) (tuples xs.old) }
+    requires { is_documented args ≡ true }
+    ensures { tuples xs.new ≡ map (adapted_by_axis back args) (tuples xs.old) }
 {
     let o = slots_of(&args[..4]);
     let m = mults_of(args);
@@ -93,8 +93,8 @@ fn adapt_by_axis(xs: &mut [f64], back: bool, args: [i32; 8])
 
 // Every coordinate of a list, in a mode.
 pub fn adapt(xs: &mut [f64], mode: Mode, back: bool, args: [i32; 8])
-    requires { isAdaptIn mode args ≡ true }
-    ensures { tuples xs.new ≡ map (adaptedIn mode back args) (tuples xs.old) }
+    requires { is_adapt_in mode args ≡ true }
+    ensures { tuples xs.new ≡ map (adapted_in mode back args) (tuples xs.old) }
 {
     match mode {
         Mode::Crate => adapt_crate(xs, back, args),

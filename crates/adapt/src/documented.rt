@@ -2,8 +2,8 @@
 ghost use Rattle.std.specs.Prelude.{◌≡◌, ◌+◌, ◌<◌, length};
 ghost use Rattle.rules.specs.Text.Lists.{all_of};
 ghost use Rattle.rules.specs.Operators.Adapt.{is_code};
-ghost use Rattle.rules.specs.Operators.Documented.{outputByAxis, angleByAxis, combinedByAxis, isPair, twoAlike, isDocumented};
-ghost use Rattle.adapt.specs.Words.{wordAs, Ready};
+ghost use Rattle.rules.specs.Operators.Documented.{output_by_axis, angle_by_axis, combined_by_axis, is_pair, two_alike, is_documented};
+ghost use Rattle.adapt.specs.Words.{word_as, Ready};
 
 use crate::arguments::is_code;
 use crate::words::{Word, code_of, position_of};
@@ -15,7 +15,7 @@ fn output_by_axis(from: Word, to: Word, i: usize) -> i32
     requires ready { Ready from }
     requires ready_2 { Ready to }
     requires i_bound { i < 4 }
-    ensures { result ≡ outputByAxis (wordAs from) (wordAs to) (i + 1) }
+    ensures { result ≡ output_by_axis (word_as from) (word_as to) (i + 1) }
 {
     let a = from.axes;
     let b = to.axes;
@@ -29,7 +29,7 @@ fn angle_by_axis(from: Word, to: Word, i: usize) -> i32
     requires ready { Ready from }
     requires ready_2 { Ready to }
     requires i_bound { i < 4 }
-    ensures { result ≡ angleByAxis (wordAs from) (wordAs to) (i + 1) }
+    ensures { result ≡ angle_by_axis (word_as from) (word_as to) (i + 1) }
 {
     let b = to.axes;
     if 2 < size_at(&b[..], i) {
@@ -42,7 +42,7 @@ fn angle_by_axis(from: Word, to: Word, i: usize) -> i32
 pub fn combined_by_axis(from: Word, to: Word) -> [i32; 8]
     requires ready { Ready from }
     requires ready_2 { Ready to }
-    ensures { result ≡ combinedByAxis (wordAs from) (wordAs to) }
+    ensures { result ≡ combined_by_axis (word_as from) (word_as to) }
 {
     let o1 = output_by_axis(from, to, 0);
     let o2 = output_by_axis(from, to, 1);
@@ -57,7 +57,7 @@ pub fn combined_by_axis(from: Word, to: Word) -> [i32; 8]
 
 // Are two codes alike, and the other two 0?
 fn is_pair(a: usize, b: usize, c: usize, d: usize) -> bool
-    ensures { result ≡ isPair a b c d }
+    ensures { result ≡ is_pair a b c d }
 {
     if a != b {
         return false;
@@ -70,7 +70,7 @@ fn is_pair(a: usize, b: usize, c: usize, d: usize) -> bool
 
 // Is that so of some two of the four?
 fn two_alike(a: usize, b: usize, c: usize, d: usize) -> bool
-    ensures { result ≡ twoAlike a b c d }
+    ensures { result ≡ two_alike a b c d }
 {
     if is_pair(a, b, c, d) {
         return true;
@@ -109,7 +109,7 @@ fn are_codes(l: &[i32]) -> bool
 
 // An order of four, and the codes of four factors' sizes, two alike and the others 0.
 pub fn is_documented(l: &[i32]) -> bool
-    ensures { result ≡ isDocumented l.now }
+    ensures { result ≡ is_documented l.now }
 {
     if l.len() != 8 {
         return false;

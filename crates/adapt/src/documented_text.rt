@@ -3,13 +3,13 @@ ghost use Rattle.std.specs.Prelude.{◌≡◌, true, ◌&&◌, map, max, ◌<◌
 ghost use Rattle.rules.specs.Text.Lists.{all_of};
 ghost use Rattle.rules.specs.Text.Bytes.{joined};
 ghost use Rattle.rules.specs.Operators.Adapt.{axis};
-ghost use Rattle.rules.specs.Operators.Documented.{isDocumented, codeFrom, lettersFor, lettersFrom, code_of};
+ghost use Rattle.rules.specs.Operators.Documented.{is_documented, code_from, letters_for, letters_from, code_of};
 ghost use Rattle.rules.specs.Operators.Descriptions.{Documented};
-ghost use Rattle.rules.specs.Pipeline.Write.{operatorWords};
+ghost use Rattle.rules.specs.Pipeline.Write.{operator_words};
 ghost use Rattle.text.specs.Wrote.{WroteAt};
 ghost use Rattle.numbers.specs.Parts.{Room};
-ghost use Rattle.numbers.specs.Axes.{isAxis};
-ghost use Rattle.adapt.specs.Text.{axisFrom};
+ghost use Rattle.numbers.specs.Axes.{is_axis};
+ghost use Rattle.adapt.specs.Text.{axis_from};
 
 use crate::words::{axes_of, position_of};
 use crate::writing::words;
@@ -27,7 +27,7 @@ fn both_zero(a: usize, b: usize) -> bool
 
 // The axes of `from`, by the codes of the four input places.
 fn axes_for(a: usize, b: usize, c: usize, d: usize) -> [i32; 4]
-    ensures { result ≡ map axis (lettersFor a b c d) }
+    ensures { result ≡ map axis (letters_for a b c d) }
 {
     if both_zero(c, d) {
         return axes_of(b"enuf");
@@ -50,7 +50,7 @@ fn axes_for(a: usize, b: usize, c: usize, d: usize) -> [i32; 4]
 // The code of the output that takes input place p.
 fn code_from(l: &[i32], p: usize) -> usize
     requires { length l.now ≡ 8 }
-    ensures { result ≡ codeFrom l.now p }
+    ensures { result ≡ code_from l.now p }
 {
     size_at(l, 3 + position_of(p, &l[..4]))
 }
@@ -58,7 +58,7 @@ fn code_from(l: &[i32], p: usize) -> usize
 // The axes of `from`.
 fn axes_from(l: &[i32]) -> [i32; 4]
     requires { length l.now ≡ 8 }
-    ensures { result ≡ map axis (lettersFrom l.now) }
+    ensures { result ≡ map axis (letters_from l.now) }
 {
     axes_for(
         code_from(l, 1),
@@ -71,10 +71,10 @@ fn axes_from(l: &[i32]) -> [i32; 4]
 // The axis of output i: that of the input place which it takes, or the same turned.
 fn axis_from(from: &[i32], l: &[i32], i: usize) -> i32
     requires from_len { length from.now ≡ 4 }
-    requires from_value { all_of isAxis from.now ≡ true }
-    requires l_value { all_of isAxis l.now ≡ true }
+    requires from_value { all_of is_axis from.now ≡ true }
+    requires l_value { all_of is_axis l.now ≡ true }
     requires i_in_bounds { i < length l.now }
-    ensures { result ≡ axisFrom from.now (get_or l.now i (pos 0)) }
+    ensures { result ≡ axis_from from.now (get_or l.now i (pos 0)) }
 {
     signed(minus_at(l, i), size_at(from, size_at(l, i) - 1))
 }
@@ -82,10 +82,10 @@ fn axis_from(from: &[i32], l: &[i32], i: usize) -> i32
 // The axes of `to`: those of the outputs.
 fn axes_to(from: &[i32], l: &[i32]) -> [i32; 4]
     requires from_len { length from.now ≡ 4 }
-    requires from_value { all_of isAxis from.now ≡ true }
-    requires l_value { all_of isAxis l.now ≡ true }
+    requires from_value { all_of is_axis from.now ≡ true }
+    requires l_value { all_of is_axis l.now ≡ true }
     requires l_len { length l.now ≡ 4 }
-    ensures { result ≡ map (axisFrom from.now) l.now }
+    ensures { result ≡ map (axis_from from.now) l.now }
 {
     [
         axis_from(from, l, 0),
@@ -118,9 +118,9 @@ fn code_in(l: &[i32]) -> usize
 
 // The name and both words.
 pub fn write_documented(l: &[i32], out: &mut [u8], o: usize) -> usize
-    requires l_value { isDocumented l.now ≡ true }
-    requires room { Room (joined (operatorWords Documented l.now)) o out.old }
-    ensures { WroteAt (joined (operatorWords Documented l.now)) out.old o result out.new }
+    requires l_value { is_documented l.now ≡ true }
+    requires room { Room (joined (operator_words Documented l.now)) o out.old }
+    ensures { WroteAt (joined (operator_words Documented l.now)) out.old o result out.new }
 {
     let from = axes_from(l);
     let to = axes_to(&from[..], &l[..4]);

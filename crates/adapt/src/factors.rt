@@ -4,7 +4,7 @@ ghost use Rattle.rules.specs.Text.Decimal.{minus};
 ghost use Rattle.rules.specs.Operators.Arguments.{size};
 ghost use Rattle.rules.specs.Operators.Numbers.{turn};
 ghost use Rattle.rules.specs.Operators.Adapt.{angle, factor};
-ghost use Rattle.adapt.specs.Factors.{staying, mults, overs, allStaying};
+ghost use Rattle.adapt.specs.Factors.{staying, mults, overs, all_staying};
 
 use columns::turned;
 use numbers::{is_minus, size_of};
@@ -70,7 +70,7 @@ pub fn overs_of(m: Coord) -> Coord
 
 // Is a step a no-op, by its four places and factors?
 pub fn is_noop(p1: usize, p2: usize, p3: usize, p4: usize, m: Coord) -> bool
-    ensures { result ≡ allStaying p1 p2 p3 p4 m }
+    ensures { result ≡ all_staying p1 p2 p3 p4 m }
 {
     if !is_staying(p1, m.a, 1) {
         return false;

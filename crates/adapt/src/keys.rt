@@ -1,14 +1,14 @@
 // Its keys: `from` and `to`, which take a word each.
 ghost use Rattle.std.specs.Prelude.{◌≡◌};
-ghost use Rattle.rules.specs.Operators.Keys.{kindIn};
-ghost use Rattle.rules.specs.Operators.Adapt.{wordKeys};
+ghost use Rattle.rules.specs.Operators.Keys.{kind_in};
+ghost use Rattle.rules.specs.Operators.Adapt.{word_keys};
 
 use rules::Kind;
 use text::is_same;
 
 // What a key takes, if it is one of them.
 pub fn kind_of(key: &[u8]) -> Kind
-    ensures { result ≡ kindIn wordKeys key.now }
+    ensures { result ≡ kind_in word_keys key.now }
 {
     if is_same(key, b"from") {
         return Kind::Word;

@@ -1,8 +1,8 @@
 // What the two modes share: the operator's number, and the arguments that two words make.
 ghost use Rattle.std.specs.Prelude.{◌≡◌};
 ghost use Rattle.rules.specs.Operators.Table.{number_of};
-ghost use Rattle.rules.specs.Operators.Documented.{adaptIn, combinedIn};
-ghost use Rattle.adapt.specs.Words.{wordAs, Ready};
+ghost use Rattle.rules.specs.Operators.Documented.{adapt_in, combined_in};
+ghost use Rattle.adapt.specs.Words.{word_as, Ready};
 
 use crate::documented::combined_by_axis;
 use crate::words::{Word, combined};
@@ -10,7 +10,7 @@ use rules::{ADAPT, DOCUMENTED, Mode};
 
 // The number of the operator.
 pub fn operator_in(mode: Mode) -> u8
-    ensures { result ≡ number_of (adaptIn mode) }
+    ensures { result ≡ number_of (adapt_in mode) }
 {
     match mode {
         Mode::Crate => ADAPT,
@@ -22,7 +22,7 @@ pub fn operator_in(mode: Mode) -> u8
 pub fn between(from: Word, to: Word, mode: Mode) -> [i32; 8]
     requires ready { Ready from }
     requires ready_2 { Ready to }
-    ensures { result ≡ combinedIn mode (wordAs from) (wordAs to) }
+    ensures { result ≡ combined_in mode (word_as from) (word_as to) }
 {
     match mode {
         Mode::Crate => combined(from, to),

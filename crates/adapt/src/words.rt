@@ -1,7 +1,7 @@
 // Its words, `from` and `to`: read from a text, and the eight arguments that two of them make.
 ghost use Rattle.std.specs.Prelude.{◌≡◌, map, ◌+◌, ◌≤◌, ◌<◌, length, take};
-ghost use Rattle.rules.specs.Operators.Adapt.{place_in, axis, word, position, outputOf, angles, combined};
-ghost use Rattle.adapt.specs.Words.{Ends, plainWord, wordAs, IsRead, Ready};
+ghost use Rattle.rules.specs.Operators.Adapt.{place_in, axis, word, position, output_of, angles, combined};
+ghost use Rattle.adapt.specs.Words.{Ends, plain_word, word_as, IsRead, Ready};
 
 use numbers::{is_order, minus_at, signed, size_at};
 use text::is_same;
@@ -79,7 +79,7 @@ fn ending_of(t: &[u8]) -> Ending
 
 // "four letters, each axis once, and an ending or none"
 fn letters(t: &[u8]) -> Word
-    ensures { IsRead (plainWord t.now) result }
+    ensures { IsRead (plain_word t.now) result }
 {
     let none = Word {
         is: false,
@@ -134,7 +134,7 @@ fn output(from: Word, to: Word, i: usize) -> i32
     requires ready { Ready from }
     requires ready_2 { Ready to }
     requires i_bound { i < 4 }
-    ensures { result ≡ outputOf (wordAs from) (wordAs to) (i + 1) }
+    ensures { result ≡ output_of (word_as from) (word_as to) (i + 1) }
 {
     let a = from.axes;
     let b = to.axes;
@@ -146,7 +146,7 @@ fn output(from: Word, to: Word, i: usize) -> i32
 pub fn code_of(from: Word, to: Word) -> i32
     requires ready { Ready from }
     requires ready_2 { Ready to }
-    ensures { result ≡ angles (wordAs from) (wordAs to) }
+    ensures { result ≡ angles (word_as from) (word_as to) }
 {
     if from.angle == to.angle {
         return 0;
@@ -159,7 +159,7 @@ pub fn code_of(from: Word, to: Word) -> i32
 pub fn combined(from: Word, to: Word) -> [i32; 8]
     requires ready { Ready from }
     requires ready_2 { Ready to }
-    ensures { result ≡ combined (wordAs from) (wordAs to) }
+    ensures { result ≡ combined (word_as from) (word_as to) }
 {
     let o1 = output(from, to, 0);
     let o2 = output(from, to, 1);

@@ -2,13 +2,13 @@
 ghost use Rattle.std.specs.Prelude.{◌≡◌, true, map, ◌<◌, length, get_or, pos};
 ghost use Rattle.rules.specs.Text.Lists.{all_of};
 ghost use Rattle.text.specs.Wrote.{WroteAt};
-ghost use Rattle.rules.specs.Operators.Adapt.{letter, endingOf, isAdapt};
+ghost use Rattle.rules.specs.Operators.Adapt.{letter, ending_of, is_adapt};
 ghost use Rattle.numbers.specs.Parts.{Room};
-ghost use Rattle.numbers.specs.Axes.{isAxis};
+ghost use Rattle.numbers.specs.Axes.{is_axis};
 ghost use Rattle.rules.specs.Text.Bytes.{joined};
 ghost use Rattle.rules.specs.Operators.Descriptions.{Adapt};
-ghost use Rattle.rules.specs.Pipeline.Write.{operatorWords};
-ghost use Rattle.adapt.specs.Text.{wordText, wordsText};
+ghost use Rattle.rules.specs.Pipeline.Write.{operator_words};
+ghost use Rattle.adapt.specs.Text.{word_text, words_text};
 
 use numbers::{minus_at, put_byte, size_at};
 use text::put;
@@ -24,7 +24,7 @@ fn byte_at(s: &[u8], i: usize) -> u8
 // The letter of number i of l, an axis with its sign.
 fn letter(l: &[i32], i: usize) -> u8
     requires i_in_bounds { i < length l.now }
-    requires l_value { all_of isAxis l.now ≡ true }
+    requires l_value { all_of is_axis l.now ≡ true }
     ensures { result ≡ letter (get_or l.now i (pos 0)) }
 {
     let m = size_at(l, i);
@@ -36,7 +36,7 @@ fn letter(l: &[i32], i: usize) -> u8
 
 // The letters of the axes in l.
 fn letters(l: &[i32], out: &mut [u8], o: usize) -> usize
-    requires l_value { all_of isAxis l.now ≡ true }
+    requires l_value { all_of is_axis l.now ≡ true }
     requires room { Room (map letter l.now) o out.old }
     ensures { WroteAt (map letter l.now) out.old o result out.new }
 {
@@ -52,8 +52,8 @@ fn letters(l: &[i32], out: &mut [u8], o: usize) -> usize
 
 // The ending of an angle: none for radians.
 fn ending(angle: usize, out: &mut [u8], o: usize) -> usize
-    requires { Room (endingOf angle) o out.old }
-    ensures { WroteAt (endingOf angle) out.old o result out.new }
+    requires { Room (ending_of angle) o out.old }
+    ensures { WroteAt (ending_of angle) out.old o result out.new }
 {
     if angle == 0 {
         return o;
@@ -66,9 +66,9 @@ fn ending(angle: usize, out: &mut [u8], o: usize) -> usize
 
 // A word behind its key: the letters of its axes, and the ending of its angle.
 fn word(key: &[u8], l: &[i32], angle: usize, out: &mut [u8], o: usize) -> usize
-    requires l_value { all_of isAxis l.now ≡ true }
-    requires room { Room (wordText key.now l.now angle) o out.old }
-    ensures { WroteAt (wordText key.now l.now angle) out.old o result out.new }
+    requires l_value { all_of is_axis l.now ≡ true }
+    requires room { Room (word_text key.now l.now angle) o out.old }
+    ensures { WroteAt (word_text key.now l.now angle) out.old o result out.new }
 {
     let a = put(key, out, o);
     let e = letters(l, out, a);
@@ -77,10 +77,10 @@ fn word(key: &[u8], l: &[i32], angle: usize, out: &mut [u8], o: usize) -> usize
 
 // The name and both words, by their axes and the code of the factor that goes from one angle to the other.
 pub fn words(code: usize, from: &[i32], to: &[i32], out: &mut [u8], o: usize) -> usize
-    requires from_value { all_of isAxis from.now ≡ true }
-    requires to_value { all_of isAxis to.now ≡ true }
-    requires room { Room (wordsText code from.now to.now) o out.old }
-    ensures { WroteAt (wordsText code from.now to.now) out.old o result out.new }
+    requires from_value { all_of is_axis from.now ≡ true }
+    requires to_value { all_of is_axis to.now ≡ true }
+    requires room { Room (words_text code from.now to.now) o out.old }
+    ensures { WroteAt (words_text code from.now to.now) out.old o result out.new }
 {
     let e = word(b"adapt from=", from, code / 3, out, o);
     word(b" to=", to, code % 3, out, e)
@@ -88,9 +88,9 @@ pub fn words(code: usize, from: &[i32], to: &[i32], out: &mut [u8], o: usize) ->
 
 // In the crate's mode `from` has the axes in their order, and `to` has the outputs.
 pub fn write_words(l: &[i32], out: &mut [u8], o: usize) -> usize
-    requires l_value { isAdapt l.now ≡ true }
-    requires room { Room (joined (operatorWords Adapt l.now)) o out.old }
-    ensures { WroteAt (joined (operatorWords Adapt l.now)) out.old o result out.new }
+    requires l_value { is_adapt l.now ≡ true }
+    requires room { Room (joined (operator_words Adapt l.now)) o out.old }
+    ensures { WroteAt (joined (operator_words Adapt l.now)) out.old o result out.new }
 {
     let from = [1, 2, 3, 4];
     words(size_at(l, 4), &from[..], &l[..4], out, o)

@@ -11,14 +11,14 @@ use lib.IntN.{ℤ, pos}
 use lib.Ieee.{Float}
 use Rattle.rules.specs.Text.Lists.{all_of}
 use Rattle.rules.specs.Text.Decimal.{minus}
-use Rattle.rules.specs.Operators.Arguments.{size, isDistinct, is_order}
-use Rattle.rules.specs.Operators.Axisswap.{swapFrom, unswapFrom, reordered, swapped}
+use Rattle.rules.specs.Operators.Arguments.{size, is_distinct, is_order}
+use Rattle.rules.specs.Operators.Axisswap.{swap_from, unswap_from, reordered, swapped}
 use Rattle.rules.specs.Operators.Numbers.{number, put, turn}
 use Rattle.rules.specs.declared.Coord.{Coord}
 use Rattle.laws_lists.specs.Tests.{and_left, and_right}
 use Rattle.laws_lists.specs.Lists.{map_same}
 use Rattle.columns.specs.Coords.{slot, slot_at, slots_of, picked, placed}
-use Rattle.axisswap.specs.Signs.{turnAt, turnsOf, turnedBy, ordered, unordered, orderedBy}
+use Rattle.axisswap.specs.Signs.{turn_at, turns_of, turned_by, ordered, unordered, ordered_by}
 use Rattle.columns.specs.declared.slots.Slots.{Slots}
 use Rattle.axisswap.specs.declared.coords.Turns.{Turns}
 use Rattle.columns.proofs.BySlot.{slot-number, slot-put, put-own, put-above}
@@ -26,12 +26,12 @@ use Rattle.columns.proofs.BySlot.{slot-number, slot-put, put-own, put-above}
 -- ---- from what the code tests
 
 module _ (l : List ℤ) (i : ℕ) where
-  pub turn-named : i < length l → turnAt l i ≡ minus (get_or l i (pos 0))
-  unfolding turnAt
+  pub turn-named : i < length l → turn_at l i ≡ minus (get_or l i (pos 0))
+  unfolding turn_at
   turn-named h = rw (lt-ltb i (length l) h)
 
-  pub turn-stays : length l ≤ i → turnAt l i ≡ false
-  unfolding turnAt
+  pub turn-stays : length l ≤ i → turn_at l i ≡ false
+  unfolding turn_at
   turn-stays h = rw (le-ltb i (length l) h)
 
 -- ---- the rule of an order
@@ -48,11 +48,11 @@ ruled l h =
     let A = leb 1 (length l) in
     let B = leb (length l) 4 in
     let C = all_of (λ (x : ℤ). leb 1 (size x) && leb (size x) (length l)) l in
-    let r = and_right A (B && (C && isDistinct l)) h in
+    let r = and_right A (B && (C && is_distinct l)) h in
     record {
       least = leb-true 1 (length l) (and_left A _ h);
-      most = leb-true (length l) 4 (and_left B (C && isDistinct l) r);
-      sizes = and_left C (isDistinct l) (and_right B (C && isDistinct l) r);
+      most = leb-true (length l) 4 (and_left B (C && is_distinct l) r);
+      sizes = and_left C (is_distinct l) (and_right B (C && is_distinct l) r);
     }
 
 -- ---- forward
@@ -62,8 +62,8 @@ module _ (c : Coord) where
   named : (x : ℤ) → turn (minus x) (number (slot (size x) + 1) c) ≡ turn (minus x) (number (size x) c)
   named x = ap (turn (minus x)) (slot-number (size x) c)
 
-  order-made : (l : List ℤ) → Rule l → ordered (slots_of l) (turnsOf l) c ≡ swapped false l c
-  unfolding ordered turnedBy picked slots_of slot_at turnsOf turnAt swapped reordered swapFrom number put turn
+  order-made : (l : List ℤ) → Rule l → ordered (slots_of l) (turns_of l) c ≡ swapped false l c
+  unfolding ordered turned_by picked slots_of slot_at turns_of turn_at swapped reordered swap_from number put turn
   order-made [] h = absurd (none h.least)
     where
       none : 1 ≤ 0 → ⊥
@@ -82,8 +82,8 @@ module _ (c : Coord) where
 module _ (c : Coord) where
   -- a number above every size stays as it was
   above : (n j : ℕ) (l : List ℤ) (i : ℕ) (out : Coord) → all_of (λ (x : ℤ). leb 1 (size x) && leb (size x) n) l ≡ true → n < j → j ≤ 4
-      → number j (unswapFrom number put turn i l c out) ≡ number j out
-  unfolding unswapFrom all_of
+      → number j (unswap_from number put turn i l c out) ≡ number j out
+  unfolding unswap_from all_of
   above n j [] i out s h k = refl
   above n j (x ∷ l) i out s h k =
       let A = leb 1 (size x) in
@@ -103,8 +103,8 @@ module _ (c : Coord) where
   unfolding swapped reordered
   stays l r j out h k e = ap (put j (number j c)) e ∙ put-own j (number j c) (swapped true l c) (above (length l) j l 1 c r.sizes h k)
 
-  unorder-made : (l : List ℤ) → Rule l → unordered (slots_of l) (turnsOf l) c ≡ swapped true l c
-  unfolding unordered turnedBy placed slots_of slot_at turnsOf turnAt swapped reordered unswapFrom number turn
+  unorder-made : (l : List ℤ) → Rule l → unordered (slots_of l) (turns_of l) c ≡ swapped true l c
+  unfolding unordered turned_by placed slots_of slot_at turns_of turn_at swapped reordered unswap_from number turn
   unorder-made [] h = absurd (none h.least)
     where
       none : 1 ≤ 0 → ⊥
@@ -125,12 +125,12 @@ module _ (c : Coord) where
 
 -- ---- forward or back
 
-module _ (l : List ℤ) (h : is_order l ≡ true) (o : Slots) (t : Turns) (slots : o ≡ slots_of l) (signs : t ≡ turnsOf l) where
-  made_so : (back : Bool) (c : Coord) → orderedBy back o t c ≡ swapped back l c
-  unfolding orderedBy
+module _ (l : List ℤ) (h : is_order l ≡ true) (o : Slots) (t : Turns) (slots : o ≡ slots_of l) (signs : t ≡ turns_of l) where
+  made_so : (back : Bool) (c : Coord) → ordered_by back o t c ≡ swapped back l c
+  unfolding ordered_by
   made_so false c = (λ i. ordered (slots i) (signs i) c) ∙ order-made c l (ruled l h)
   made_so true c = (λ i. unordered (slots i) (signs i) c) ∙ unorder-made c l (ruled l h)
 
   -- every coordinate of a list
-  pub all-swapped : (back : Bool) (ts : List Coord) → map (orderedBy back o t) ts ≡ map (swapped back l) ts
-  all-swapped back ts = map_same (orderedBy back o t) (swapped back l) (made_so back) ts
+  pub all-swapped : (back : Bool) (ts : List Coord) → map (ordered_by back o t) ts ≡ map (swapped back l) ts
+  all-swapped back ts = map_same (ordered_by back o t) (swapped back l) (made_so back) ts

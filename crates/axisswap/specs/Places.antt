@@ -7,4 +7,4 @@ use Rattle.rules.specs.declared.Place.{Place}
 -- four places, reordered
 pub record Ordered (back : Bool) (l : List ℤ) (tuple r : List Place) : Type 0 where
   pub four : length r ≡ 4
-  pub same : r ≡ reordered rules.place rules.putPlace rules.turnPlace back l tuple
+  pub same : r ≡ reordered rules.place rules.put_place rules.turn_place back l tuple

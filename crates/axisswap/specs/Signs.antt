@@ -8,23 +8,23 @@ use Rattle.columns.specs.declared.slots.Slots.{Slots}
 use Rattle.axisswap.specs.declared.coords.Turns.{Turns}
 
 -- is the sign turned by argument i of an order, counted from 0? Past the arguments it stays.
-unfoldable pub turnAt : List ℤ → ℕ → Bool
-turnAt l i = cond (ltb i (length l)) (minus (get_or l i (pos 0))) false
+unfoldable pub turn_at : List ℤ → ℕ → Bool
+turn_at l i = cond (ltb i (length l)) (minus (get_or l i (pos 0))) false
 
-unfoldable pub turnsOf : List ℤ → Turns
-turnsOf l = record { t1 = turnAt l 0; t2 = turnAt l 1; t3 = turnAt l 2; t4 = turnAt l 3 }
+unfoldable pub turns_of : List ℤ → Turns
+turns_of l = record { t1 = turn_at l 0; t2 = turn_at l 1; t3 = turn_at l 2; t4 = turn_at l 3 }
 
-unfoldable pub turnedBy : Turns → Coord → Coord
-turnedBy t c = record { a = turn t.t1 c.a; b = turn t.t2 c.b; c = turn t.t3 c.c; d = turn t.t4 c.d }
+unfoldable pub turned_by : Turns → Coord → Coord
+turned_by t c = record { a = turn t.t1 c.a; b = turn t.t2 c.b; c = turn t.t3 c.c; d = turn t.t4 c.d }
 
 -- forward: output i is the number at slot i, with its sign
 unfoldable pub ordered : Slots → Turns → Coord → Coord
-ordered o t c = turnedBy t (picked o c)
+ordered o t c = turned_by t (picked o c)
 
 -- inverse: number i goes to slot i, with its sign
 unfoldable pub unordered : Slots → Turns → Coord → Coord
-unordered o t c = placed o (turnedBy t c) c
+unordered o t c = placed o (turned_by t c) c
 
 -- forward or back
-unfoldable pub orderedBy : Bool → Slots → Turns → Coord → Coord
-orderedBy back o t c = cond back (unordered o t c) (ordered o t c)
+unfoldable pub ordered_by : Bool → Slots → Turns → Coord → Coord
+ordered_by back o t c = cond back (unordered o t c) (ordered o t c)

@@ -2,7 +2,7 @@
 ghost use Rattle.std.specs.Prelude.{◌≡◌, true, ◌≤◌, take};
 ghost use Rattle.rules.specs.Operators.Arguments.{is_order};
 ghost use Rattle.rules.specs.Operators.Descriptions.{Axisswap};
-ghost use Rattle.rules.specs.Pipeline.Running.{actOf};
+ghost use Rattle.rules.specs.Pipeline.Running.{act_of};
 ghost use Rattle.columns.specs.Doings.{Does};
 
 use columns::{Act, Doing};
@@ -11,7 +11,7 @@ use rules::Direction;
 pub fn act_of(args: [i32; 8], n: usize, direction: Direction) -> Doing
     requires n_bound { n ≤ 8 }
     requires args_value { is_order (take n args) ≡ true }
-    ensures { Does (actOf direction Axisswap (take n args)) result }
+    ensures { Does (act_of direction Axisswap (take n args)) result }
 {
     match direction {
         Direction::Forward => Doing {

@@ -4,7 +4,7 @@ ghost use Rattle.rules.specs.Operators.Arguments.{is_order};
 ghost use Rattle.rules.specs.Operators.Axisswap.{swapped};
 ghost use Rattle.rules.specs.Pipeline.Tuples.{tuples};
 ghost use Rattle.columns.specs.Coords.{Within};
-ghost use Rattle.axisswap.specs.Signs.{turnAt, turnsOf, turnedBy, ordered, unordered, orderedBy};
+ghost use Rattle.axisswap.specs.Signs.{turn_at, turns_of, turned_by, ordered, unordered, ordered_by};
 
 use columns::{Slots, get_coord, pick, place, set_coord, slots_of, turned};
 use numbers::minus_at;
@@ -21,7 +21,7 @@ pub struct Turns {
 
 // Is argument i of an order, counted from 0, below zero? Past the arguments the sign stays.
 fn turn_at(args: &[i32], i: usize) -> bool
-    ensures { result ≡ turnAt args.now i }
+    ensures { result ≡ turn_at args.now i }
 {
     if i < args.len() {
         return minus_at(args, i);
@@ -31,7 +31,7 @@ fn turn_at(args: &[i32], i: usize) -> bool
 
 // The signs of an order.
 fn turns_of(args: &[i32]) -> Turns
-    ensures { result ≡ turnsOf args.now }
+    ensures { result ≡ turns_of args.now }
 {
     Turns {
         t1: turn_at(args, 0),
@@ -43,7 +43,7 @@ fn turns_of(args: &[i32]) -> Turns
 
 // A coordinate with these signs turned.
 fn turned_by(t: Turns, c: Coord) -> Coord
-    ensures { result ≡ turnedBy t c }
+    ensures { result ≡ turned_by t c }
 {
     Coord {
         a: turned(t.t1, c.a),
@@ -72,7 +72,7 @@ fn inverse(c: Coord, o: Slots, t: Turns) -> Coord
 // One coordinate, forward or back.
 fn swapped(c: Coord, back: bool, o: Slots, t: Turns) -> Coord
     requires { Within o }
-    ensures { result ≡ orderedBy back o t c }
+    ensures { result ≡ ordered_by back o t c }
 {
     if back {
         return inverse(c, o, t);

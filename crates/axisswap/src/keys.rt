@@ -1,14 +1,14 @@
 // Its key: `order`, which takes a series.
 ghost use Rattle.std.specs.Prelude.{◌≡◌};
-ghost use Rattle.rules.specs.Operators.Keys.{kindIn};
-ghost use Rattle.rules.specs.Operators.Axisswap.{orderKeys};
+ghost use Rattle.rules.specs.Operators.Keys.{kind_in};
+ghost use Rattle.rules.specs.Operators.Axisswap.{order_keys};
 
 use rules::Kind;
 use text::is_same;
 
 // What a key takes, if it is the one.
 pub fn kind_of(key: &[u8]) -> Kind
-    ensures { result ≡ kindIn orderKeys key.now }
+    ensures { result ≡ kind_in order_keys key.now }
 {
     if is_same(key, b"order") {
         return Kind::Series;

@@ -2,8 +2,8 @@
 ghost use Rattle.std.specs.Prelude.{◌≡◌, true, false, ◌≤◌, length};
 ghost use Rattle.rules.specs.Text.Lists.{all_of};
 ghost use Rattle.rules.specs.Operators.Arguments.{is_order};
-ghost use Rattle.rules.specs.Pipeline.Check.{turnPlace};
-ghost use Rattle.numbers.specs.Axes.{isAxis};
+ghost use Rattle.rules.specs.Pipeline.Check.{turn_place};
+ghost use Rattle.numbers.specs.Axes.{is_axis};
 ghost use Rattle.axisswap.specs.Places.{Ordered};
 ghost use Rattle.rules.specs.Operators.Acts.{orders};
 ghost use Rattle.columns.specs.Traces.{Whole, Moved};
@@ -14,7 +14,7 @@ use rules::Place;
 
 // A place with its sign turned, or kept.
 fn turned(minus: bool, p: Place) -> Place
-    ensures { result ≡ turnPlace minus p }
+    ensures { result ≡ turn_place minus p }
 {
     Place {
         axis: p.axis,
@@ -25,7 +25,7 @@ fn turned(minus: bool, p: Place) -> Place
 // Forward: output i is the place that the order names, with its sign.
 fn ordered(tuple: [Place; 4], l: &[i32]) -> [Place; 4]
     requires tuple_len { length tuple ≡ 4 }
-    requires l_value { all_of isAxis l.now ≡ true }
+    requires l_value { all_of is_axis l.now ≡ true }
     requires l_len_bound { length l.now ≤ 4 }
     ensures { Ordered false l.now tuple result }
 {
@@ -44,7 +44,7 @@ fn ordered(tuple: [Place; 4], l: &[i32]) -> [Place; 4]
 // Back: input i goes to the place that the order names, with its sign.
 fn unordered(tuple: [Place; 4], l: &[i32]) -> [Place; 4]
     requires tuple_len { length tuple ≡ 4 }
-    requires l_value { all_of isAxis l.now ≡ true }
+    requires l_value { all_of is_axis l.now ≡ true }
     requires l_len_bound { length l.now ≤ 4 }
     ensures { Ordered true l.now tuple result }
 {

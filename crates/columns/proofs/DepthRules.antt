@@ -10,9 +10,9 @@ use lib.IntN.{ℤ}
 use lib.ListN.{length, take}
 use Rattle.rules.specs.Operators.Acts as rules
 use Rattle.rules.specs.Operators.Arguments.{places}
-use Rattle.rules.specs.Pipeline.Columns.{takes, tooFew}
-use Rattle.rules.specs.Pipeline.Tuples.{countsNone}
-use Rattle.laws_steps.specs.Depth.{grown, left, depthAfter}
+use Rattle.rules.specs.Pipeline.Columns.{takes, too_few}
+use Rattle.rules.specs.Pipeline.Tuples.{counts_none}
+use Rattle.laws_steps.specs.Depth.{grown, left, depth_after}
 use Rattle.laws_steps.specs.PlacesOf.{places-many}
 use Rattle.columns.specs.Doings.{does, doing}
 use Rattle.columns.specs.declared.acts.Act.{Act}
@@ -54,11 +54,11 @@ module _ (l : List ℤ) where
       go (Adapts mode back) h = refl
 
   -- all but swap and drop: where it finds too few columns
-  pub counts-few : (depth : ℕ) (a : Act) → Found (0 ∷ 1 ∷ 2 ∷ 3 ∷ 4 ∷ 7 ∷ 8 ∷ []) a → ltb depth (takes (does a l)) ≡ countsNone (does a l) depth
-  unfolding does takes countsNone tooFew
+  pub counts-few : (depth : ℕ) (a : Act) → Found (0 ∷ 1 ∷ 2 ∷ 3 ∷ 4 ∷ 7 ∷ 8 ∷ []) a → ltb depth (takes (does a l)) ≡ counts_none (does a l) depth
+  unfolding does takes counts_none too_few
   counts-few depth a h = go a (found (0 ∷ 1 ∷ 2 ∷ 3 ∷ 4 ∷ 7 ∷ 8 ∷ []) a h)
     where
-      go : (a : Act) → By (0 ∷ 1 ∷ 2 ∷ 3 ∷ 4 ∷ 7 ∷ 8 ∷ []) a → ltb depth (takes (does a l)) ≡ countsNone (does a l) depth
+      go : (a : Act) → By (0 ∷ 1 ∷ 2 ∷ 3 ∷ 4 ∷ 7 ∷ 8 ∷ []) a → ltb depth (takes (does a l)) ≡ counts_none (does a l) depth
       go Pushes h = le-ltb depth 0 (omega arith)
       go Pops h = refl
       go PopsAll h = refl
@@ -74,20 +74,20 @@ module _ (l : List ℤ) where
   same false x = refl
 
   -- a flip, a roll, the exchange and the drop, a reordering and an adapting leave as many columns as they find
-  pub depth-stays : (depth : ℕ) (a : Act) → Found (3 ∷ 4 ∷ 5 ∷ 6 ∷ 7 ∷ 8 ∷ []) a → depth ≡ depthAfter (does a l) depth
-  unfolding does depthAfter grown left
+  pub depth-stays : (depth : ℕ) (a : Act) → Found (3 ∷ 4 ∷ 5 ∷ 6 ∷ 7 ∷ 8 ∷ []) a → depth ≡ depth_after (does a l) depth
+  unfolding does depth_after grown left
   depth-stays depth a h = go a (found (3 ∷ 4 ∷ 5 ∷ 6 ∷ 7 ∷ 8 ∷ []) a h)
     where
-      go : (a : Act) → By (3 ∷ 4 ∷ 5 ∷ 6 ∷ 7 ∷ 8 ∷ []) a → depth ≡ depthAfter (does a l) depth
+      go : (a : Act) → By (3 ∷ 4 ∷ 5 ∷ 6 ∷ 7 ∷ 8 ∷ []) a → depth ≡ depth_after (does a l) depth
       go Pushes h = absurd h
       go Pops h = absurd h
       go PopsAll h = absurd h
-      go Flips h = sym (same (tooFew (rules.flips (places l)) depth) depth)
-      go (Rolls m n) h = sym (same (tooFew (rules.rolls m n) depth) depth)
-      go Swaps h = sym (same (tooFew rules.swaps depth) depth)
-      go Drops h = sym (same (tooFew rules.drops depth) depth)
-      go (Orders back) h = sym (same (tooFew (rules.orders back l) depth) depth)
-      go (Adapts mode back) h = sym (same (tooFew (rules.adapts mode back l) depth) depth)
+      go Flips h = sym (same (too_few (rules.flips (places l)) depth) depth)
+      go (Rolls m n) h = sym (same (too_few (rules.rolls m n) depth) depth)
+      go Swaps h = sym (same (too_few rules.swaps depth) depth)
+      go Drops h = sym (same (too_few rules.drops depth) depth)
+      go (Orders back) h = sym (same (too_few (rules.orders back l) depth) depth)
+      go (Adapts mode back) h = sym (same (too_few (rules.adapts mode back l) depth) depth)
 
 -- ---- of a doing
 
@@ -102,26 +102,26 @@ module _ (d : Doing) (full : length d.args ≡ 8) (few : d.n ≤ 8) where
 
   module _ (depth : ℕ) where
     deep : rules.Act → ℕ
-    deep a = depthAfter a depth
+    deep a = depth_after a depth
 
-    pub after-pushes : d.act ≡ Pushes → d.n + depth ≡ depthAfter (doing d) depth
-    unfolding depthAfter does grown left tooFew takes deep
+    pub after-pushes : d.act ≡ Pushes → d.n + depth ≡ depth_after (doing d) depth
+    unfolding depth_after does grown left too_few takes deep
     after-pushes e = rw (le-ltb depth 0 (omega arith)) (ap (λ (n : ℕ). n + depth) (sym long)) ∙ by deep e
 
-    pub after-pops : d.act ≡ Pops → depth - d.n ≡ depthAfter (doing d) depth
-    unfolding depthAfter does grown left deep
-    after-pops e = ap (λ (n : ℕ). depth - n) (sym long) ∙ sym (same (take d.n d.args) (tooFew (rules.pops (places (take d.n d.args))) depth) _) ∙ by deep e
+    pub after-pops : d.act ≡ Pops → depth - d.n ≡ depth_after (doing d) depth
+    unfolding depth_after does grown left deep
+    after-pops e = ap (λ (n : ℕ). depth - n) (sym long) ∙ sym (same (take d.n d.args) (too_few (rules.pops (places (take d.n d.args))) depth) _) ∙ by deep e
 
-    pub after-pops-few : d.act ≡ Pops → depth < d.n → 0 ≡ depthAfter (doing d) depth
+    pub after-pops-few : d.act ≡ Pops → depth < d.n → 0 ≡ depth_after (doing d) depth
     after-pops-few e h = none ∙ after-pops e
       where
         none : 0 ≡ depth - d.n
         none = omega arith
 
-    pub after-popsAll-few : d.act ≡ PopsAll → depth < d.n → depth ≡ depthAfter (doing d) depth
-    unfolding depthAfter does grown left tooFew takes deep
-    after-popsAll-few e h = rw (long, lt-ltb depth d.n h) refl ∙ by deep e
+    pub after-pops_all-few : d.act ≡ PopsAll → depth < d.n → depth ≡ depth_after (doing d) depth
+    unfolding depth_after does grown left too_few takes deep
+    after-pops_all-few e h = rw (long, lt-ltb depth d.n h) refl ∙ by deep e
 
-    pub after-popsAll : d.act ≡ PopsAll → d.n ≤ depth → depth - d.n ≡ depthAfter (doing d) depth
-    unfolding depthAfter does grown left tooFew takes deep
-    after-popsAll e h = rw (long, le-ltb depth d.n h) refl ∙ by deep e
+    pub after-pops_all : d.act ≡ PopsAll → d.n ≤ depth → depth - d.n ≡ depth_after (doing d) depth
+    unfolding depth_after does grown left too_few takes deep
+    after-pops_all e h = rw (long, le-ltb depth d.n h) refl ∙ by deep e

@@ -8,22 +8,22 @@ use lib.ListN.{length, get_or, set}
 use Rattle.rules.specs.Pipeline.Tuples.{tuples}
 use Rattle.rules.specs.declared.Coord.{Coord}
 use Rattle.laws_steps.specs.Lengths.{tuples-length}
-use Rattle.columns.specs.Coords.{noTuple}
-use Rattle.columns.proofs.Firsts.{firstsFrom, firsts-none, firsts-turn, firsts-all, each_map}
+use Rattle.columns.specs.Coords.{no_tuple}
+use Rattle.columns.proofs.Firsts.{firsts_from, firsts-none, firsts-turn, firsts-all, each_map}
 
 -- f has changed the first k tuples, the others are as they were
 pub record Each (f : Coord → Coord) (xs₀ xs : List Float) (k : ℕ) : Type 0 where
-  pub changed : tuples xs ≡ firstsFrom 0 k (λ _. f) (tuples xs₀)
+  pub changed : tuples xs ≡ firsts_from 0 k (λ _. f) (tuples xs₀)
   pub same_length : length xs ≡ length xs₀
 
 pub each_none : (f : Coord → Coord) (xs : List Float) → Each f xs xs 0
 each_none f xs = record { changed = sym (firsts-none 0 (λ _. f) (tuples xs)); same_length = refl }
 
 pub each_turn : {f : Coord → Coord} {xs₀ xs xs' : List Float} {k : ℕ} {x y : Coord} → Each f xs₀ xs k → k < length xs₀ / 4
-    → x ≡ get_or (tuples xs) k noTuple → y ≡ f x → length xs' ≡ length xs → tuples xs' ≡ set (tuples xs) k y → Each f xs₀ xs' (k + 1)
+    → x ≡ get_or (tuples xs) k no_tuple → y ≡ f x → length xs' ≡ length xs → tuples xs' ≡ set (tuples xs) k y → Each f xs₀ xs' (k + 1)
 each_turn {f} {xs₀} {xs} {xs'} {k} {x} {y} e h read made len put =
     record {
-      changed = firsts-turn k (λ _. f) (tuples xs₀) (tuples xs) (tuples xs') noTuple x y e.changed (omega (arith, tuples-length xs₀)) read made put;
+      changed = firsts-turn k (λ _. f) (tuples xs₀) (tuples xs) (tuples xs') no_tuple x y e.changed (omega (arith, tuples-length xs₀)) read made put;
       same_length = len ∙ e.same_length;
     }
 

@@ -11,7 +11,7 @@ use lib.Dec.{ltb}
 use lib.ListN.{length, get_or, take, drop, length-drop, get_or-append}
 use lib.Seq.{ext_get_or, get_or-take, get_or-drop, get_or-append-add, length-take-le, length_paste_head, paste}
 use lib.Ieee.{Float, nan}
-use Rattle.columns.specs.Stores.{col, columnsOf, held}
+use Rattle.columns.specs.Stores.{col, columns_of, held}
 
 -- ---- places
 
@@ -95,13 +95,13 @@ module _ (n : ℕ) where
 
   -- ---- all columns
 
-  pub columns-length : (d : ℕ) (s : List Float) → length (columnsOf n d s) ≡ d
-  unfolding columnsOf
+  pub columns-length : (d : ℕ) (s : List Float) → length (columns_of n d s) ≡ d
+  unfolding columns_of
   columns-length zero s = refl
   columns-length (suc d) s = ap suc (columns-length d s)
 
-  pub columns-at : (d j : ℕ) (s : List Float) → j < d → get_or (columnsOf n d s) j [] ≡ col n (d - 1 - j) s
-  unfolding columnsOf
+  pub columns-at : (d j : ℕ) (s : List Float) → j < d → get_or (columns_of n d s) j [] ≡ col n (d - 1 - j) s
+  unfolding columns_of
   columns-at zero j s h = absurd (none h)
     where
       none : j < 0 → ⊥
@@ -115,30 +115,30 @@ module _ (n : ℕ) where
       own : (d j : ℕ) → d - 1 - j ≡ suc d - 1 - suc j
       own d j = omega arith
 
-  pub columns-drop : (d j : ℕ) (s : List Float) → drop j (columnsOf n d s) ≡ columnsOf n (d - j) s
-  unfolding columnsOf
-  columns-drop d zero s = ap (λ (q : ℕ). columnsOf n q s) (own d)
+  pub columns-drop : (d j : ℕ) (s : List Float) → drop j (columns_of n d s) ≡ columns_of n (d - j) s
+  unfolding columns_of
+  columns-drop d zero s = ap (λ (q : ℕ). columns_of n q s) (own d)
     where
       own : (d : ℕ) → d ≡ d - 0
       own d = omega arith
-  columns-drop zero (suc j) s = ap (λ (q : ℕ). columnsOf n q s) (own j)
+  columns-drop zero (suc j) s = ap (λ (q : ℕ). columns_of n q s) (own j)
     where
       own : (j : ℕ) → 0 ≡ 0 - suc j
       own j = omega arith
-  columns-drop (suc d) (suc j) s = columns-drop d j s ∙ ap (λ (q : ℕ). columnsOf n q s) (own d j)
+  columns-drop (suc d) (suc j) s = columns-drop d j s ∙ ap (λ (q : ℕ). columns_of n q s) (own d j)
     where
       own : (d j : ℕ) → d - j ≡ suc d - suc j
       own d j = omega arith
 
-  pub columns-same : (d : ℕ) (s s' : List Float) → ((q : ℕ) → q < d → col n q s' ≡ col n q s) → columnsOf n d s' ≡ columnsOf n d s
-  unfolding columnsOf
+  pub columns-same : (d : ℕ) (s s' : List Float) → ((q : ℕ) → q < d → col n q s' ≡ col n q s) → columns_of n d s' ≡ columns_of n d s
+  unfolding columns_of
   columns-same zero s s' h = refl
   columns-same (suc d) s s' h = λ i. h d (omega arith) i ∷ columns-same d s s' (λ q l. h q (omega arith)) i
 
   -- columns are a list where each is its own
-  pub columns-are : (d : ℕ) (s : List Float) (l : List (List Float)) → length l ≡ d → ((j : ℕ) → j < d → col n (d - 1 - j) s ≡ get_or l j []) → columnsOf n d s ≡ l
+  pub columns-are : (d : ℕ) (s : List Float) (l : List (List Float)) → length l ≡ d → ((j : ℕ) → j < d → col n (d - 1 - j) s ≡ get_or l j []) → columns_of n d s ≡ l
   columns-are d s l e h =
-      ext_get_or [] (columnsOf n d s) l (columns-length d s ∙ sym e) (λ j b. let z = columns-length d s in columns-at d j s (omega arith) ∙ h j (omega arith))
+      ext_get_or [] (columns_of n d s) l (columns-length d s ∙ sym e) (λ j b. let z = columns-length d s in columns-at d j s (omega arith) ∙ h j (omega arith))
 
   -- ---- one column stored
 

@@ -12,12 +12,12 @@ use Rattle.rules.specs.Operators.Numbers.{number, put}
 use Rattle.rules.specs.Pipeline.Tuples.{tuples, column, stored}
 use Rattle.rules.specs.declared.Coord.{Coord}
 use Rattle.laws_steps.specs.Lengths.{tuples-length}
-use Rattle.columns.specs.Coords.{noTuple}
-use Rattle.columns.proofs.Firsts.{eachFrom, firstsFrom, firsts_at, firsts-turn, firsts-all}
+use Rattle.columns.specs.Coords.{no_tuple}
+use Rattle.columns.proofs.Firsts.{each_from, firsts_from, firsts_at, firsts-turn, firsts-all}
 use Rattle.columns.proofs.InStore.{paste-after}
 
 -- the number of tuple k in a column
-pub column-at : (i k : ℕ) (ts : List Coord) → k < length ts → number i (get_or ts k noTuple) ≡ get_or (column i ts) k nan
+pub column-at : (i k : ℕ) (ts : List Coord) → k < length ts → number i (get_or ts k no_tuple) ≡ get_or (column i ts) k nan
 unfolding column
 column-at i k [] h = absurd (not-suc-le-zero h)
 column-at i zero (t ∷ ts) h = refl
@@ -29,8 +29,8 @@ column-length i xs = length-map (tuples xs) _ ∙ tuples-length xs
 
 -- each tuple with its number of a column
 pub each-stored : (i k : ℕ) (v : List Float) (ts : List Coord) → k + length ts ≤ length v
-    → eachFrom k (λ t c. put i (get_or v t nan) c) ts ≡ stored i (drop k v) ts
-unfolding eachFrom stored
+    → each_from k (λ t c. put i (get_or v t nan) c) ts ≡ stored i (drop k v) ts
+unfolding each_from stored
 each-stored i k v [] h = refl
 each-stored i k v (t ∷ ts) h =
     (λ n. put i (get_or v k nan) t ∷ each-stored i (suc k) v ts (omega arith) n)
@@ -49,13 +49,13 @@ pub part_at : (n at k : ℕ) (s : List Float) → k < n → get_or s (at + k) na
 part_at n at k s h = sym (get_or-take n (drop at s) k nan h ∙ get_or-drop at s k nan)
 
 -- one tuple more stored from it
-pub store-turn : (n at i k : ℕ) (s : List Float) (ts₀ ts ts' : List Coord) → ts ≡ firstsFrom 0 k (λ t c. put i (get_or (take n (drop at s)) t nan) c) ts₀ → k < n → k < length ts₀
-    → ts' ≡ set ts k (put i (get_or s (at + k) nan) (get_or ts k noTuple))
-    → ts' ≡ firstsFrom 0 (k + 1) (λ t c. put i (get_or (take n (drop at s)) t nan) c) ts₀
+pub store-turn : (n at i k : ℕ) (s : List Float) (ts₀ ts ts' : List Coord) → ts ≡ firsts_from 0 k (λ t c. put i (get_or (take n (drop at s)) t nan) c) ts₀ → k < n → k < length ts₀
+    → ts' ≡ set ts k (put i (get_or s (at + k) nan) (get_or ts k no_tuple))
+    → ts' ≡ firsts_from 0 (k + 1) (λ t c. put i (get_or (take n (drop at s)) t nan) c) ts₀
 store-turn n at i k s ts₀ ts ts' inv h b e =
-    firsts-turn k _ ts₀ ts ts' noTuple _ _ inv b refl (ap (λ (z : Float). put i z (get_or ts k noTuple)) (part_at n at k s h)) e
+    firsts-turn k _ ts₀ ts ts' no_tuple _ _ inv b refl (ap (λ (z : Float). put i z (get_or ts k no_tuple)) (part_at n at k s h)) e
 
-pub store-end : (n at i k : ℕ) (s : List Float) (ts₀ ts : List Coord) → ts ≡ firstsFrom 0 k (λ t c. put i (get_or (take n (drop at s)) t nan) c) ts₀ → length ts₀ ≡ n → n ≤ k → at + n ≤ length s
+pub store-end : (n at i k : ℕ) (s : List Float) (ts₀ ts : List Coord) → ts ≡ firsts_from 0 k (λ t c. put i (get_or (take n (drop at s)) t nan) c) ts₀ → length ts₀ ≡ n → n ≤ k → at + n ≤ length s
     → ts ≡ stored i (take n (drop at s)) ts₀
 store-end n at i k s ts₀ ts inv many h room =
     inv
@@ -67,12 +67,12 @@ pub not_yet : (s₀ s : List Float) (at : ℕ) (v : List Float) (k : ℕ) → s 
 not_yet s₀ s at v k inv h b = ap (λ (z : List Float). get_or z (at + k) nan) inv ∙ paste-after s₀ at v k nan h b (at + k) (omega arith)
 
 -- one number and its column's exchanged: the tuples, and the store
-pub flip-tuples : (n at i k : ℕ) (s₀ s : List Float) (ts₀ ts ts' : List Coord) → ts ≡ firstsFrom 0 k (λ t c. put i (get_or (take n (drop at s₀)) t nan) c) ts₀ → k < n → k < length ts₀
-    → get_or s (at + k) nan ≡ get_or s₀ (at + k) nan → ts' ≡ set ts k (put i (get_or s (at + k) nan) (get_or ts k noTuple))
-    → ts' ≡ firstsFrom 0 (k + 1) (λ t c. put i (get_or (take n (drop at s₀)) t nan) c) ts₀
+pub flip-tuples : (n at i k : ℕ) (s₀ s : List Float) (ts₀ ts ts' : List Coord) → ts ≡ firsts_from 0 k (λ t c. put i (get_or (take n (drop at s₀)) t nan) c) ts₀ → k < n → k < length ts₀
+    → get_or s (at + k) nan ≡ get_or s₀ (at + k) nan → ts' ≡ set ts k (put i (get_or s (at + k) nan) (get_or ts k no_tuple))
+    → ts' ≡ firsts_from 0 (k + 1) (λ t c. put i (get_or (take n (drop at s₀)) t nan) c) ts₀
 flip-tuples n at i k s₀ s ts₀ ts ts' inv h b was e =
-    store-turn n at i k s₀ ts₀ ts ts' inv h b (e ∙ ap (λ (x : Float). set ts k (put i x (get_or ts k noTuple))) was)
+    store-turn n at i k s₀ ts₀ ts ts' inv h b (e ∙ ap (λ (x : Float). set ts k (put i x (get_or ts k no_tuple))) was)
 
-pub flip-number : (f : ℕ → Coord → Coord) (i k : ℕ) (ts₀ ts : List Coord) (y : Float) → ts ≡ firstsFrom 0 k f ts₀ → k < length ts₀ → y ≡ number i (get_or ts k noTuple) → y ≡ get_or (column i ts₀) k nan
+pub flip-number : (f : ℕ → Coord → Coord) (i k : ℕ) (ts₀ ts : List Coord) (y : Float) → ts ≡ firsts_from 0 k f ts₀ → k < length ts₀ → y ≡ number i (get_or ts k no_tuple) → y ≡ get_or (column i ts₀) k nan
 flip-number f i k ts₀ ts y inv h e =
-    e ∙ ap (λ (z : List Coord). number i (get_or z k noTuple)) inv ∙ ap (number i) (firsts_at 0 k f ts₀ noTuple) ∙ column-at i k ts₀ h
+    e ∙ ap (λ (z : List Coord). number i (get_or z k no_tuple)) inv ∙ ap (number i) (firsts_at 0 k f ts₀ no_tuple) ∙ column-at i k ts₀ h

@@ -10,7 +10,7 @@ use lib.Ieee.{Float, nan}
 use Rattle.rules.specs.Pipeline.Tuples.{tuples}
 use Rattle.rules.specs.declared.Coord.{Coord}
 use Rattle.laws_steps.specs.Lengths.{tuples-length}
-use Rattle.columns.specs.Coords.{noTuple}
+use Rattle.columns.specs.Coords.{no_tuple}
 
 -- the tuple that starts at place k of a list, and the list with a tuple stored there
 abbrev pub load : List Float → ℕ → Coord
@@ -30,7 +30,7 @@ quad_is (suc i) = let h = quad_is i in omega arith
 
 -- the two laws with the places written as constructors, by which `get_or` and `set` compute
 load-quad : (l : List Float) (i : ℕ) → i < length (tuples l)
-    → ◌≡◌ {A = Coord} (record { a = get_or l (quad i) nan; b = get_or l (suc (quad i)) nan; c = get_or l (suc (suc (quad i))) nan; d = get_or l (suc (suc (suc (quad i)))) nan }) (get_or (tuples l) i noTuple)
+    → ◌≡◌ {A = Coord} (record { a = get_or l (quad i) nan; b = get_or l (suc (quad i)) nan; c = get_or l (suc (suc (quad i))) nan; d = get_or l (suc (suc (suc (quad i)))) nan }) (get_or (tuples l) i no_tuple)
 unfolding tuples quad
 load-quad [] i h = absurd (not-suc-le-zero h)
 load-quad (a ∷ []) i h = absurd (not-suc-le-zero h)
@@ -52,7 +52,7 @@ store-quad (a ∷ b ∷ c ∷ d ∷ l) (suc i) v h = ap (λ (m : List Coord). re
 pub below-tuples : (l : List Float) (i : ℕ) → i * 4 + 4 ≤ length l → i < length (tuples l)
 below-tuples l i h = omega (arith, tuples-length l)
 
-pub load-tuple : (l : List Float) (i : ℕ) → i * 4 + 4 ≤ length l → load l (i * 4) ≡ get_or (tuples l) i noTuple
+pub load-tuple : (l : List Float) (i : ℕ) → i * 4 + 4 ≤ length l → load l (i * 4) ≡ get_or (tuples l) i no_tuple
 load-tuple l i h = simp (← quad_is i, unary_clauses) (load-quad l i (below-tuples l i h))
 
 pub store-tuple : (l : List Float) (i : ℕ) (v : Coord) → i * 4 + 4 ≤ length l → tuples (store l (i * 4) v) ≡ set (tuples l) i v

@@ -8,7 +8,7 @@ use native.Mathlib.Omega.{arith}
 use lib.ListN.{length, get_or, set, take, drop, replicate, take-append-drop, length-append, length-replicate}
 use lib.Seq.{take-add, drop-cons, length-take-le, set_at}
 use lib.Ieee.{Float}
-use Rattle.columns.specs.Stores.{columnsOf}
+use Rattle.columns.specs.Stores.{columns_of}
 
 module _ {A : Type 0} where
   -- one more of a part
@@ -52,13 +52,13 @@ flat_append [] m = refl
 flat_append (v ∷ l) m = ap (λ (r : List Float). v ++ r) (flat_append l m) ∙ sym (append_assoc v (flat l) (flat m))
 
 -- The columns, the bottom one first, are the store's front.
-pub columns-flat : (n d : ℕ) (s : List Float) → flat_map (λ (v : List Float). v) (reverse (columnsOf n d s)) ≡ take (d * n) s
-unfolding columnsOf flat_map
+pub columns-flat : (n d : ℕ) (s : List Float) → flat_map (λ (v : List Float). v) (reverse (columns_of n d s)) ≡ take (d * n) s
+unfolding columns_of flat_map
 columns-flat n zero s = ap (λ (k : ℕ). take k s) (sym (zero-mul n))
 columns-flat n (suc d) s =
     let top = take n (drop (d * n) s) in
-    ap flat (reverse-cons top (columnsOf n d s))
-    ∙ flat_append (reverse (columnsOf n d s)) (top ∷ [])
+    ap flat (reverse-cons top (columns_of n d s))
+    ∙ flat_append (reverse (columns_of n d s)) (top ∷ [])
     ∙ (λ i. columns-flat n d s i ++ append-nil top i)
     ∙ sym (take-add (d * n) n s)
     ∙ ap (λ (k : ℕ). take k s) (sym (suc-mul d n))

@@ -7,8 +7,8 @@ use Rattle.rules.specs.declared.Coord.{Coord}
 use Rattle.columns.specs.declared.slots.Slots.{Slots}
 
 -- what is read past the end of a list
-abbrev pub noTuple : Coord
-noTuple = record { a = nan; b = nan; c = nan; d = nan }
+abbrev pub no_tuple : Coord
+no_tuple = record { a = nan; b = nan; c = nan; d = nan }
 
 -- ---- slots
 

@@ -8,17 +8,17 @@ abbrev pub col : ℕ → ℕ → List Float → List Float
 col n q s = take n (drop (q * n) s)
 
 -- the d columns, the top one first
-unfoldable pub columnsOf : ℕ → ℕ → List Float → List (List Float)
-columnsOf n zero s = []
-columnsOf n (suc d) s = col n d s ∷ columnsOf n d s
+unfoldable pub columns_of : ℕ → ℕ → List Float → List (List Float)
+columns_of n zero s = []
+columns_of n (suc d) s = col n d s ∷ columns_of n d s
 
 -- what a list and a store hold, d columns deep
 unfoldable pub held : List Float → List Float → ℕ → State
-held xs s d = record { tuples = tuples xs; columns = columnsOf (length xs / 4) d s }
+held xs s d = record { tuples = tuples xs; columns = columns_of (length xs / 4) d s }
 
 -- The d columns are l now, and the store is as it was beyond them.
 pub record Stacked (n d : ℕ) (l : List (List Float)) (s s' : List Float) : Type 0 where
-  pub columns : columnsOf n d s' ≡ l
+  pub columns : columns_of n d s' ≡ l
   pub beyond : drop (d * n) s' ≡ drop (d * n) s
 
 -- i is none of the k places from a on

@@ -22,4 +22,4 @@ pub record Whole (t : Traced) : Type 0 where
 -- a step was taken
 pub record Moved (a : Act) (t r : Traced) : Type 0 where
   pub whole : Whole r
-  pub same : machine r ≡ moved rules.onPlaces a (machine t)
+  pub same : machine r ≡ moved rules.on_places a (machine t)

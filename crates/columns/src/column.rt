@@ -5,7 +5,7 @@ ghost use Rattle.std.proofs.Math.Seq.{paste};
 ghost use Rattle.std.specs.Float.{nan};
 ghost use Rattle.rules.specs.Operators.Numbers.{put};
 ghost use Rattle.rules.specs.Pipeline.Tuples.{tuples, column, stored};
-ghost use Rattle.columns.specs.Coords.{noTuple};
+ghost use Rattle.columns.specs.Coords.{no_tuple};
 
 use crate::coordinate::{get_coord, no_coord, not_a_number, number_of, set_coord, with_number};
 
@@ -69,7 +69,7 @@ pub fn nan_column(xs: &mut [f64], i: usize)
 
 // Every number of every tuple becomes NaN.
 pub fn nan_all(xs: &mut [f64])
-    ensures { tuples xs.new ≡ map (λ _. noTuple) (tuples xs.old) }
+    ensures { tuples xs.new ≡ map (λ _. no_tuple) (tuples xs.old) }
 {
     let n = xs.len() / 4;
     let mut k = 0;

@@ -3,7 +3,7 @@ ghost use Rattle.std.specs.Prelude.{◌≡◌, ◌+◌, ◌*◌, ◌≤◌, leng
 ghost use Rattle.std.specs.Float.{nan};
 ghost use Rattle.rules.specs.Operators.Numbers.{number, put, turn};
 ghost use Rattle.rules.specs.Pipeline.Tuples.{tuples};
-ghost use Rattle.columns.specs.Coords.{noTuple};
+ghost use Rattle.columns.specs.Coords.{no_tuple};
 
 use rules::Coord;
 
@@ -73,7 +73,7 @@ pub fn with_number(c: Coord, i: usize, x: f64) -> Coord
 
 // A coordinate of four NaN.
 pub fn no_coord() -> Coord
-    ensures { result ≡ noTuple }
+    ensures { result ≡ no_tuple }
 {
     let x = not_a_number();
     Coord {
@@ -87,7 +87,7 @@ pub fn no_coord() -> Coord
 // The coordinate at i of a list, counted from 0.
 pub fn get_coord(xs: &[f64], i: usize) -> Coord
     requires { i * 4 + 4 ≤ length xs.now }
-    ensures { result ≡ get_or (tuples xs.now) i noTuple }
+    ensures { result ≡ get_or (tuples xs.now) i no_tuple }
 {
     let k = i * 4;
     Coord {

@@ -1,8 +1,8 @@
 // How many columns an act takes, how many there are after it, and whether it counts none of the tuples.
 ghost use Rattle.std.specs.Prelude.{◌≡◌, ◌≤◌};
 ghost use Rattle.rules.specs.Pipeline.Columns.{takes};
-ghost use Rattle.rules.specs.Pipeline.Tuples.{countsNone};
-ghost use Rattle.laws_steps.specs.Depth.{depthAfter};
+ghost use Rattle.rules.specs.Pipeline.Tuples.{counts_none};
+ghost use Rattle.laws_steps.specs.Depth.{depth_after};
 ghost use Rattle.columns.specs.Doings.{doing};
 
 use crate::acts::{Act, Doing};
@@ -24,7 +24,7 @@ pub fn takes(d: Doing) -> usize
 pub fn depth_after(d: Doing, depth: usize) -> usize
     requires depth_bound { depth ≤ 64 }
     requires n_bound { d.n ≤ 8 }
-    ensures { result ≡ depthAfter (doing d) depth }
+    ensures { result ≡ depth_after (doing d) depth }
 {
     let n = d.n;
     let act = d.act;
@@ -49,7 +49,7 @@ pub fn depth_after(d: Doing, depth: usize) -> usize
 // Does it count none of the tuples?
 pub fn counts_none(d: Doing, depth: usize) -> bool
     requires { d.n ≤ 8 }
-    ensures { result ≡ countsNone (doing d) depth }
+    ensures { result ≡ counts_none (doing d) depth }
 {
     let act = d.act;
     match act {

@@ -5,7 +5,7 @@ use Rattle.std.proofs.Common.{sym, ap, subst, ◌∙◌, zero-le, append_assoc, 
 use borrow.Author.Tests.{lt-ltb, le-ltb, ltb-true, ltb-false}
 use Rattle.rules.specs.Text.Bytes.{Bytes}
 use Rattle.rules.specs.Text.Refusal.{Reply, answers, refuses, refuses12, tested, lent, outcome, prepared}
-use Rattle.rules.specs.Pipeline.Prepare.{prepareAs}
+use Rattle.rules.specs.Pipeline.Prepare.{prepare_as}
 use Rattle.rules.specs.declared.Mode.{Mode}
 use Rattle.rules.specs.declared.Prepared.{Prepared}
 use Rattle.rules.specs.declared.Prepared.TheVariants as prepared-is
@@ -13,7 +13,7 @@ use Rattle.rules.specs.declared.Reading.{Reading}
 use Rattle.rules.specs.declared.Step.{Step}
 use Rattle.rules.specs.declared.Table.{Table}
 use Rattle.prepare.specs.declared.Preparing.{Preparing}
-use Rattle.prepare.specs.Lent.{with_row, lentTo, preparingAs}
+use Rattle.prepare.specs.Lent.{with_row, lent_to, preparing_as}
 use Rattle.rows.specs.Row.{blanks, emptied, laid, Fits}
 use Rattle.rows.specs.LaidRow.{length-blanks, laid_none}
 use Rattle.entry.specs.declared.Plan.{Plan}
@@ -52,8 +52,8 @@ module _ (row : List Step) where
 
 -- of at most 64 records
 brought : (reply : Reply (List Step)) → ((xs : List Step) → reply ≡ answers xs → length xs ≤ 64) → (row : List Step)
-    → Brings reply row (plan_of (lentTo reply (emptied (length row))))
-unfolding plan_of lentTo with_row count_of lent prepared
+    → Brings reply row (plan_of (lent_to reply (emptied (length row))))
+unfolding plan_of lent_to with_row count_of lent prepared
 brought (refuses number place) few row = leaves row (refuses number place) number place 0 _ refl
 brought (refuses12 place offset) few row = leaves row (refuses12 place offset) 12 place offset _ refl
 brought (answers xs) few row = go (ltb (length front) (length xs)) refl
@@ -75,20 +75,20 @@ brought (answers xs) few row = go (ltb (length front) (length xs)) refl
         (writes row xs (drop (length xs) front ++ drop (length row) blanks) small (omega (arith, size, ltb-false (length front) (length xs) e)))
 
 -- the plan keeps what preparing promises
-pub plans : (r : Reading) (mode : Mode) (text : Bytes) (room : ℕ) {p : Plan} → p ≡ plan_of (preparingAs r mode text (emptied room)) → Plans r mode text room p
-unfolding preparingAs outcome
+pub plans : (r : Reading) (mode : Mode) (text : Bytes) (room : ℕ) {p : Plan} → p ≡ plan_of (preparing_as r mode text (emptied room)) → Plans r mode text room p
+unfolding preparing_as outcome
 plans r mode text room {p} e =
     record { fits = λ row l. (brings row l).fits; keeps = λ row l. record { exactly = (brings row l).keeps } }
   where
-    brings : (row : List Step) → length row ≡ room → Brings (tested (prepareAs r mode) text) row p
+    brings : (row : List Step) → length row ≡ room → Brings (tested (prepare_as r mode) text) row p
     brings row l =
-        subst (Brings (tested (prepareAs r mode) text) row) (ap (λ (n : ℕ). plan_of (preparingAs r mode text (emptied n))) l ∙ sym e)
-        (brought (tested (prepareAs r mode) text) (λ xs h. (prepare-as-made r mode text xs (tested-answers (prepareAs r mode) text xs h)).1) row)
+        subst (Brings (tested (prepare_as r mode) text) row) (ap (λ (n : ℕ). plan_of (preparing_as r mode text (emptied n))) l ∙ sym e)
+        (brought (tested (prepare_as r mode) text) (λ xs h. (prepare-as-made r mode text xs (tested-answers (prepare_as r mode) text xs h)).1) row)
 
 -- the same, from what the callees promise
-pub planned-by : (r : Reading) (mode : Mode) (text : Bytes) (room : ℕ) {t : Table} {q : Preparing} {n : ℕ} → t ≡ emptied room → q ≡ preparingAs r mode text t → n ≡ count_of q.answer
+pub planned-by : (r : Reading) (mode : Mode) (text : Bytes) (room : ℕ) {t : Table} {q : Preparing} {n : ℕ} → t ≡ emptied room → q ≡ preparing_as r mode text t → n ≡ count_of q.answer
     → Plans r mode text room (record { answer = q.answer; steps = q.table.steps; n = n })
 unfolding plan_of
 planned-by r mode text room {t} {q} e f g =
     plans r mode text room
-    ((λ i. record { answer = q.answer; steps = q.table.steps; n = g i }) ∙ ap plan_of (f ∙ ap (preparingAs r mode text) e))
+    ((λ i. record { answer = q.answer; steps = q.table.steps; n = g i }) ∙ ap plan_of (f ∙ ap (preparing_as r mode text) e))

@@ -6,7 +6,7 @@ use Rattle.std.proofs.Math.Option.{some}
 use native.Mathlib.Omega.{arith}
 use Rattle.std.proofs.Math.ListN.{length, length-append, length-replicate}
 use Rattle.std.proofs.Math.Seq.{take_all, take_at}
-use Rattle.rules.specs.Pipeline.Record.{noSpan, blank, listed, refusal18}
+use Rattle.rules.specs.Pipeline.Record.{no_span, blank, listed, refusal18}
 use Rattle.rules.specs.Pipeline.Check.{only, check, checked}
 use Rattle.rules.specs.Pipeline.Run.{refused, runs, unless18}
 use Rattle.rules.specs.declared.Step.{Step}
@@ -49,7 +49,7 @@ module _ (row : List Step) where
 
   pub check-stands : (d : Direction) → check d (listed (loaded row)) ≡ check d row
   unfolding check checked
-  check-stands d = stands (check d) (only (Refused 18 0) noSpan) (λ l e. rw e)
+  check-stands d = stands (check d) (only (Refused 18 0) no_span) (λ l e. rw e)
 
   pub runs-stands : (d : Direction) (xs store : List Float) → runs d (listed (loaded row)) xs store ≡ runs d row xs store
   unfolding runs unless18

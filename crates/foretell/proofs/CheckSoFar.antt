@@ -8,12 +8,12 @@ use native.Mathlib.Omega.{arith}
 use lib.ListN.{length, get_or, set, take, replicate, length-append, length-drop}
 use lib.Seq.{set_at}
 use Rattle.rules.specs.Text.Lists.{any_of}
-use Rattle.rules.specs.Pipeline.Record.{noSpan, refusal18}
+use Rattle.rules.specs.Pipeline.Record.{no_span, refusal18}
 use Rattle.rules.specs.Operators.Acts.{Act}
 use Rattle.rules.specs.Pipeline.Running.{act, Numbered, omitted, running}
 use Rattle.rules.specs.Pipeline.Columns.{moved, after, depths, deepest}
 use Rattle.rules.specs.Pipeline.Check as rules
-use Rattle.rules.specs.Pipeline.Check.{onPlaces, verdict, begin, adapting, anyAdapt, foretold, spanAt, answered, check, checked, Checks, only, noPlace}
+use Rattle.rules.specs.Pipeline.Check.{on_places, verdict, begin, adapting, any_adapt, foretold, span_at, answered, check, checked, Checks, only, no_place}
 use Rattle.rules.specs.declared.Place.{Place}
 use Rattle.rules.specs.declared.Span.{Span}
 use Rattle.rules.specs.declared.Step.{Step}
@@ -25,46 +25,46 @@ use Rattle.laws_steps.specs.Depth.{grown, moved-depth}
 use Rattle.laws_steps.specs.Walk.{after_more, depths-more, deepest-more}
 use Rattle.columns.specs.declared.acts.Doing.{Doing}
 use Rattle.columns.specs.Doings.{doing, Does}
-use Rattle.record.specs.Visits.{visited, leftFrom}
+use Rattle.record.specs.Visits.{visited, left_from}
 use Rattle.record.proofs.RunningOrder.{left-all, left-none, left-next}
 use Rattle.record.specs.declared.tests.Bad.{Bad}
 use Rattle.record.specs.declared.tests.Bad.TheVariants.{At, Nowhere}
-use Rattle.record.specs.Records.{badOf}
+use Rattle.record.specs.Records.{bad_of}
 use Rattle.foretell.specs.declared.acts.Judged.TheVariants.{Few, Many, Goes}
 use Rattle.columns.specs.declared.traced.Traced.{Traced}
 use Rattle.columns.specs.Traces.{machine, depth, Whole}
 use Rattle.foretell.specs.Judgement.{Ready, judged}
-use Rattle.foretell.specs.Steps.{Sofar, sofar, beginning, Begun, Went, toldOf}
+use Rattle.foretell.specs.Steps.{Sofar, sofar, beginning, Begun, Went, told_of}
 use Rattle.foretell.proofs.Judgements.{goes-is, verdict-few, verdict-many, verdict-goes}
 
 -- what the steps so far have come to
 pub record Gathered (l : List Numbered) (c : Sofar) : Type 0 where
   pub whole : Whole c.traced
-  pub traced : machine c.traced ≡ after (moved onPlaces) l begin
+  pub traced : machine c.traced ≡ after (moved on_places) l begin
   pub run : c.run ≡ length l
-  pub depths-are : c.depths ≡ depths (moved onPlaces) l begin ++ replicate (64 - length l) 0
-  pub deepest-is : c.deepest ≡ deepest (depths (moved onPlaces) l begin)
-  pub adapts : c.adapts ≡ anyAdapt l
+  pub depths-are : c.depths ≡ depths (moved on_places) l begin ++ replicate (64 - length l) 0
+  pub deepest-is : c.deepest ≡ deepest (depths (moved on_places) l begin)
+  pub adapts : c.adapts ≡ any_adapt l
 
-depths-length : (l : List Numbered) (m : rules.Traced) → length (depths (moved onPlaces) l m) ≡ length l
+depths-length : (l : List Numbered) (m : rules.Traced) → length (depths (moved on_places) l m) ≡ length l
 unfolding depths
 depths-length [] m = refl
-depths-length (s ∷ l) m = ap suc (depths-length l (moved onPlaces s.does m))
+depths-length (s ∷ l) m = ap suc (depths-length l (moved on_places s.does m))
 
 or_assoc : (a b c : Bool) → (a || (b || c)) ≡ ((a || b) || c)
 or_assoc true b c = refl
 or_assoc false b c = refl
 
-any-more : (l : List Numbered) (s : Numbered) → anyAdapt (l ++ (s ∷ [])) ≡ (anyAdapt l || adapting s.does)
-unfolding anyAdapt any_of
+any-more : (l : List Numbered) (s : Numbered) → any_adapt (l ++ (s ∷ [])) ≡ (any_adapt l || adapting s.does)
+unfolding any_adapt any_of
 any-more [] s = or-false (adapting s.does)
-any-more (x ∷ l) s = ap (λ (b : Bool). adapting x.does || b) (any-more l s) ∙ or_assoc (adapting x.does) (anyAdapt l) (adapting s.does)
+any-more (x ∷ l) s = ap (λ (b : Bool). adapting x.does || b) (any-more l s) ∙ or_assoc (adapting x.does) (any_adapt l) (adapting s.does)
 
 pub begun : {t : Traced} → t ≡ beginning → Begun (sofar t 0 (replicate 64 0) 0 false)
 begun e = record { exactly = ap (λ (t : Traced). sofar t 0 (replicate 64 0) 0 false) e }
 
 pub gathered_none : {c : Sofar} → Begun c → Gathered [] c
-unfolding machine after depths deepest anyAdapt any_of
+unfolding machine after depths deepest any_adapt any_of
 gathered_none {c} b =
     subst (Gathered []) (sym b.exactly) (record
     { whole = record { four = refl; most = refl; within = omega arith }; traced = refl; run = refl; depths-are = refl; deepest-is = refl; adapts = refl })
@@ -73,15 +73,15 @@ pub gathered-more : {l : List Numbered} (s : Numbered) {c r : Sofar} {n : ℕ} �
     → Went s.does n c r → Gathered (l ++ (s ∷ [])) r
 unfolding depths deepest after
 gathered-more {l} s {c} {r} {n} g few e w =
-    let m = after (moved onPlaces) l begin in
-    let d = length (moved onPlaces s.does m).columns in
-    let ds = depths (moved onPlaces) l begin in
-    let new : depths (moved onPlaces) (l ++ (s ∷ [])) begin ≡ ds ++ (d ∷ []) = depths-more (moved onPlaces) l (s ∷ []) begin in
+    let m = after (moved on_places) l begin in
+    let d = length (moved on_places s.does m).columns in
+    let ds = depths (moved on_places) l begin in
+    let new : depths (moved on_places) (l ++ (s ∷ [])) begin ≡ ds ++ (d ∷ []) = depths-more (moved on_places) l (s ∷ []) begin in
     let one : length (l ++ (s ∷ [])) ≡ suc (length l) = length-append l (s ∷ []) ∙ omega arith in
-    let deep : n ≡ d = e ∙ sym (moved-depth onPlaces s.does (machine c.traced)) ∙ ap (λ (x : rules.Traced). length (moved onPlaces s.does x).columns) g.traced in
+    let deep : n ≡ d = e ∙ sym (moved-depth on_places s.does (machine c.traced)) ∙ ap (λ (x : rules.Traced). length (moved on_places s.does x).columns) g.traced in
     record {
       whole = w.traced.whole;
-      traced = w.traced.same ∙ ap (moved onPlaces s.does) g.traced ∙ sym (after_more (moved onPlaces) l (s ∷ []) begin);
+      traced = w.traced.same ∙ ap (moved on_places s.does) g.traced ∙ sym (after_more (moved on_places) l (s ∷ []) begin);
       run = w.run ∙ ap (λ (k : ℕ). k + 1) g.run ∙ sym (length-append l (s ∷ []));
       depths-are =
           w.depths
@@ -114,8 +114,8 @@ gathered-more {l} s {c} {r} {n} g few e w =
 pub record Checking (d : Direction) (l : List Step) (k : ℕ) (c : Sofar) : Type 0 where
   pub done : List Numbered
   pub gathered : Gathered done c
-  pub whole : running d l ≡ done ++ leftFrom d k l
-  pub hangs : verdict (running d l) begin ≡ verdict (leftFrom d k l) (machine c.traced)
+  pub whole : running d l ≡ done ++ left_from d k l
+  pub hangs : verdict (running d l) begin ≡ verdict (left_from d k l) (machine c.traced)
   pub behind : length done ≤ k
 
 pub checking-none : (d : Direction) (l : List Step) {c : Sofar} → Begun c → Checking d l 0 c
@@ -126,7 +126,7 @@ checking-none d l {c} b =
       done = [];
       gathered = g;
       whole = sym (left-all d l);
-      hangs = ap (λ (x : List Numbered). verdict x begin) (sym (left-all d l)) ∙ ap (verdict (leftFrom d 0 l)) (sym g.traced);
+      hangs = ap (λ (x : List Numbered). verdict x begin) (sym (left-all d l)) ∙ ap (verdict (left_from d 0 l)) (sym g.traced);
       behind = omega arith;
     }
 
@@ -140,14 +140,14 @@ module _ {d : Direction} {l : List Step} {k : ℕ} {c : Sofar} (ch : Checking d 
   own : Numbered
   own = record { place = i + 1; does = act d s }
 
-  next : leftFrom d k l ≡ cond (omitted d s) (leftFrom d (k + 1) l) (own ∷ leftFrom d (k + 1) l)
+  next : left_from d k l ≡ cond (omitted d s) (left_from d (k + 1) l) (own ∷ left_from d (k + 1) l)
   unfolding own
   next = rw (is, at) (left-next d l k z h)
 
   -- a step that is left out
   pub checking-omitted : omitted d s ≡ true → Checking d l (k + 1) c
   checking-omitted e =
-      let skip : leftFrom d k l ≡ leftFrom d (k + 1) l = next ∙ rw e refl in
+      let skip : left_from d k l ≡ left_from d (k + 1) l = next ∙ rw e refl in
       record {
         done = ch.done;
         gathered = ch.gathered;
@@ -157,7 +157,7 @@ module _ {d : Direction} {l : List Step} {k : ℕ} {c : Sofar} (ch : Checking d 
       }
 
   module _ (e : omitted d s ≡ false) (a : Act) (same : a ≡ act d s) where
-    runs : leftFrom d k l ≡ own ∷ leftFrom d (k + 1) l
+    runs : left_from d k l ≡ own ∷ left_from d (k + 1) l
     runs = next ∙ rw e refl
 
     at-depth : length (machine c.traced).columns ≡ 64 - c.traced.top
@@ -168,13 +168,13 @@ module _ {d : Direction} {l : List Step} {k : ℕ} {c : Sofar} (ch : Checking d 
     unfolding own
     checking-few j =
         ch.hangs ∙ ap (λ (x : List Numbered). verdict x (machine c.traced)) runs
-        ∙ verdict-few own (leftFrom d (k + 1) l) (machine c.traced) (64 - c.traced.top) at-depth (ap (λ (x : Act). judged x (64 - c.traced.top)) (sym same) ∙ j)
+        ∙ verdict-few own (left_from d (k + 1) l) (machine c.traced) (64 - c.traced.top) at-depth (ap (λ (x : Act). judged x (64 - c.traced.top)) (sym same) ∙ j)
 
     pub checking-many : judged a (64 - c.traced.top) ≡ Many → verdict (running d l) begin ≡ TooMany (i + 1)
     unfolding own
     checking-many j =
         ch.hangs ∙ ap (λ (x : List Numbered). verdict x (machine c.traced)) runs
-        ∙ verdict-many own (leftFrom d (k + 1) l) (machine c.traced) (64 - c.traced.top) at-depth (ap (λ (x : Act). judged x (64 - c.traced.top)) (sym same) ∙ j)
+        ∙ verdict-many own (left_from d (k + 1) l) (machine c.traced) (64 - c.traced.top) at-depth (ap (λ (x : Act). judged x (64 - c.traced.top)) (sym same) ∙ j)
 
     -- a step that goes
     pub checking-goes : {r : Sofar} {n : ℕ} → length l ≤ 64 → judged a (64 - c.traced.top) ≡ Goes n → Went a n c r → Checking d l (k + 1) r
@@ -186,17 +186,17 @@ module _ {d : Direction} {l : List Step} {k : ℕ} {c : Sofar} (ch : Checking d 
         record {
           done = ch.done ++ (own ∷ []);
           gathered = gathered-more own ch.gathered (omega (arith, ch.behind, h, few)) (g.so-deep ∙ ap (grown (act d s)) (sym at-depth)) w';
-          whole = ch.whole ∙ ap (λ (x : List Numbered). ch.done ++ x) runs ∙ sym (append_assoc ch.done (own ∷ []) (leftFrom d (k + 1) l));
+          whole = ch.whole ∙ ap (λ (x : List Numbered). ch.done ++ x) runs ∙ sym (append_assoc ch.done (own ∷ []) (left_from d (k + 1) l));
           hangs =
               ch.hangs ∙ ap (λ (x : List Numbered). verdict x (machine c.traced)) runs
-              ∙ verdict-goes own (leftFrom d (k + 1) l) (machine c.traced) (64 - c.traced.top) at-depth n j'
-              ∙ ap (verdict (leftFrom d (k + 1) l)) (sym w'.traced.same);
+              ∙ verdict-goes own (left_from d (k + 1) l) (machine c.traced) (64 - c.traced.top) at-depth n j'
+              ∙ ap (verdict (left_from d (k + 1) l)) (sym w'.traced.same);
           behind = omega (arith, ch.behind, length-append ch.done (own ∷ []));
         }
 
 -- ---- the answer
 
-module _ (t : List Step) (l : List Numbered) (k : ℕ) (p : Span) (here : p ≡ spanAt k t) where
+module _ (t : List Step) (l : List Numbered) (k : ℕ) (p : Span) (here : p ≡ span_at k t) where
   pub answers-few : verdict l begin ≡ TooFew k → only (TooFew k) p ≡ checked none t l
   unfolding checked answered
   answers-few e = rw (e, here) refl
@@ -205,34 +205,34 @@ module _ (t : List Step) (l : List Numbered) (k : ℕ) (p : Span) (here : p ≡ 
   unfolding checked answered
   answers-many e = rw (e, here) refl
 
-told_is : {l : List Numbered} {c : Sofar} → Gathered l c → toldOf c ≡ foretold l
-unfolding foretold toldOf depth machine
+told_is : {l : List Numbered} {c : Sofar} → Gathered l c → told_of c ≡ foretold l
+unfolding foretold told_of depth machine
 told_is {l} {c} g =
-    let ds = depths (moved onPlaces) l begin in
+    let ds = depths (moved on_places) l begin in
     let run_is : c.run ≡ length ds = g.run ∙ sym (depths-length l begin) in
     let depths-is : c.depths ≡ ds ++ replicate (64 - length ds) 0 = g.depths-are ∙ ap (λ (k : ℕ). ds ++ replicate (64 - k) 0) (sym (depths-length l begin)) in
-    let left_is : 64 - c.traced.top ≡ length (after (moved onPlaces) l begin).columns =
+    let left_is : 64 - c.traced.top ≡ length (after (moved on_places) l begin).columns =
     sym (columns-many c g.whole) ∙ ap (λ (m : rules.Traced). length m.columns) g.traced in
     λ i.
     record {
       verdict = Passes;
-      span = noSpan;
+      span = no_span;
       run = run_is i;
       depths = depths-is i;
       deepest = g.deepest-is i;
       left = left_is i;
       told = not (g.adapts i);
-      places = cond (not (g.adapts i)) (g.traced i).tuples (replicate 4 noPlace);
+      places = cond (not (g.adapts i)) (g.traced i).tuples (replicate 4 no_place);
     }
 
-pub told-so : (c : Sofar) {places : List Place} → places ≡ cond (not c.adapts) c.traced.tuple (replicate 4 noPlace)
-    → record { verdict = Passes; span = noSpan; run = c.run; depths = c.depths; deepest = c.deepest; left = 64 - c.traced.top; told = not c.adapts; places = places } ≡ toldOf c
-unfolding toldOf depth
+pub told-so : (c : Sofar) {places : List Place} → places ≡ cond (not c.adapts) c.traced.tuple (replicate 4 no_place)
+    → record { verdict = Passes; span = no_span; run = c.run; depths = c.depths; deepest = c.deepest; left = 64 - c.traced.top; told = not c.adapts; places = places } ≡ told_of c
+unfolding told_of depth
 told-so c e =
     λ i.
-    record { verdict = Passes; span = noSpan; run = c.run; depths = c.depths; deepest = c.deepest; left = 64 - c.traced.top; told = not c.adapts; places = e i }
+    record { verdict = Passes; span = no_span; run = c.run; depths = c.depths; deepest = c.deepest; left = 64 - c.traced.top; told = not c.adapts; places = e i }
 
-pub answers-told : {d : Direction} {l : List Step} {k : ℕ} {c : Sofar} → Checking d l k c → length l ≤ k → toldOf c ≡ checked none l (running d l)
+pub answers-told : {d : Direction} {l : List Step} {k : ℕ} {c : Sofar} → Checking d l k c → length l ≤ k → told_of c ≡ checked none l (running d l)
 unfolding checked answered verdict
 answers-told {d} {l} {k} {c} ch h =
     let nothing = left-none d l k h in
@@ -251,19 +251,19 @@ ready-so {a} {d} {t} {n} does w j =
 
 -- ---- refusal 18, and the whole
 
-pub checks-refused : {d : Direction} {l : List Step} {k : ℕ} {b : Bad} {r : Foretold} → b ≡ badOf (refusal18 l) → b ≡ At k → r ≡ only (Refused 18 k) noSpan → Checks d l r
-unfolding check checked badOf
+pub checks-refused : {d : Direction} {l : List Step} {k : ℕ} {b : Bad} {r : Foretold} → b ≡ bad_of (refusal18 l) → b ≡ At k → r ≡ only (Refused 18 k) no_span → Checks d l r
+unfolding check checked bad_of
 checks-refused {d} {l} {k} {b} {r} e f g = record { exactly = g ∙ rw (bad-at (refusal18 l) (sym e ∙ f)) refl }
   where
-    bad-at : (o : Option ℕ) → badOf o ≡ At k → o ≡ some k
+    bad-at : (o : Option ℕ) → bad_of o ≡ At k → o ≡ some k
     bad-at none e = absurd (never (cc e))
     bad-at (some j) e = cc e
 
-pub nowhere-bad : (l : List Step) {b : Bad} → b ≡ badOf (refusal18 l) → b ≡ Nowhere → refusal18 l ≡ none
-unfolding badOf
+pub nowhere-bad : (l : List Step) {b : Bad} → b ≡ bad_of (refusal18 l) → b ≡ Nowhere → refusal18 l ≡ none
+unfolding bad_of
 nowhere-bad l e f = bad-none (refusal18 l) (sym e ∙ f)
   where
-    bad-none : (o : Option ℕ) → badOf o ≡ Nowhere → o ≡ none
+    bad-none : (o : Option ℕ) → bad_of o ≡ Nowhere → o ≡ none
     bad-none none e = refl
     bad-none (some j) e = absurd (never (cc e))
 

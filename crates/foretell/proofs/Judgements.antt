@@ -8,11 +8,11 @@ use lib.Dec.{ltb}
 use lib.ListN.{length}
 use Rattle.rules.specs.Operators.Acts.{Act}
 use Rattle.rules.specs.Pipeline.Running.{Numbered}
-use Rattle.rules.specs.Pipeline.Columns.{takes, tooFew, moved}
-use Rattle.rules.specs.Pipeline.Check.{Traced, onPlaces, verdict}
+use Rattle.rules.specs.Pipeline.Columns.{takes, too_few, moved}
+use Rattle.rules.specs.Pipeline.Check.{Traced, on_places, verdict}
 use Rattle.rules.specs.declared.Verdict.TheVariants.{TooFew, TooMany}
 use Rattle.laws_lists.specs.Tests.{never}
-use Rattle.laws_steps.specs.Depth.{grown, depthAfter, moved-depth}
+use Rattle.laws_steps.specs.Depth.{grown, depth_after, moved-depth}
 use Rattle.foretell.specs.declared.acts.Judged.TheVariants.{Few, Many, Goes}
 use Rattle.foretell.specs.Judgement.{judged}
 
@@ -20,20 +20,20 @@ use Rattle.foretell.specs.Judgement.{judged}
 
 module _ (a : Act) {depth n : ℕ} (t : n ≡ takes a) where
   pub few-so : depth < n → Few ≡ judged a depth
-  unfolding judged tooFew
+  unfolding judged too_few
   few-so h = rw (lt-ltb _ _ (subst (λ (k : ℕ). depth < k) t h)) refl
 
-  module _ {m : ℕ} (h : n ≤ depth) (after : m ≡ depthAfter a depth) where
+  module _ {m : ℕ} (h : n ≤ depth) (after : m ≡ depth_after a depth) where
     g : m ≡ grown a depth
-    unfolding depthAfter tooFew
+    unfolding depth_after too_few
     g = after ∙ rw (le-ltb _ _ (subst (λ (k : ℕ). k ≤ depth) t h)) refl
 
     pub many-so : 64 < m → Many ≡ judged a depth
-    unfolding judged tooFew
+    unfolding judged too_few
     many-so o = rw (le-ltb _ _ (subst (λ (k : ℕ). k ≤ depth) t h), lt-ltb _ _ (subst (λ (k : ℕ). 64 < k) g o)) refl
 
     pub goes_so : m ≤ 64 → Goes m ≡ judged a depth
-    unfolding judged tooFew
+    unfolding judged too_few
     goes_so o = rw (le-ltb _ _ (subst (λ (k : ℕ). k ≤ depth) t h), le-ltb _ _ (subst (λ (k : ℕ). k ≤ 64) g o)) (ap Goes g)
 
 -- ---- the verdict, by what the check makes of the first act
@@ -45,18 +45,18 @@ pub record Going (a : Act) (depth n : ℕ) : Type 0 where
   pub so-deep : n ≡ grown a depth
 
 module _ (a : Act) (depth : ℕ) where
-  pub few-is : judged a depth ≡ Few → tooFew a depth ≡ true
+  pub few-is : judged a depth ≡ Few → too_few a depth ≡ true
   unfolding judged
-  few-is e = go (tooFew a depth) (ltb 64 (grown a depth)) e
+  few-is e = go (too_few a depth) (ltb 64 (grown a depth)) e
     where
       go : (x y : Bool) → cond x Few (cond y Many (Goes (grown a depth))) ≡ Few → x ≡ true
       go true y e = refl
       go false true e = absurd (never (cc e))
       go false false e = absurd (never (cc e))
 
-  pub many_is : judged a depth ≡ Many → (tooFew a depth ≡ false) × (ltb 64 (grown a depth) ≡ true)
+  pub many_is : judged a depth ≡ Many → (too_few a depth ≡ false) × (ltb 64 (grown a depth) ≡ true)
   unfolding judged
-  many_is e = go (tooFew a depth) (ltb 64 (grown a depth)) e
+  many_is e = go (too_few a depth) (ltb 64 (grown a depth)) e
     where
       go : (x y : Bool) → cond x Few (cond y Many (Goes (grown a depth))) ≡ Many → (x ≡ false) × (y ≡ true)
       go true y e = absurd (never (cc e))
@@ -64,7 +64,7 @@ module _ (a : Act) (depth : ℕ) where
       go false false e = absurd (never (cc e))
 
   pub goes-is : (n : ℕ) → judged a depth ≡ Goes n → Going a depth n
-  unfolding judged tooFew
+  unfolding judged too_few
   goes-is n e = go (ltb depth (takes a)) refl (ltb 64 (grown a depth)) refl e
     where
       go : (x : Bool) → ltb depth (takes a) ≡ x → (y : Bool) → ltb 64 (grown a depth) ≡ y → cond x Few (cond y Many (Goes (grown a depth))) ≡ Goes n → Going a depth n
@@ -79,8 +79,8 @@ module _ (s : Numbered) (l : List Numbered) (m : Traced) (d : ℕ) (h : length m
 
   pub verdict-many : judged s.does d ≡ Many → verdict (s ∷ l) m ≡ TooMany s.place
   unfolding verdict
-  verdict-many e = rw (moved-depth onPlaces s.does m, h, (many_is s.does d e).0, (many_is s.does d e).1) refl
+  verdict-many e = rw (moved-depth on_places s.does m, h, (many_is s.does d e).0, (many_is s.does d e).1) refl
 
-  pub verdict-goes : (n : ℕ) → judged s.does d ≡ Goes n → verdict (s ∷ l) m ≡ verdict l (moved onPlaces s.does m)
-  unfolding verdict tooFew
-  verdict-goes n e = let g = goes-is s.does d n e in rw (moved-depth onPlaces s.does m, h, le-ltb _ _ g.enough, le-ltb _ _ g.room) refl
+  pub verdict-goes : (n : ℕ) → judged s.does d ≡ Goes n → verdict (s ∷ l) m ≡ verdict l (moved on_places s.does m)
+  unfolding verdict too_few
+  verdict-goes n e = let g = goes-is s.does d n e in rw (moved-depth on_places s.does m, h, le-ltb _ _ g.enough, le-ltb _ _ g.room) refl

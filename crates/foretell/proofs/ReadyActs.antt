@@ -9,9 +9,9 @@ use lib.IntN.{ℤ}
 use lib.ListN.{length}
 use Rattle.rules.specs.Text.Lists.{all_of}
 use Rattle.rules.specs.Text.Decimal.{minus}
-use Rattle.rules.specs.Operators.Arguments.{isPlace, places, is_order}
+use Rattle.rules.specs.Operators.Arguments.{is_place, places, is_order}
 use Rattle.rules.specs.declared.Mode.{Mode}
-use Rattle.rules.specs.Operators.Acts.{pops, popsAll, drops, adapts}
+use Rattle.rules.specs.Operators.Acts.{pops, pops_all, drops, adapts}
 use Rattle.rules.specs.Pipeline.Columns.{takes, moved}
 use Rattle.laws_steps.specs.Depth.{grown}
 use Rattle.laws_steps.specs.PlacesOf.{places-length}
@@ -23,32 +23,32 @@ use Rattle.laws_lists.specs.Lists.{all_so}
 use Rattle.laws_lists.specs.Tests.{so, and_right}
 use Rattle.columns.specs.Doings.{does, able}
 use Rattle.columns.specs.declared.traced.Traced.{Traced}
-use Rattle.numbers.specs.Axes.{isAxis}
+use Rattle.numbers.specs.Axes.{is_axis}
 use Rattle.columns.specs.Traces.{machine, depth, Whole, Moved}
 use Rattle.foretell.specs.Judgement.{Ready}
 
-places-axes : (l : List ℤ) → all_of isPlace l ≡ true → all_of isAxis l ≡ true
-unfolding isPlace isAxis
-places-axes l e = all_so isPlace isAxis (λ x h. and_right (not (minus x)) _ h) l e
+places-axes : (l : List ℤ) → all_of is_place l ≡ true → all_of is_axis l ≡ true
+unfolding is_place is_axis
+places-axes l e = all_so is_place is_axis (λ x h. and_right (not (minus x)) _ h) l e
 
 -- a column for each place
-taking : (t : Traced) (l : List ℤ) → Whole t → all_of isPlace l ≡ true → length (places l) ≤ 64 - t.top → Whole t × ((all_of isAxis l ≡ true) × (t.top + length l ≤ 64))
+taking : (t : Traced) (l : List ℤ) → Whole t → all_of is_place l ≡ true → length (places l) ≤ 64 - t.top → Whole t × ((all_of is_axis l ≡ true) × (t.top + length l ≤ 64))
 taking t l w e h = (w, (places-axes l e, omega (arith, h, w.within, places-length l)))
 
 module _ {t : Traced} {l : List ℤ} where
-  pub ready-push : Ready t Pushes l → Whole t × ((all_of isAxis l ≡ true) × (length l ≤ t.top))
+  pub ready-push : Ready t Pushes l → Whole t × ((all_of is_axis l ≡ true) × (length l ≤ t.top))
   unfolding able does grown depth
   ready-push r = (r.whole, (places-axes l r.rule, omega (arith, r.room, r.whole.within, places-length l)))
 
-  pub ready-pop : Ready t Pops l → Whole t × ((all_of isAxis l ≡ true) × (t.top + length l ≤ 64))
+  pub ready-pop : Ready t Pops l → Whole t × ((all_of is_axis l ≡ true) × (t.top + length l ≤ 64))
   unfolding able does takes depth
   ready-pop r = taking t l r.whole r.rule r.enough
 
-  pub ready-pop-all : Ready t PopsAll l → Whole t × ((all_of isAxis l ≡ true) × (t.top + length l ≤ 64))
+  pub ready-pop-all : Ready t PopsAll l → Whole t × ((all_of is_axis l ≡ true) × (t.top + length l ≤ 64))
   unfolding able does takes depth
   ready-pop-all r = taking t l r.whole r.rule r.enough
 
-  pub ready-flip : Ready t Flips l → Whole t × ((all_of isAxis l ≡ true) × (t.top + length l ≤ 64))
+  pub ready-flip : Ready t Flips l → Whole t × ((all_of is_axis l ≡ true) × (t.top + length l ≤ 64))
   unfolding able does takes depth
   ready-flip r = taking t l r.whole r.rule r.enough
 
@@ -60,7 +60,7 @@ module _ {t : Traced} {l : List ℤ} where
   unfolding able
   ready-order r = (r.whole, r.rule)
 
-pub moves-all : {t r : Traced} {is : List ℕ} → Moved (pops is) t r → Moved (popsAll is) t r
+pub moves-all : {t r : Traced} {is : List ℕ} → Moved (pops is) t r → Moved (pops_all is) t r
 unfolding moved
 moves-all m = record { whole = m.whole; same = m.same }
 

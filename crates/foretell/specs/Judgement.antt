@@ -1,7 +1,7 @@
 -- What the check makes of an act at a depth, and what the act then has.
 use Rattle.std.specs.Prelude.{◌≡◌, ℕ, ◌≤◌, true, cond, List, ltb, ℤ}
 use Rattle.rules.specs.Operators.Acts.{Act}
-use Rattle.rules.specs.Pipeline.Columns.{takes, tooFew}
+use Rattle.rules.specs.Pipeline.Columns.{takes, too_few}
 use Rattle.laws_steps.specs.Depth.{grown}
 use Rattle.columns.specs.Doings.{does, able}
 use Rattle.columns.specs.Traces.{depth, Whole}
@@ -12,7 +12,7 @@ use Rattle.foretell.specs.declared.acts.Judged.TheVariants.{Few, Many, Goes}
 
 -- too few columns, too many after the act, or so many
 unfoldable pub judged : Act → ℕ → Judged
-judged a depth = cond (tooFew a depth) Few (cond (ltb 64 (grown a depth)) Many (Goes (grown a depth)))
+judged a depth = cond (too_few a depth) Few (cond (ltb 64 (grown a depth)) Many (Goes (grown a depth)))
 
 -- the act has what it needs: arguments that can be its own, enough columns, and room
 pub record Ready (t : Traced) (a : code.Act) (l : List ℤ) : Type 0 where

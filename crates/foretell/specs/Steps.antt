@@ -1,8 +1,8 @@
 -- The check one step after the other, as the code holds it.
 use Rattle.std.specs.Prelude.{◌≡◌, ℕ, ◌+◌, max, Bool, false, cond, not, ◌||◌, List, set, replicate}
 use Rattle.rules.specs.Operators.Acts.{Act}
-use Rattle.rules.specs.Pipeline.Record.{noSpan}
-use Rattle.rules.specs.Pipeline.Check.{adapting, noPlace, four, plus}
+use Rattle.rules.specs.Pipeline.Record.{no_span}
+use Rattle.rules.specs.Pipeline.Check.{adapting, no_place, four, plus}
 use Rattle.columns.specs.declared.traced.Traced.{Traced}
 use Rattle.columns.specs.Traces.{depth, Moved}
 use Rattle.rules.specs.declared.Foretold.{Foretold}
@@ -22,7 +22,7 @@ sofar t run depths deepest adapts = record { traced = t; run = run; depths = dep
 
 -- places 1 to 4, and no columns
 abbrev pub beginning : Traced
-beginning = record { tuple = four (plus 1) (plus 2) (plus 3) (plus 4); columns = replicate 64 noPlace; top = 64 }
+beginning = record { tuple = four (plus 1) (plus 2) (plus 3) (plus 4); columns = replicate 64 no_place; top = 64 }
 
 -- before the first step
 pub record Begun (c : Sofar) : Type 0 where
@@ -43,15 +43,15 @@ pub record Went (a : Act) (depth : ℕ) (c r : Sofar) : Type 0 where
   pub adapts : r.adapts ≡ (c.adapts || adapting a)
 
 -- what the last step leaves, if all passed
-unfoldable pub toldOf : Sofar → Foretold
-toldOf c =
+unfoldable pub told_of : Sofar → Foretold
+told_of c =
     record {
       verdict = Passes;
-      span = noSpan;
+      span = no_span;
       run = c.run;
       depths = c.depths;
       deepest = c.deepest;
       left = depth c.traced;
       told = not c.adapts;
-      places = cond (not c.adapts) c.traced.tuple (replicate 4 noPlace);
+      places = cond (not c.adapts) c.traced.tuple (replicate 4 no_place);
     }

@@ -5,7 +5,7 @@ ghost use Rattle.std.specs.Prelude.{◌≡◌, cond, not, ◌||◌, max, replica
 ghost use Rattle.std.proofs.Math.Option.{none};
 ghost use Rattle.rules.specs.Pipeline.Record.{refusal18, listed};
 ghost use Rattle.rules.specs.Pipeline.Running.{running};
-ghost use Rattle.rules.specs.Pipeline.Check.{plus, noPlace, only, checked, Checks};
+ghost use Rattle.rules.specs.Pipeline.Check.{plus, no_place, only, checked, Checks};
 ghost use Rattle.foretell.specs.Steps.{beginning};
 
 use acts::{Judged, is_adapting, judge, step};
@@ -81,7 +81,7 @@ fn begun() -> Traced
 
 // The places that are told, if no `adapt` step ran.
 fn told_places(tuple: [Place; 4], adapts: bool) -> [Place; 4]
-    ensures { result ≡ cond (not adapts) tuple (replicate 4 noPlace) }
+    ensures { result ≡ cond (not adapts) tuple (replicate 4 no_place) }
 {
     if adapts {
         let none = place(0);

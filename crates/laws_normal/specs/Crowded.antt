@@ -7,61 +7,61 @@ use Rattle.std.proofs.Math.Bool.{false, not, and-false}
 use Rattle.std.proofs.lemmas.Bool.{false≢true}
 use native.Mathlib.Omega.{arith}
 use Rattle.rules.specs.Text.Ascii.{is}
-use Rattle.rules.specs.Text.Lists.{kept, nonEmpty}
+use Rattle.rules.specs.Text.Lists.{kept, non_empty}
 use Rattle.rules.specs.Text.Bytes.{Bytes, white, trimmed, onto, cut, words}
 use Rattle.rules.specs.Text.Normal.{normal}
 use Rattle.rules.specs.Text.Split.{steps_of}
 use Rattle.laws_text.specs.Passes.{in_word, grow, words-cons, words-nil, grow-some}
 use Rattle.laws_text.specs.Arrows.{arrow, arrows, arrows-one, arrows-none, trimmed-arrows}
 use Rattle.laws_normal.specs.Whole.{inverse, forward, word}
-use Rattle.laws_normal.specs.Machine.{State, skips, spaces, keptOf, freshly, joining, next, out, from, begin, onego}
+use Rattle.laws_normal.specs.Machine.{State, skips, spaces, kept_of, freshly, joining, next, out, from, begin, onego}
 use Rattle.laws_normal.specs.OneGo.{onego-normal}
 
 -- ---- the steps of a text, but for those in its first piece
 
 -- does a word stand before the first `|`?
-unfoldable wordFirst : Bytes → Bool
-wordFirst [] = false
-wordFirst (x ∷ t) = not (is "|" x) && (not (white x) || wordFirst t)
+unfoldable word_first : Bytes → Bool
+word_first [] = false
+word_first (x ∷ t) = not (is "|" x) && (not (white x) || word_first t)
 
 -- how many of the pieces behind a `|` have a word
 unfoldable later : Bytes → ℕ
 later [] = 0
-later (x ∷ t) = cond (is "|" x && wordFirst t) 1 0 + later t
+later (x ∷ t) = cond (is "|" x && word_first t) 1 0 + later t
 
 -- the pieces of a text: does the first have a word, and how many of the others do
 record Pieces (ps : List Bytes) (first : Bool) (others : ℕ) : Type 0 where
   piece : Bytes
   rest : List Bytes
   all : ps ≡ piece ∷ rest
-  has : nonEmpty (words piece) ≡ first
-  count : length (kept nonEmpty (map words rest)) ≡ others
+  has : non_empty (words piece) ≡ first
+  count : length (kept non_empty (map words rest)) ≡ others
 
 -- how many of all pieces have a word
-total : {ps : List Bytes} {first : Bool} {others : ℕ} → Pieces ps first others → length (kept nonEmpty (map words ps)) ≡ cond first 1 0 + others
+total : {ps : List Bytes} {first : Bool} {others : ℕ} → Pieces ps first others → length (kept non_empty (map words ps)) ≡ cond first 1 0 + others
 unfolding kept
-total {ps} {first} {others} c = rw c.all (go (nonEmpty (words c.piece)) c.has c.count)
+total {ps} {first} {others} c = rw c.all (go (non_empty (words c.piece)) c.has c.count)
   where
-    go : (b : Bool) → b ≡ first → length (kept nonEmpty (map words c.rest)) ≡ others
-        → length (cond b (words c.piece ∷ kept nonEmpty (map words c.rest)) (kept nonEmpty (map words c.rest))) ≡ cond first 1 0 + others
+    go : (b : Bool) → b ≡ first → length (kept non_empty (map words c.rest)) ≡ others
+        → length (cond b (words c.piece ∷ kept non_empty (map words c.rest)) (kept non_empty (map words c.rest))) ≡ cond first 1 0 + others
     go true e h = rw (← e) (omega (arith, h))
     go false e h = rw (← e) (omega (arith, h))
 
-has_word : (x : ℕ) (p : Bytes) → nonEmpty (words (x ∷ p)) ≡ not (white x) || nonEmpty (words p)
+has_word : (x : ℕ) (p : Bytes) → non_empty (words (x ∷ p)) ≡ not (white x) || non_empty (words p)
 has_word x p = rw (words-cons x p) (go (white x))
   where
-    go : (b : Bool) → nonEmpty (cond b (words p) (grow x (in_word p) (words p))) ≡ not b || nonEmpty (words p)
+    go : (b : Bool) → non_empty (cond b (words p) (grow x (in_word p) (words p))) ≡ not b || non_empty (words p)
     go true = refl
     go false = grow-some x (in_word p) (words p)
 
-counted : (t : Bytes) → Pieces (cut (is "|") t) (wordFirst t) (later t)
-unfolding cut wordFirst later
-counted [] = record { piece = []; rest = []; all = refl; has = unfold nonEmpty in rw words-nil; count = unfold kept in refl }
+counted : (t : Bytes) → Pieces (cut (is "|") t) (word_first t) (later t)
+unfolding cut word_first later
+counted [] = record { piece = []; rest = []; all = refl; has = unfold non_empty in rw words-nil; count = unfold kept in refl }
 counted (x ∷ t) = go (is "|" x) (counted t)
   where
-    go : (b : Bool) → Pieces (cut (is "|") t) (wordFirst t) (later t)
-        → Pieces (cond b ([] ∷ cut (is "|") t) (onto x (cut (is "|") t))) (not b && (not (white x) || wordFirst t)) (cond (b && wordFirst t) 1 0 + later t)
-    go true c = record { piece = []; rest = cut (is "|") t; all = refl; has = unfold nonEmpty in rw words-nil; count = total c }
+    go : (b : Bool) → Pieces (cut (is "|") t) (word_first t) (later t)
+        → Pieces (cond b ([] ∷ cut (is "|") t) (onto x (cut (is "|") t))) (not b && (not (white x) || word_first t)) (cond (b && word_first t) 1 0 + later t)
+    go true c = record { piece = []; rest = cut (is "|") t; all = refl; has = unfold non_empty in rw words-nil; count = total c }
     go false c = record {
       piece = x ∷ c.piece;
       rest = c.rest;
@@ -83,7 +83,7 @@ later-behind (x ∷ v) u = omega (arith, later-behind v u)
 
 -- an arrow as it is written, whatever stands in front of it, is a step more
 later-word : (x : ℕ) (v u : Bytes) → arrow x ≡ true → later u < later (v ++ (word x ++ u))
-unfolding arrow word later wordFirst white
+unfolding arrow word later word_first white
 later-word x v u e = go (eqb x 62) (eqb x 60) e (later-behind v (word x ++ u))
   where
     go : (a b : Bool) → a || b ≡ true → later (cond a inverse (cond b forward (x ∷ [])) ++ u) ≤ later (v ++ (cond a inverse (cond b forward (x ∷ [])) ++ u))
@@ -111,8 +111,8 @@ unfolding arrow out skips white joining freshly
 arrow-out mode gap x e = go (eqb x 62) refl (eqb x 60) refl e
   where
     go : (a : Bool) → eqb x 62 ≡ a → (b : Bool) → eqb x 60 ≡ b → a || b ≡ true → Ends x (out mode gap x)
-    go true f b g h = rw (eqb-true x 62 f) (either (spaces mode gap 62) 62 (keptOf mode) (joining mode 62) (joins-none (eqb mode 3) (eqb mode 4) (ltb 79 mode) _ _))
-    go false f true g h = rw (eqb-true x 60 g) (either (spaces mode gap 60) 60 (keptOf mode) (joining mode 60) (joins-none (eqb mode 3) (eqb mode 4) (ltb 79 mode) _ _))
+    go true f b g h = rw (eqb-true x 62 f) (either (spaces mode gap 62) 62 (kept_of mode) (joining mode 62) (joins-none (eqb mode 3) (eqb mode 4) (ltb 79 mode) _ _))
+    go false f true g h = rw (eqb-true x 60 g) (either (spaces mode gap 60) 60 (kept_of mode) (joining mode 60) (joins-none (eqb mode 3) (eqb mode 4) (ltb 79 mode) _ _))
     go false f false g h = absurd (false≢true h)
 
 -- so it writes a step for each arrow

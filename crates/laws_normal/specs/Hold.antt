@@ -7,15 +7,15 @@ use Rattle.std.proofs.lemmas.Bool.{false≢true}
 use mathlib.Core.List.{[], ◌∷◌, ◌++◌}
 use borrow.Author.Tests.{eqb-true}
 use Rattle.std.proofs.Math.Dec.{eqb}
-use Rattle.rules.specs.Text.Bytes.{Bytes, white, starts, replaceFrom}
+use Rattle.rules.specs.Text.Bytes.{Bytes, white, starts, replace_from}
 use Rattle.laws_normal.specs.Scans.{byte, or, lead, dropped, Held, none, one, two, digit, kept, hold}
-use Rattle.laws_normal.specs.Tidy.{white-space, dropped-not, Place, start, inside, after, squeeze, spaceDue, pastWhite, squeeze-end, squeeze-white, squeeze-byte}
+use Rattle.laws_normal.specs.Tidy.{white-space, dropped-not, Place, start, inside, after, squeeze, space_due, past_white, squeeze-end, squeeze-white, squeeze-byte}
 
 -- ---- one digit
 
 module _ (z : ℕ) (r : eqb z z ≡ true) (n : eqb z 226 ≡ false) where
   becomes : Bytes → Bytes
-  becomes t = replaceFrom zero (226 ∷ 130 ∷ z ∷ 61 ∷ []) (95 ∷ (z - 80) ∷ 61 ∷ []) t
+  becomes t = replace_from zero (226 ∷ 130 ∷ z ∷ 61 ∷ []) (95 ∷ (z - 80) ∷ 61 ∷ []) t
 
   abbrev Becomes : Bytes → Type 0
   Becomes t =
@@ -25,7 +25,7 @@ module _ (z : ℕ) (r : eqb z z ≡ true) (n : eqb z 226 ≡ false) where
       × (becomes (226 ∷ 130 ∷ z ∷ t) ≡ hold (byte z) (digit z) t)
 
   becomes-cons : (x : ℕ) (t : Bytes) → Becomes t → becomes (x ∷ t) ≡ hold (byte z) none (x ∷ t)
-  unfolding becomes replaceFrom starts hold
+  unfolding becomes replace_from starts hold
   becomes-cons x t i = go (eqb x 226) refl
     where
       go : (b : Bool) → eqb x 226 ≡ b → becomes (x ∷ t) ≡ cond b (hold (byte z) one t) (x ∷ hold (byte z) none t)
@@ -33,7 +33,7 @@ module _ (z : ℕ) (r : eqb z z ≡ true) (n : eqb z 226 ≡ false) where
       go false e = rw e (ap (λ (u : Bytes). x ∷ u) i.0)
 
   becomes-more : (x : ℕ) (t : Bytes) → Becomes t → Becomes (x ∷ t)
-  unfolding becomes replaceFrom starts hold
+  unfolding becomes replace_from starts hold
   becomes-more x t i = (first, second (eqb x 130) refl, third (eqb x z) refl, fourth (eqb x 61) refl)
     where
       first : becomes (x ∷ t) ≡ hold (byte z) none (x ∷ t)
@@ -52,11 +52,11 @@ module _ (z : ℕ) (r : eqb z z ≡ true) (n : eqb z 226 ≡ false) where
       fourth false e = rw (r, e, n) (ap (λ (u : Bytes). 226 ∷ 130 ∷ z ∷ u) first)
 
   becomes-all : (t : Bytes) → Becomes t
-  unfolding becomes replaceFrom starts hold
+  unfolding becomes replace_from starts hold
   becomes-all [] = (refl, refl, refl, rw (r, n))
   becomes-all (x ∷ t) = becomes-more x t (becomes-all t)
 
-  pub replace-digit : (t : Bytes) → replaceFrom zero (226 ∷ 130 ∷ z ∷ 61 ∷ []) (95 ∷ (z - 80) ∷ 61 ∷ []) t ≡ hold (byte z) none t
+  pub replace-digit : (t : Bytes) → replace_from zero (226 ∷ 130 ∷ z ∷ 61 ∷ []) (95 ∷ (z - 80) ∷ 61 ∷ []) t ≡ hold (byte z) none t
   unfolding becomes
   replace-digit t = (becomes-all t).0
 
@@ -67,9 +67,9 @@ pub record Fine (z : ℕ) : Type 0 where
   pub first : eqb z 226 ≡ false
   pub solid : white z ≡ false
   pub dollar : eqb z 36 ≡ false
-  pub newFirst : eqb (z - 80) 226 ≡ false
-  pub newSolid : white (z - 80) ≡ false
-  pub newDollar : eqb (z - 80) 36 ≡ false
+  pub new_first : eqb (z - 80) 226 ≡ false
+  pub new_solid : white (z - 80) ≡ false
+  pub new_dollar : eqb (z - 80) 36 ≡ false
 
 abbrev pub AllFine : (ℕ → Bool) → Type 0
 AllFine test = (z : ℕ) → test z ≡ true → Fine z
@@ -93,13 +93,13 @@ record Opens (test : ℕ → Bool) (t : Bytes) : Type 0 where
   y : ℕ
   rest : Bytes
   is : t ≡ y ∷ rest
-  notSecond : eqb y 130 ≡ false
-  notThird : test y ≡ false
-  notFourth : eqb y 61 ≡ false
+  not_second : eqb y 130 ≡ false
+  not_third : test y ≡ false
+  not_fourth : eqb y 61 ≡ false
 
 module _ (A B : ℕ → Bool) (a₁ : A 226 ≡ false) (a₂ : A 95 ≡ false) (fine : AllFine B) (apart : (z : ℕ) → B z ≡ true → A z ≡ false) where
   begins : (y : ℕ) (r : Bytes) → eqb y 130 ≡ false → A y ≡ false → eqb y 61 ≡ false → Opens A (y ∷ r)
-  begins y r e f g = record { y = y; rest = r; is = refl; notSecond = e; notThird = f; notFourth = g }
+  begins y r e f g = record { y = y; rest = r; is = refl; not_second = e; not_third = f; not_fourth = g }
 
   first-opens : (r : Bytes) → Opens A (226 ∷ r)
   first-opens r = begins 226 r refl a₁ refl
@@ -133,9 +133,9 @@ module _ (A B : ℕ → Bool) (a₁ : A 226 ≡ false) (a₂ : A 95 ≡ false) (
   flush : (h : Held) (t : Bytes) → Opens A t → hold A h t ≡ kept h ++ hold A none t
   unfolding hold kept
   flush none t o = refl
-  flush one t o = rw (o.is, o.notSecond)
-  flush two t o = rw (o.is, o.notThird)
-  flush (digit z) t o = rw (o.is, o.notFourth)
+  flush one t o = rw (o.is, o.not_second)
+  flush two t o = rw (o.is, o.not_third)
+  flush (digit z) t o = rw (o.is, o.not_fourth)
 
   flush-one : (h : Held) (t : Bytes) → hold A h (hold B one t) ≡ kept h ++ hold A none (hold B one t)
   unfolding AllOpen
@@ -193,7 +193,7 @@ module _ (A B : ℕ → Bool) (a₁ : A 226 ≡ false) (a₂ : A 95 ≡ false) (
     both-digit : (z : ℕ) → B z ≡ true → (b : Bool) → eqb x 61 ≡ b
         → hold A none (cond b (95 ∷ (z - 80) ∷ 61 ∷ hold B none t) (226 ∷ 130 ∷ z ∷ hold B none (x ∷ t)))
         ≡ cond b (95 ∷ (z - 80) ∷ 61 ∷ hold AB none t) (226 ∷ 130 ∷ z ∷ hold AB none (x ∷ t))
-    both-digit z e true f = unfold hold in rw (fine z e).newFirst (ap (λ (u : Bytes). 95 ∷ (z - 80) ∷ 61 ∷ u) i.b₀)
+    both-digit z e true f = unfold hold in rw (fine z e).new_first (ap (λ (u : Bytes). 95 ∷ (z - 80) ∷ 61 ∷ u) i.b₀)
     both-digit z e false f = digit-passed (hold B none (x ∷ t)) ∙ ap (λ (u : Bytes). 226 ∷ 130 ∷ z ∷ u) both-none
       where
         digit-passed : (u : Bytes) → hold A none (226 ∷ 130 ∷ z ∷ u) ≡ 226 ∷ 130 ∷ z ∷ hold A none u
@@ -270,7 +270,7 @@ module _ (test : ℕ → Bool) (fine : AllFine test) where
 
     dollars-digit : (b : Bool) (z : ℕ) → test z ≡ true → (c : Bool) → eqb x 61 ≡ c
         → dollars b (cond c (95 ∷ (z - 80) ∷ 61 ∷ hold test none t) (226 ∷ 130 ∷ z ∷ hold test none (x ∷ t))) ≡ hold test (digit z) (dollars false (x ∷ t))
-    dollars-digit b z n true e = rw (eqb-true x 61 e) (unfold dropped hold in rw (white-space (z - 80) (fine z n).newSolid) (ap (λ (u : Bytes). 95 ∷ (z - 80) ∷ 61 ∷ u) (i.d₀ false)))
+    dollars-digit b z n true e = rw (eqb-true x 61 e) (unfold dropped hold in rw (white-space (z - 80) (fine z n).new_solid) (ap (λ (u : Bytes). 95 ∷ (z - 80) ∷ 61 ∷ u) (i.d₀ false)))
     dollars-digit b z n false e = unfold dropped kept Ends in rw (white-space z (fine z n).solid, (fine z n).dollar) (dollars-ends (digit z) e)
 
     dollars-more : Dollars (x ∷ t)
@@ -306,8 +306,8 @@ after-parted [] = rw (squeeze-end after) over
 after-parted (x ∷ t) = go (white x) refl (after-parted t)
   where
     go : (b : Bool) → white x ≡ b → Parted (squeeze after t) → Parted (squeeze after (x ∷ t))
-    go true e i = rw (squeeze-white after x t e) (unfold pastWhite in i)
-    go false e i = rw (squeeze-byte after x t e) (unfold spaceDue lead in space _)
+    go true e i = rw (squeeze-white after x t e) (unfold past_white in i)
+    go false e i = rw (squeeze-byte after x t e) (unfold space_due lead in space _)
 
 module _ (test : ℕ → Bool) (fine : AllFine test) where
   pub no-space : (b : Bool) → test 32 ≡ b → b ≡ false
@@ -326,22 +326,22 @@ module _ (test : ℕ → Bool) (fine : AllFine test) where
 
   record Squeezes (t : Bytes) : Type 0 where
     s₀ : (p : Place) → squeeze p (hold test none t) ≡ hold test none (squeeze p t)
-    s₁ : (p : Place) → squeeze p (hold test one t) ≡ lead (spaceDue p) (hold test one (squeeze inside t))
-    s₂ : (p : Place) → squeeze p (hold test two t) ≡ lead (spaceDue p) (hold test two (squeeze inside t))
-    s₃ : (p : Place) (z : ℕ) → test z ≡ true → squeeze p (hold test (digit z) t) ≡ lead (spaceDue p) (hold test (digit z) (squeeze inside t))
+    s₁ : (p : Place) → squeeze p (hold test one t) ≡ lead (space_due p) (hold test one (squeeze inside t))
+    s₂ : (p : Place) → squeeze p (hold test two t) ≡ lead (space_due p) (hold test two (squeeze inside t))
+    s₃ : (p : Place) (z : ℕ) → test z ≡ true → squeeze p (hold test (digit z) t) ≡ lead (space_due p) (hold test (digit z) (squeeze inside t))
 
   -- bytes of a word in front
-  word-one : (p : Place) (x : ℕ) (t : Bytes) → white x ≡ false → squeeze p (x ∷ t) ≡ lead (spaceDue p) (x ∷ squeeze inside t)
+  word-one : (p : Place) (x : ℕ) (t : Bytes) → white x ≡ false → squeeze p (x ∷ t) ≡ lead (space_due p) (x ∷ squeeze inside t)
   word-one p x t e = squeeze-byte p x t e
 
   word_in : (x : ℕ) (t : Bytes) → white x ≡ false → squeeze inside (x ∷ t) ≡ x ∷ squeeze inside t
-  unfolding spaceDue lead
+  unfolding space_due lead
   word_in x t e = squeeze-byte inside x t e
 
-  word_two : (p : Place) (x y : ℕ) (t : Bytes) → white x ≡ false → white y ≡ false → squeeze p (x ∷ y ∷ t) ≡ lead (spaceDue p) (x ∷ y ∷ squeeze inside t)
+  word_two : (p : Place) (x y : ℕ) (t : Bytes) → white x ≡ false → white y ≡ false → squeeze p (x ∷ y ∷ t) ≡ lead (space_due p) (x ∷ y ∷ squeeze inside t)
   word_two p x y t e f = rw (squeeze-byte p x (y ∷ t) e, word_in y t f)
 
-  word-three : (p : Place) (x y z : ℕ) (t : Bytes) → white x ≡ false → white y ≡ false → white z ≡ false → squeeze p (x ∷ y ∷ z ∷ t) ≡ lead (spaceDue p) (x ∷ y ∷ z ∷ squeeze inside t)
+  word-three : (p : Place) (x y z : ℕ) (t : Bytes) → white x ≡ false → white y ≡ false → white z ≡ false → squeeze p (x ∷ y ∷ z ∷ t) ≡ lead (space_due p) (x ∷ y ∷ z ∷ squeeze inside t)
   word-three p x y z t e f g = rw (word_two p x y (z ∷ t) e f, word_in z t g)
 
   squeezes-end : Squeezes []
@@ -357,17 +357,17 @@ module _ (test : ℕ → Bool) (fine : AllFine test) where
     squeezes-none p = unfold hold in go (eqb x 226) refl
       where
         plain : eqb x 226 ≡ false → (w : Bool) → white x ≡ w → squeeze p (x ∷ hold test none t) ≡ hold test none (squeeze p (x ∷ t))
-        plain e true f = squeeze-white p x (hold test none t) f ∙ i.s₀ (pastWhite p) ∙ ap (hold test none) (sym (squeeze-white p x t f))
+        plain e true f = squeeze-white p x (hold test none t) f ∙ i.s₀ (past_white p) ∙ ap (hold test none) (sym (squeeze-white p x t f))
         plain e false f =
             squeeze-byte p x (hold test none t) f
             ∙ rw (i.s₀ inside)
-            (sym (ap (hold test none) (squeeze-byte p x t f) ∙ hold-lead test (spaceDue p) (x ∷ squeeze inside t) ∙ ap (lead (spaceDue p)) (unfold hold in rw e)))
+            (sym (ap (hold test none) (squeeze-byte p x t f) ∙ hold-lead test (space_due p) (x ∷ squeeze inside t) ∙ ap (lead (space_due p)) (unfold hold in rw e)))
 
         go : (b : Bool) → eqb x 226 ≡ b → squeeze p (cond b (hold test one t) (x ∷ hold test none t)) ≡ hold test none (squeeze p (x ∷ t))
         go true e =
             i.s₁ p
             ∙ rw (eqb-true x 226 e)
-            (sym (ap (hold test none) (squeeze-byte p 226 t (unfold white in refl)) ∙ hold-lead test (spaceDue p) (226 ∷ squeeze inside t) ∙ ap (lead (spaceDue p)) (unfold hold in refl)))
+            (sym (ap (hold test none) (squeeze-byte p 226 t (unfold white in refl)) ∙ hold-lead test (space_due p) (226 ∷ squeeze inside t) ∙ ap (lead (space_due p)) (unfold hold in refl)))
         go false e = plain e (white x) refl
 
     -- what is held goes first, where x ends it
@@ -375,27 +375,27 @@ module _ (test : ℕ → Bool) (fine : AllFine test) where
     squeezes-ends h e = rw (squeezes-none inside) (go (white x) refl)
       where
         go : (w : Bool) → white x ≡ w → kept h ++ hold test none (squeeze inside (x ∷ t)) ≡ hold test h (squeeze inside (x ∷ t))
-        go true f = rw (squeeze-white inside x t f) (unfold pastWhite in sym (flush-parted h (squeeze after t) (after-parted t)))
+        go true f = rw (squeeze-white inside x t f) (unfold past_white in sym (flush-parted h (squeeze after t) (after-parted t)))
         go false f = rw (word_in x t f) (sym (flush-byte test h x (squeeze inside t) e))
 
     squeezes-one : (p : Place) (c : Bool) → eqb x 130 ≡ c
-        → squeeze p (cond c (hold test two t) (226 ∷ hold test none (x ∷ t))) ≡ lead (spaceDue p) (hold test one (squeeze inside (x ∷ t)))
-    squeezes-one p true e = i.s₂ p ∙ ap (lead (spaceDue p)) (sym (rw (eqb-true x 130 e) (ap (hold test one) (word_in 130 t (unfold white in refl)) ∙ unfold hold in refl)))
-    squeezes-one p false e = word-one p 226 _ (unfold white in refl) ∙ ap (lead (spaceDue p)) (unfold kept Ends in squeezes-ends one e)
+        → squeeze p (cond c (hold test two t) (226 ∷ hold test none (x ∷ t))) ≡ lead (space_due p) (hold test one (squeeze inside (x ∷ t)))
+    squeezes-one p true e = i.s₂ p ∙ ap (lead (space_due p)) (sym (rw (eqb-true x 130 e) (ap (hold test one) (word_in 130 t (unfold white in refl)) ∙ unfold hold in refl)))
+    squeezes-one p false e = word-one p 226 _ (unfold white in refl) ∙ ap (lead (space_due p)) (unfold kept Ends in squeezes-ends one e)
 
     squeezes-two : (p : Place) (c : Bool) → test x ≡ c
-        → squeeze p (cond c (hold test (digit x) t) (226 ∷ 130 ∷ hold test none (x ∷ t))) ≡ lead (spaceDue p) (hold test two (squeeze inside (x ∷ t)))
-    squeezes-two p true e = i.s₃ p x e ∙ ap (lead (spaceDue p)) (sym (ap (hold test two) (word_in x t (fine x e).solid) ∙ unfold hold in rw e))
-    squeezes-two p false e = word_two p 226 130 _ (unfold white in refl) (unfold white in refl) ∙ ap (lead (spaceDue p)) (unfold kept Ends in squeezes-ends two e)
+        → squeeze p (cond c (hold test (digit x) t) (226 ∷ 130 ∷ hold test none (x ∷ t))) ≡ lead (space_due p) (hold test two (squeeze inside (x ∷ t)))
+    squeezes-two p true e = i.s₃ p x e ∙ ap (lead (space_due p)) (sym (ap (hold test two) (word_in x t (fine x e).solid) ∙ unfold hold in rw e))
+    squeezes-two p false e = word_two p 226 130 _ (unfold white in refl) (unfold white in refl) ∙ ap (lead (space_due p)) (unfold kept Ends in squeezes-ends two e)
 
     squeezes-digit : (p : Place) (z : ℕ) → test z ≡ true → (c : Bool) → eqb x 61 ≡ c
-        → squeeze p (cond c (95 ∷ (z - 80) ∷ 61 ∷ hold test none t) (226 ∷ 130 ∷ z ∷ hold test none (x ∷ t))) ≡ lead (spaceDue p) (hold test (digit z) (squeeze inside (x ∷ t)))
+        → squeeze p (cond c (95 ∷ (z - 80) ∷ 61 ∷ hold test none t) (226 ∷ 130 ∷ z ∷ hold test none (x ∷ t))) ≡ lead (space_due p) (hold test (digit z) (squeeze inside (x ∷ t)))
     squeezes-digit p z n true e =
-        word-three p 95 (z - 80) 61 (hold test none t) (unfold white in refl) (fine z n).newSolid (unfold white in refl)
-        ∙ ap (lead (spaceDue p))
+        word-three p 95 (z - 80) 61 (hold test none t) (unfold white in refl) (fine z n).new_solid (unfold white in refl)
+        ∙ ap (lead (space_due p))
         (rw (i.s₀ inside, eqb-true x 61 e) (sym (ap (hold test (digit z)) (word_in 61 t (unfold white in refl)) ∙ unfold hold in refl)))
     squeezes-digit p z n false e =
-        word-three p 226 130 z _ (unfold white in refl) (unfold white in refl) (fine z n).solid ∙ ap (lead (spaceDue p)) (unfold kept Ends in squeezes-ends (digit z) e)
+        word-three p 226 130 z _ (unfold white in refl) (unfold white in refl) (fine z n).solid ∙ ap (lead (space_due p)) (unfold kept Ends in squeezes-ends (digit z) e)
 
     squeezes-more : Squeezes (x ∷ t)
     unfolding hold

@@ -21,8 +21,8 @@ unfoldable pub spaces : ℕ → ℕ → ℕ → Bool
 spaces mode gap x = eqb mode 2 || (not (eqb mode 1 || bars₆ x) && not (eqb gap 0))
 
 -- what is held back
-unfoldable pub keptOf : ℕ → Bytes
-keptOf mode = cond (eqb mode 3) (226 ∷ []) (cond (eqb mode 4) (226 ∷ 130 ∷ []) (cond (ltb 79 mode) (226 ∷ 130 ∷ mode ∷ []) []))
+unfoldable pub kept_of : ℕ → Bytes
+kept_of mode = cond (eqb mode 3) (226 ∷ []) (cond (eqb mode 4) (226 ∷ 130 ∷ []) (cond (ltb 79 mode) (226 ∷ 130 ∷ mode ∷ []) []))
 
 -- a byte by itself: the mode behind it, and what is written of it
 unfoldable pub fresh : ℕ → ℕ
@@ -39,24 +39,24 @@ unfoldable pub joining : ℕ → ℕ → Bytes
 joining mode x =
     cond (eqb mode 3 && eqb x 130) []
     (cond (eqb mode 4 && digits₉ x) []
-    (cond (ltb 79 mode && eqb x 61) (95 ∷ (mode - 80) ∷ 61 ∷ []) (keptOf mode ++ freshly x)))
+    (cond (ltb 79 mode && eqb x 61) (95 ∷ (mode - 80) ∷ 61 ∷ []) (kept_of mode ++ freshly x)))
 
 -- the machine goes over a byte
-unfoldable pub nextMode : ℕ → ℕ → ℕ → ℕ
-nextMode mode gap x = cond (skips gap x || white x) mode (cond (spaces mode gap x) (fresh x) (joins mode x))
+unfoldable pub next_mode : ℕ → ℕ → ℕ → ℕ
+next_mode mode gap x = cond (skips gap x || white x) mode (cond (spaces mode gap x) (fresh x) (joins mode x))
 
-unfoldable pub nextGap : ℕ → ℕ → ℕ
-nextGap gap x = cond (skips gap x) 1 (cond (white x) (cond (eqb x 10) 2 1) 0)
+unfoldable pub next_gap : ℕ → ℕ → ℕ
+next_gap gap x = cond (skips gap x) 1 (cond (white x) (cond (eqb x 10) 2 1) 0)
 
 unfoldable pub next : State → ℕ → State
-next s x = record { mode = nextMode s.mode s.gap x; gap = nextGap s.gap x }
+next s x = record { mode = next_mode s.mode s.gap x; gap = next_gap s.gap x }
 
 unfoldable pub out : ℕ → ℕ → ℕ → Bytes
-out mode gap x = cond (skips gap x || white x) [] (cond (spaces mode gap x) (keptOf mode ++ (32 ∷ freshly x)) (joining mode x))
+out mode gap x = cond (skips gap x || white x) [] (cond (spaces mode gap x) (kept_of mode ++ (32 ∷ freshly x)) (joining mode x))
 
 -- what it writes of a text
 unfoldable pub from : State → Bytes → Bytes
-from s [] = keptOf s.mode
+from s [] = kept_of s.mode
 from s (x ∷ t) = out s.mode s.gap x ++ from (next s x) t
 
 unfoldable pub begin : State

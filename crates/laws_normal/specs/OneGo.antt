@@ -7,13 +7,13 @@ use Rattle.std.proofs.lemmas.Bool.{false≢true}
 use Rattle.std.proofs.Math.Dec.{eqb}
 use Rattle.rules.specs.Text.Ascii.{ascii, is}
 use Rattle.rules.specs.Text.Lists.{all_of}
-use Rattle.rules.specs.Text.Bytes.{Bytes, white, same, trimStart, trimEnd, trimmed}
+use Rattle.rules.specs.Text.Bytes.{Bytes, white, same, trim_start, trim_end, trimmed}
 use Rattle.rules.specs.Text.Normal.{normal}
 use Rattle.laws_lists.specs.Tests.{and_right}
 use Rattle.laws_normal.specs.Scans.{byte, lead, dropped, Held, none, one, two, digit, kept, hold}
 use Rattle.laws_normal.specs.Hold.{Ends, flush-byte}
 use Rattle.laws_normal.specs.Whole.{shut₇, bars₆, due, inverse, forward, word, spoken, digits₉, normal-scans}
-use Rattle.laws_normal.specs.Machine.{State, skips, spaces, keptOf, fresh, freshly, joins, joining, nextMode, nextGap, next, out, from, begin, onego}
+use Rattle.laws_normal.specs.Machine.{State, skips, spaces, kept_of, fresh, freshly, joins, joining, next_mode, next_gap, next, out, from, begin, onego}
 
 -- ---- the ten digits, one by one
 
@@ -30,8 +30,8 @@ digits-each Q q₀ q₁ q₂ q₃ q₄ q₅ q₆ q₇ q₈ q₉ z =
 
 pub record High (z : ℕ) : Type 0 where
   pub itself : word z ≡ z ∷ []
-  pub notDue : due z ≡ false
-  pub notShut : shut₇ z ≡ false
+  pub not_due : due z ≡ false
+  pub not_shut : shut₇ z ≡ false
   pub not₁ : eqb z 1 ≡ false
   pub not₂ : eqb z 2 ≡ false
   pub not₃ : eqb z 3 ≡ false
@@ -40,43 +40,43 @@ pub record High (z : ℕ) : Type 0 where
 
 high₀ : High 128
 unfolding word due
-high₀ = record { itself = refl; notDue = refl; notShut = refl; not₁ = refl; not₂ = refl; not₃ = refl; not₄ = refl; high = refl }
+high₀ = record { itself = refl; not_due = refl; not_shut = refl; not₁ = refl; not₂ = refl; not₃ = refl; not₄ = refl; high = refl }
 
 high₁ : High 129
 unfolding word due
-high₁ = record { itself = refl; notDue = refl; notShut = refl; not₁ = refl; not₂ = refl; not₃ = refl; not₄ = refl; high = refl }
+high₁ = record { itself = refl; not_due = refl; not_shut = refl; not₁ = refl; not₂ = refl; not₃ = refl; not₄ = refl; high = refl }
 
 high₂ : High 130
 unfolding word due
-high₂ = record { itself = refl; notDue = refl; notShut = refl; not₁ = refl; not₂ = refl; not₃ = refl; not₄ = refl; high = refl }
+high₂ = record { itself = refl; not_due = refl; not_shut = refl; not₁ = refl; not₂ = refl; not₃ = refl; not₄ = refl; high = refl }
 
 high₃ : High 131
 unfolding word due
-high₃ = record { itself = refl; notDue = refl; notShut = refl; not₁ = refl; not₂ = refl; not₃ = refl; not₄ = refl; high = refl }
+high₃ = record { itself = refl; not_due = refl; not_shut = refl; not₁ = refl; not₂ = refl; not₃ = refl; not₄ = refl; high = refl }
 
 high₄ : High 132
 unfolding word due
-high₄ = record { itself = refl; notDue = refl; notShut = refl; not₁ = refl; not₂ = refl; not₃ = refl; not₄ = refl; high = refl }
+high₄ = record { itself = refl; not_due = refl; not_shut = refl; not₁ = refl; not₂ = refl; not₃ = refl; not₄ = refl; high = refl }
 
 high₅ : High 133
 unfolding word due
-high₅ = record { itself = refl; notDue = refl; notShut = refl; not₁ = refl; not₂ = refl; not₃ = refl; not₄ = refl; high = refl }
+high₅ = record { itself = refl; not_due = refl; not_shut = refl; not₁ = refl; not₂ = refl; not₃ = refl; not₄ = refl; high = refl }
 
 high₆ : High 134
 unfolding word due
-high₆ = record { itself = refl; notDue = refl; notShut = refl; not₁ = refl; not₂ = refl; not₃ = refl; not₄ = refl; high = refl }
+high₆ = record { itself = refl; not_due = refl; not_shut = refl; not₁ = refl; not₂ = refl; not₃ = refl; not₄ = refl; high = refl }
 
 high₇ : High 135
 unfolding word due
-high₇ = record { itself = refl; notDue = refl; notShut = refl; not₁ = refl; not₂ = refl; not₃ = refl; not₄ = refl; high = refl }
+high₇ = record { itself = refl; not_due = refl; not_shut = refl; not₁ = refl; not₂ = refl; not₃ = refl; not₄ = refl; high = refl }
 
 high₈ : High 136
 unfolding word due
-high₈ = record { itself = refl; notDue = refl; notShut = refl; not₁ = refl; not₂ = refl; not₃ = refl; not₄ = refl; high = refl }
+high₈ = record { itself = refl; not_due = refl; not_shut = refl; not₁ = refl; not₂ = refl; not₃ = refl; not₄ = refl; high = refl }
 
 high₉ : High 137
 unfolding word due
-high₉ = record { itself = refl; notDue = refl; notShut = refl; not₁ = refl; not₂ = refl; not₃ = refl; not₄ = refl; high = refl }
+high₉ = record { itself = refl; not_due = refl; not_shut = refl; not₁ = refl; not₂ = refl; not₃ = refl; not₄ = refl; high = refl }
 
 pub highs : (z : ℕ) → digits₉ z ≡ true → High z
 highs = digits-each High high₀ high₁ high₂ high₃ high₄ high₅ high₆ high₇ high₈ high₉
@@ -91,8 +91,8 @@ data Means : ℕ → Held → ℕ → Type 0 where
   second : {last : ℕ} → due last ≡ false → shut₇ last ≡ false → Means 4 two last
   whole : {z last : ℕ} → digits₉ z ≡ true → due last ≡ false → shut₇ last ≡ false → Means z (digit z) last
 
-means-kept : {m : ℕ} {h : Held} {last : ℕ} → Means m h last → keptOf m ≡ kept h
-unfolding keptOf kept
+means-kept : {m : ℕ} {h : Held} {last : ℕ} → Means m h last → kept_of m ≡ kept h
+unfolding kept_of kept
 means-kept (plain d s) = refl
 means-kept (closed d s) = refl
 means-kept (owed d) = refl
@@ -111,21 +111,21 @@ means-spaces (whole {z = z} e d s) c g = let k = highs z e in rw (k.not₁, k.no
 
 -- ---- a byte by itself
 
-freshHeld : Bool → Held
-freshHeld true = one
-freshHeld false = none
+fresh_held : Bool → Held
+fresh_held true = one
+fresh_held false = none
 
-fresh-means : (x : ℕ) → Means (fresh x) (freshHeld (eqb x 226)) x
-unfolding fresh freshHeld
+fresh-means : (x : ℕ) → Means (fresh x) (fresh_held (eqb x 226)) x
+unfolding fresh fresh_held
 fresh-means x = go (eqb x 226) refl (due x) refl (shut₇ x) refl
   where
-    go : (a : Bool) → eqb x 226 ≡ a → (b : Bool) → due x ≡ b → (c : Bool) → shut₇ x ≡ c → Means (cond a 3 (cond b 2 (cond c 1 0))) (freshHeld a) x
+    go : (a : Bool) → eqb x 226 ≡ a → (b : Bool) → due x ≡ b → (c : Bool) → shut₇ x ≡ c → Means (cond a 3 (cond b 2 (cond c 1 0))) (fresh_held a) x
     go true e b f c g = rw (eqb-true x 226 e) (unfold due in first refl refl)
     go false e true f c g = owed f
     go false e false f true g = closed f g
     go false e false f false g = plain f g
 
-fresh_holds : (x : ℕ) (r : Bytes) → hold digits₉ none (word x ++ r) ≡ freshly x ++ hold digits₉ (freshHeld (eqb x 226)) r
+fresh_holds : (x : ℕ) (r : Bytes) → hold digits₉ none (word x ++ r) ≡ freshly x ++ hold digits₉ (fresh_held (eqb x 226)) r
 unfolding freshly
 fresh_holds x r = go (eqb x 226) refl
   where
@@ -134,9 +134,9 @@ fresh_holds x r = go (eqb x 226) refl
     go' e false true = unfold hold in refl
     go' e false false = unfold hold in rw e
 
-    go : (a : Bool) → eqb x 226 ≡ a → hold digits₉ none (word x ++ r) ≡ cond a [] (word x) ++ hold digits₉ (freshHeld a) r
-    go true e = rw (eqb-true x 226 e) (unfold word hold freshHeld in refl)
-    go false e = unfold word freshHeld in go' e (eqb x 62) (eqb x 60)
+    go : (a : Bool) → eqb x 226 ≡ a → hold digits₉ none (word x ++ r) ≡ cond a [] (word x) ++ hold digits₉ (fresh_held a) r
+    go true e = rw (eqb-true x 226 e) (unfold word hold fresh_held in refl)
+    go false e = unfold word fresh_held in go' e (eqb x 62) (eqb x 60)
 
 -- ---- a byte that ends what is held
 
@@ -163,8 +163,8 @@ word-ends h x r e = go (eqb x 62) (eqb x 60)
     go false true = flush-byte digits₉ h 124 _ (bar-ends h)
     go false false = flush-byte digits₉ h x r e
 
-word-fresh : (h : Held) (x : ℕ) (r : Bytes) → Ends digits₉ h x → hold digits₉ h (word x ++ r) ≡ (kept h ++ freshly x) ++ hold digits₉ (freshHeld (eqb x 226)) r
-word-fresh h x r e = word-ends h x r e ∙ ap (λ (u : Bytes). kept h ++ u) (fresh_holds x r) ∙ sym (append_assoc (kept h) (freshly x) (hold digits₉ (freshHeld (eqb x 226)) r))
+word-fresh : (h : Held) (x : ℕ) (r : Bytes) → Ends digits₉ h x → hold digits₉ h (word x ++ r) ≡ (kept h ++ freshly x) ++ hold digits₉ (fresh_held (eqb x 226)) r
+word-fresh h x r e = word-ends h x r e ∙ ap (λ (u : Bytes). kept h ++ u) (fresh_holds x r) ∙ sym (append_assoc (kept h) (freshly x) (hold digits₉ (fresh_held (eqb x 226)) r))
 
 -- ---- a byte right behind the one before
 
@@ -176,24 +176,24 @@ record Joins (m : ℕ) (h : Held) (x : ℕ) : Type 0 where
 module _ (m : ℕ) (h : Held) (x : ℕ) where
   joins-fresh : Ends digits₉ h x → joins m x ≡ fresh x → joining m x ≡ kept h ++ freshly x → Joins m h x
   joins-fresh e f g = record {
-    behind = freshHeld (eqb x 226);
+    behind = fresh_held (eqb x 226);
     means = rw f (fresh-means x);
-    holds = λ r. word-fresh h x r e ∙ ap (λ (u : Bytes). u ++ hold digits₉ (freshHeld (eqb x 226)) r) (sym g);
+    holds = λ r. word-fresh h x r e ∙ ap (λ (u : Bytes). u ++ hold digits₉ (fresh_held (eqb x 226)) r) (sym g);
   }
 
 joins-one : (x : ℕ) (b : Bool) → eqb x 130 ≡ b → Joins 3 one x
 joins-one x true e = rw (eqb-true x 130 e) (record { behind = two; means = unfold joins due in second {last = 130} refl refl; holds = λ r. unfold word joining hold in refl })
-joins-one x false e = joins-fresh 3 one x (unfold Ends in e) (unfold joins in rw e) (unfold joining keptOf kept in rw e)
+joins-one x false e = joins-fresh 3 one x (unfold Ends in e) (unfold joins in rw e) (unfold joining kept_of kept in rw e)
 
 joins-two : (x : ℕ) (b : Bool) → digits₉ x ≡ b → Joins 4 two x
 joins-two x true e =
     let k = highs x e in
     record {
       behind = digit x;
-      means = unfold joins in rw e (whole e k.notDue k.notShut);
+      means = unfold joins in rw e (whole e k.not_due k.not_shut);
       holds = λ r. rw k.itself (unfold joining hold in rw e);
     }
-joins-two x false e = joins-fresh 4 two x (unfold Ends in e) (unfold joins in rw e) (unfold joining keptOf kept in rw e)
+joins-two x false e = joins-fresh 4 two x (unfold Ends in e) (unfold joins in rw e) (unfold joining kept_of kept in rw e)
 
 joins-digit : (z x : ℕ) → digits₉ z ≡ true → (b : Bool) → eqb x 61 ≡ b → Joins z (digit z) x
 joins-digit z x d true e =
@@ -206,12 +206,12 @@ joins-digit z x d true e =
     })
 joins-digit z x d false e =
     let k = highs z d in
-    joins-fresh z (digit z) x (unfold Ends in e) (unfold joins in rw (k.not₃, k.not₄)) (unfold joining keptOf kept in rw (k.not₃, k.not₄, k.high, e))
+    joins-fresh z (digit z) x (unfold Ends in e) (unfold joins in rw (k.not₃, k.not₄)) (unfold joining kept_of kept in rw (k.not₃, k.not₄, k.high, e))
 
 means-joins : {m : ℕ} {h : Held} {last : ℕ} → Means m h last → (x : ℕ) → Joins m h x
-means-joins (plain d s) x = joins-fresh 0 none x (unfold Ends in tt) (unfold joins in refl) (unfold joining keptOf kept in refl)
-means-joins (closed d s) x = joins-fresh 1 none x (unfold Ends in tt) (unfold joins in refl) (unfold joining keptOf kept in refl)
-means-joins (owed d) x = joins-fresh 2 none x (unfold Ends in tt) (unfold joins in refl) (unfold joining keptOf kept in refl)
+means-joins (plain d s) x = joins-fresh 0 none x (unfold Ends in tt) (unfold joins in refl) (unfold joining kept_of kept in refl)
+means-joins (closed d s) x = joins-fresh 1 none x (unfold Ends in tt) (unfold joins in refl) (unfold joining kept_of kept in refl)
+means-joins (owed d) x = joins-fresh 2 none x (unfold Ends in tt) (unfold joins in refl) (unfold joining kept_of kept in refl)
 means-joins (first d s) x = joins-one x (eqb x 130) refl
 means-joins (second d s) x = joins-two x (digits₉ x) refl
 means-joins (whole {z = z} g d s) x = joins-digit z x g (eqb x 61) refl
@@ -221,20 +221,20 @@ means-joins (whole {z = z} g d s) x = joins-digit z x g (eqb x 61) refl
 record Steps (m : ℕ) (h : Held) (b : Bool) (x : ℕ) : Type 0 where
   behind : Held
   means : Means (cond b (fresh x) (joins m x)) behind x
-  holds : (r : Bytes) → hold digits₉ h (lead b (word x ++ r)) ≡ cond b (keptOf m ++ (32 ∷ freshly x)) (joining m x) ++ hold digits₉ behind r
+  holds : (r : Bytes) → hold digits₉ h (lead b (word x ++ r)) ≡ cond b (kept_of m ++ (32 ∷ freshly x)) (joining m x) ++ hold digits₉ behind r
 
 steps : {m : ℕ} {h : Held} {last : ℕ} → Means m h last → (x : ℕ) (b : Bool) → Steps m h b x
 steps {m} {h} k x true = record {
-  behind = freshHeld (eqb x 226);
+  behind = fresh_held (eqb x 226);
   means = fresh-means x;
   holds = λ r.
       unfold lead in
       flush-byte digits₉ h 32 (word x ++ r) (space-ends h)
       ∙ ap (λ (u : Bytes). kept h ++ u) (spaced r)
-      ∙ rw (means-kept k) (sym (append_assoc (kept h) (32 ∷ freshly x) (hold digits₉ (freshHeld (eqb x 226)) r)));
+      ∙ rw (means-kept k) (sym (append_assoc (kept h) (32 ∷ freshly x) (hold digits₉ (fresh_held (eqb x 226)) r)));
 }
   where
-    spaced : (r : Bytes) → hold digits₉ none (32 ∷ (word x ++ r)) ≡ 32 ∷ (freshly x ++ hold digits₉ (freshHeld (eqb x 226)) r)
+    spaced : (r : Bytes) → hold digits₉ none (32 ∷ (word x ++ r)) ≡ 32 ∷ (freshly x ++ hold digits₉ (fresh_held (eqb x 226)) r)
     spaced r = unfold hold in ap (λ (u : Bytes). 32 ∷ u) (fresh_holds x r)
 steps {m} {h} k x false = let j = means-joins k x in record { behind = j.behind; means = j.means; holds = λ r. unfold lead in j.holds r }
 
@@ -286,7 +286,7 @@ abbrev Writes : Bytes → Type 0
 Writes t = (m gap : ℕ) (h : Held) (last : ℕ) (g nl : Bool) → Means m h last → Gap gap g nl → from (record { mode = m; gap = gap }) t ≡ written h last g nl t
 
 writes_more : (x : ℕ) (t : Bytes) → Writes t → Writes (x ∷ t)
-writes_more x t i m gap h last g nl k l = unfold from next out nextMode nextGap skips spaces in rw (gap-skips l, gap-some l) (go (eqb x 58 && nl) refl (white x) refl)
+writes_more x t i m gap h last g nl k l = unfold from next out next_mode next_gap skips spaces in rw (gap-skips l, gap-some l) (go (eqb x 58 && nl) refl (white x) refl)
   where
     b : Bool
     b = eqb m 2 || (not (eqb m 1 || bars₆ x) && g)
@@ -301,14 +301,14 @@ writes_more x t i m gap h last g nl k l = unfold from next out nextMode nextGap 
     spelled e f = rw (passes e, not_line x f) (unfold spoken in rw (f, ← means-spaces k (bars₆ x) g))
 
     go : (a : Bool) → eqb x 58 && nl ≡ a → (w : Bool) → white x ≡ w
-        → cond (a || w) [] (cond b (keptOf m ++ (32 ∷ freshly x)) (joining m x)) ++ from (state a w) t ≡ written h last g nl (x ∷ t)
+        → cond (a || w) [] (cond b (kept_of m ++ (32 ∷ freshly x)) (joining m x)) ++ from (state a w) t ≡ written h last g nl (x ∷ t)
     go true e w f = i m 1 h last g false k (gap-past l (and_right (eqb x 58) nl e)) ∙ ap (λ (u : Bytes). hold digits₉ h (spoken last g u)) (unfold dropped in rw e)
     go false e true f =
         i m (cond (eqb x 10) 2 1) h last true (eqb x 10) k (white-gap (eqb x 10))
         ∙ ap (hold digits₉ h) (rw (passes e) (unfold spoken in rw f))
     go false e false f =
         let s = steps k x b in
-        ap (λ (u : Bytes). cond b (keptOf m ++ (32 ∷ freshly x)) (joining m x) ++ u) (i (cond b (fresh x) (joins m x)) 0 s.behind x false false s.means no_gap)
+        ap (λ (u : Bytes). cond b (kept_of m ++ (32 ∷ freshly x)) (joining m x) ++ u) (i (cond b (fresh x) (joins m x)) 0 s.behind x false false s.means no_gap)
         ∙ sym (s.holds (spoken x false (dropped (byte 10) 58 false t)))
         ∙ ap (hold digits₉ h) (sym (spelled e f))
 
@@ -350,5 +350,5 @@ right [] = true
 right (e ∷ es) = same (onego e.0) e.1 && right es
 
 examples-right : right examples ≡ true
-unfolding right examples onego begin from out next nextMode nextGap skips spaces keptOf fresh freshly joins joining due word white trimmed trimStart trimEnd all_of ascii same
+unfolding right examples onego begin from out next next_mode next_gap skips spaces kept_of fresh freshly joins joining due word white trimmed trim_start trim_end all_of ascii same
 examples-right = refl

@@ -6,7 +6,7 @@ use Rattle.std.proofs.Math.Bool.{true, false}
 use mathlib.Core.List.{[], ◌∷◌, ◌++◌}
 use Rattle.rules.specs.Text.Ascii.{is}
 use Rattle.rules.specs.Text.Lists.{any_of, all_of}
-use Rattle.rules.specs.Text.Bytes.{Bytes, white, trimStart, trimEnd, trimmed}
+use Rattle.rules.specs.Text.Bytes.{Bytes, white, trim_start, trim_end, trimmed}
 use Rattle.rules.specs.Text.Normal.{normal}
 use Rattle.laws_lists.specs.Tests.{or_left, or_right, and_left, and_right}
 use Rattle.laws_text.specs.Arrows.{arrow, arrows, arrows-none}
@@ -34,27 +34,27 @@ module _ (f test : ℕ → Bool) (apart : (x : ℕ) → test x ≡ true → f x 
   none-there [] e = refl
   none-there (x ∷ t) e = rw (apart x (and_left (test x) (all_of test t) e)) (none-there t (and_right (test x) (all_of test t) e))
 
-  start-any : (t : Bytes) → any_of f (trimStart test t) ≡ any_of f t
-  unfolding trimStart any_of
+  start-any : (t : Bytes) → any_of f (trim_start test t) ≡ any_of f t
+  unfolding trim_start any_of
   start-any [] = refl
   start-any (x ∷ t) = go (test x) refl (start-any t)
     where
-      go : (b : Bool) → test x ≡ b → any_of f (trimStart test t) ≡ any_of f t → any_of f (cond b (trimStart test t) (x ∷ t)) ≡ f x || any_of f t
+      go : (b : Bool) → test x ≡ b → any_of f (trim_start test t) ≡ any_of f t → any_of f (cond b (trim_start test t) (x ∷ t)) ≡ f x || any_of f t
       go true e h = rw (apart x e) h
       go false e h = refl
 
-  end-any : (t : Bytes) → any_of f (trimEnd test t) ≡ any_of f t
-  unfolding trimEnd any_of
+  end-any : (t : Bytes) → any_of f (trim_end test t) ≡ any_of f t
+  unfolding trim_end any_of
   end-any [] = refl
   end-any (x ∷ t) = go (all_of test (x ∷ t)) refl (end-any t)
     where
-      go : (b : Bool) → all_of test (x ∷ t) ≡ b → any_of f (trimEnd test t) ≡ any_of f t → any_of f (cond b [] (x ∷ trimEnd test t)) ≡ any_of f (x ∷ t)
+      go : (b : Bool) → all_of test (x ∷ t) ≡ b → any_of f (trim_end test t) ≡ any_of f t → any_of f (cond b [] (x ∷ trim_end test t)) ≡ any_of f (x ∷ t)
       go true e h = sym (none-there (x ∷ t) e)
       go false e h = ap (λ (b : Bool). f x || b) h
 
   trimmed-any : (t : Bytes) → any_of f (trimmed test t) ≡ any_of f t
   unfolding trimmed
-  trimmed-any t = end-any (trimStart test t) ∙ start-any t
+  trimmed-any t = end-any (trim_start test t) ∙ start-any t
 
 -- a byte that passes a test, which no separator does
 apart_from : (test : ℕ → Bool) → test 124 ≡ false → test 62 ≡ false → test 60 ≡ false → (x : ℕ) → test x ≡ true → separator x ≡ false

@@ -6,8 +6,8 @@ use Prim.Native.Nat.{ℕ, zero, ◌-◌}
 use Rattle.std.proofs.Math.Bool.{true, false, cond}
 use Rattle.std.proofs.lemmas.Bool.{false≢true}
 use mathlib.Core.List.{[], ◌∷◌, ◌++◌, append_assoc}
-use Rattle.rules.specs.Text.Lists.{kept, nonEmpty}
-use Rattle.rules.specs.Text.Bytes.{Bytes, Words, white, starts, replaceFrom, cut, words, afterEach, joinedBy, joined}
+use Rattle.rules.specs.Text.Lists.{kept, non_empty}
+use Rattle.rules.specs.Text.Bytes.{Bytes, Words, white, starts, replace_from, cut, words, after_each, joined_by, joined}
 use Rattle.laws_text.specs.Passes.{in_word, grow, words-cons}
 use Rattle.laws_normal.specs.Scans.{byte, never, or, lead, dropped, held, tidy, alone}
 
@@ -32,8 +32,8 @@ dropped-not test q x t = go (eqb x q)
     go false = refl
 
 -- p q becomes p
-pub replace-first : (p q : ℕ) (t : Bytes) → replaceFrom zero (p ∷ q ∷ []) (p ∷ []) t ≡ dropped (byte p) q false t
-unfolding replaceFrom starts dropped
+pub replace-first : (p q : ℕ) (t : Bytes) → replace_from zero (p ∷ q ∷ []) (p ∷ []) t ≡ dropped (byte p) q false t
+unfolding replace_from starts dropped
 replace-first p q [] = refl
 replace-first p q (x ∷ []) = go (eqb x p) ∙ sym (dropped-not (byte p) q x [])
   where
@@ -44,9 +44,9 @@ replace-first p q (x ∷ y ∷ t) =
     go (eqb x p) refl (eqb y q) refl (replace-first p q t) (replace-first p q (y ∷ t) ∙ dropped-not (byte p) q y t) ∙ sym (dropped-not (byte p) q x (y ∷ t))
   where
     go : (b : Bool) → eqb x p ≡ b → (c : Bool) → eqb y q ≡ c
-        → replaceFrom zero (p ∷ q ∷ []) (p ∷ []) t ≡ dropped (byte p) q false t
-        → replaceFrom zero (p ∷ q ∷ []) (p ∷ []) (y ∷ t) ≡ y ∷ dropped (byte p) q (eqb y p) t
-        → cond (b && (c && true)) (p ∷ replaceFrom zero (p ∷ q ∷ []) (p ∷ []) t) (x ∷ replaceFrom zero (p ∷ q ∷ []) (p ∷ []) (y ∷ t))
+        → replace_from zero (p ∷ q ∷ []) (p ∷ []) t ≡ dropped (byte p) q false t
+        → replace_from zero (p ∷ q ∷ []) (p ∷ []) (y ∷ t) ≡ y ∷ dropped (byte p) q (eqb y p) t
+        → cond (b && (c && true)) (p ∷ replace_from zero (p ∷ q ∷ []) (p ∷ []) t) (x ∷ replace_from zero (p ∷ q ∷ []) (p ∷ []) (y ∷ t))
         ≡ x ∷ cond (c && b) (dropped (byte p) q false t) (y ∷ dropped (byte p) q (eqb y p) t)
     go true e true f i j = rw (i, eqb-true x p e)
     go true e false f i j = ap (λ (u : Bytes). x ∷ u) j
@@ -55,8 +55,8 @@ replace-first p q (x ∷ y ∷ t) =
 
 -- a space and s become s
 pub replace-second : (s : ℕ) → eqb s 32 ≡ false → (t : Bytes)
-    → (replaceFrom zero (32 ∷ s ∷ []) (s ∷ []) t ≡ held (byte s) false t) × (replaceFrom zero (32 ∷ s ∷ []) (s ∷ []) (32 ∷ t) ≡ held (byte s) true t)
-unfolding replaceFrom starts held lead
+    → (replace_from zero (32 ∷ s ∷ []) (s ∷ []) t ≡ held (byte s) false t) × (replace_from zero (32 ∷ s ∷ []) (s ∷ []) (32 ∷ t) ≡ held (byte s) true t)
+unfolding replace_from starts held lead
 replace-second s n [] = (refl, refl)
 replace-second s n (x ∷ t) = go (eqb x 32) refl (eqb x s) refl (replace-second s n t)
   where
@@ -67,9 +67,9 @@ replace-second s n (x ∷ t) = go (eqb x 32) refl (eqb x s) refl (replace-second
     clash e f = let p = eqb-true x 32 e in let q = eqb-true x s f in false≢true (sym (rw (sym q ∙ p) at n))
 
     go : (b : Bool) → eqb x 32 ≡ b → (c : Bool) → eqb x s ≡ c
-        → (replaceFrom zero old (s ∷ []) t ≡ held (byte s) false t) × (replaceFrom zero old (s ∷ []) (32 ∷ t) ≡ held (byte s) true t)
-        → (replaceFrom zero old (s ∷ []) (x ∷ t) ≡ cond b (held (byte s) true t) (x ∷ held (byte s) false t))
-        × (cond (c && true) (s ∷ replaceFrom zero old (s ∷ []) t) (32 ∷ replaceFrom zero old (s ∷ []) (x ∷ t))
+        → (replace_from zero old (s ∷ []) t ≡ held (byte s) false t) × (replace_from zero old (s ∷ []) (32 ∷ t) ≡ held (byte s) true t)
+        → (replace_from zero old (s ∷ []) (x ∷ t) ≡ cond b (held (byte s) true t) (x ∷ held (byte s) false t))
+        × (cond (c && true) (s ∷ replace_from zero old (s ∷ []) t) (32 ∷ replace_from zero old (s ∷ []) (x ∷ t))
         ≡ cond b (32 ∷ held (byte s) true t) (lead (true && not c) (x ∷ held (byte s) false t)))
     go true e true f i = absurd (clash e f)
     go true e false f i = (rw (eqb-true x 32 e) i.1, rw (eqb-true x 32 e) (ap (λ (u : Bytes). 32 ∷ u) i.1))
@@ -80,14 +80,14 @@ replace-second s n (x ∷ t) = go (eqb x 32) refl (eqb x s) refl (replace-second
 
 -- each word after a space
 abbrev spaced : Words → Bytes
-spaced ws = afterEach (32 ∷ []) ws
+spaced ws = after_each (32 ∷ []) ws
 
 -- what follows within a word
 within : Bytes → Bytes
 within t = cond (in_word t) (joined (words t)) (spaced (words t))
 
 grow-grow : (x y : ℕ) (b : Bool) (ws : Words) → joined (grow x true (grow y b ws)) ≡ x ∷ joined (grow y b ws)
-unfolding joined joinedBy grow
+unfolding joined joined_by grow
 grow-grow x y true [] = refl
 grow-grow x y true (w ∷ ws) = refl
 grow-grow x y false ws = refl
@@ -96,17 +96,17 @@ grow-grow x y false ws = refl
 grow-before : (x y : ℕ) (white? b : Bool) (ws : Words)
     → let vs = cond white? ws (grow y b ws) in
     joined (grow x (not white?) vs) ≡ x ∷ cond (not white?) (joined vs) (spaced vs)
-unfolding joined joinedBy grow
+unfolding joined joined_by grow
 grow-before x y true b ws = refl
 grow-before x y false b ws = grow-grow x y b ws
 
 joined-grow : (x : ℕ) (t : Bytes) → joined (grow x (in_word t) (words t)) ≡ x ∷ within t
 unfolding in_word within
-joined-grow x [] = unfold joined joinedBy afterEach grow words kept nonEmpty cut in refl
+joined-grow x [] = unfold joined joined_by after_each grow words kept non_empty cut in refl
 joined-grow x (y ∷ t) = rw (words-cons y t) (grow-before x y (white y) (in_word t) (words t))
 
 spaced-grow : (x : ℕ) (b : Bool) (ws : Words) → spaced (grow x b ws) ≡ 32 ∷ joined (grow x b ws)
-unfolding afterEach grow joined joinedBy
+unfolding after_each grow joined joined_by
 spaced-grow x true [] = refl
 spaced-grow x true (w ∷ ws) = refl
 spaced-grow x false ws = refl
@@ -125,15 +125,15 @@ joined_is x t true e = rw (words-cons x t, e)
 joined_is x t false e = rw (words-cons x t, e) (joined-grow x t)
 
 within_end : within [] ≡ []
-unfolding within in_word words kept nonEmpty cut joined joinedBy afterEach
+unfolding within in_word words kept non_empty cut joined joined_by after_each
 within_end = refl
 
 joined_end : joined (words []) ≡ []
-unfolding words kept nonEmpty cut joined joinedBy
+unfolding words kept non_empty cut joined joined_by
 joined_end = refl
 
 spaced-end : spaced (words []) ≡ []
-unfolding words kept nonEmpty cut afterEach
+unfolding words kept non_empty cut after_each
 spaced-end = refl
 
 abbrev plainly : ℕ → Bool → Bytes → Bytes
@@ -149,15 +149,15 @@ squeeze start t = joined (words t)
 squeeze inside t = cond (in_word t) (joined (words t)) (spaced (words t))
 squeeze after t = spaced (words t)
 
-unfoldable pub spaceDue : Place → Bool
-spaceDue start = false
-spaceDue inside = false
-spaceDue after = true
+unfoldable pub space_due : Place → Bool
+space_due start = false
+space_due inside = false
+space_due after = true
 
-unfoldable pub pastWhite : Place → Place
-pastWhite start = start
-pastWhite inside = after
-pastWhite after = after
+unfoldable pub past_white : Place → Place
+past_white start = start
+past_white inside = after
+past_white after = after
 
 pub squeeze-end : (p : Place) → squeeze p [] ≡ []
 unfolding squeeze within
@@ -165,14 +165,14 @@ squeeze-end start = joined_end
 squeeze-end inside = within_end
 squeeze-end after = spaced-end
 
-pub squeeze-white : (p : Place) (x : ℕ) (t : Bytes) → white x ≡ true → squeeze p (x ∷ t) ≡ squeeze (pastWhite p) t
-unfolding squeeze within pastWhite
+pub squeeze-white : (p : Place) (x : ℕ) (t : Bytes) → white x ≡ true → squeeze p (x ∷ t) ≡ squeeze (past_white p) t
+unfolding squeeze within past_white
 squeeze-white start x t e = joined_is x t true e
 squeeze-white inside x t e = within-is x t true e
 squeeze-white after x t e = spaced-is x t true e
 
-pub squeeze-byte : (p : Place) (x : ℕ) (t : Bytes) → white x ≡ false → squeeze p (x ∷ t) ≡ lead (spaceDue p) (x ∷ squeeze inside t)
-unfolding squeeze within spaceDue lead
+pub squeeze-byte : (p : Place) (x : ℕ) (t : Bytes) → white x ≡ false → squeeze p (x ∷ t) ≡ lead (space_due p) (x ∷ squeeze inside t)
+unfolding squeeze within space_due lead
 squeeze-byte start x t e = joined_is x t false e
 squeeze-byte inside x t e = within-is x t false e
 squeeze-byte after x t e = spaced-is x t false e
@@ -273,32 +273,32 @@ module _ (test shut bars : ℕ → Bool) where
 
 module _ (c : ℕ) (new : Bytes) where
   spread : Bytes → Bytes
-  spread t = replaceFrom zero (c ∷ []) new t
+  spread t = replace_from zero (c ∷ []) new t
 
   spread-append : (a b : Bytes) → spread (a ++ b) ≡ spread a ++ spread b
-  unfolding spread replaceFrom starts
+  unfolding spread replace_from starts
   spread-append [] b = refl
   spread-append (x ∷ a) b = go (eqb x c) (spread-append a b)
     where
-      go : (e : Bool) → replaceFrom zero (c ∷ []) new (a ++ b) ≡ replaceFrom zero (c ∷ []) new a ++ replaceFrom zero (c ∷ []) new b
-          → cond (e && true) (new ++ replaceFrom zero (c ∷ []) new (a ++ b)) (x ∷ replaceFrom zero (c ∷ []) new (a ++ b))
-          ≡ cond (e && true) (new ++ replaceFrom zero (c ∷ []) new a) (x ∷ replaceFrom zero (c ∷ []) new a) ++ replaceFrom zero (c ∷ []) new b
+      go : (e : Bool) → replace_from zero (c ∷ []) new (a ++ b) ≡ replace_from zero (c ∷ []) new a ++ replace_from zero (c ∷ []) new b
+          → cond (e && true) (new ++ replace_from zero (c ∷ []) new (a ++ b)) (x ∷ replace_from zero (c ∷ []) new (a ++ b))
+          ≡ cond (e && true) (new ++ replace_from zero (c ∷ []) new a) (x ∷ replace_from zero (c ∷ []) new a) ++ replace_from zero (c ∷ []) new b
       go true i = rw i (sym (append_assoc new _ _))
       go false i = ap (λ (u : Bytes). x ∷ u) i
 
   spread-lead : eqb 32 c ≡ false → (b : Bool) (t : Bytes) → spread (lead b t) ≡ lead b (spread t)
-  unfolding lead spread replaceFrom starts
+  unfolding lead spread replace_from starts
   spread-lead n true t = rw n
   spread-lead n false t = refl
 
   pub tidy-spread : eqb 32 c ≡ false → (shut bars : ℕ → Bool) (emit : ℕ → Bytes) (last : ℕ) (gap : Bool) (t : Bytes)
-      → replaceFrom zero (c ∷ []) new (tidy shut bars emit last gap t) ≡ tidy shut bars (λ (x : ℕ). replaceFrom zero (c ∷ []) new (emit x)) last gap t
+      → replace_from zero (c ∷ []) new (tidy shut bars emit last gap t) ≡ tidy shut bars (λ (x : ℕ). replace_from zero (c ∷ []) new (emit x)) last gap t
   unfolding tidy spread
-  tidy-spread n shut bars emit last gap [] = unfold replaceFrom in refl
+  tidy-spread n shut bars emit last gap [] = unfold replace_from in refl
   tidy-spread n shut bars emit last gap (x ∷ t) = go (white x) (tidy-spread n shut bars emit last true t) (tidy-spread n shut bars emit x false t)
     where
       emit₁ : ℕ → Bytes
-      emit₁ x = replaceFrom zero (c ∷ []) new (emit x)
+      emit₁ x = replace_from zero (c ∷ []) new (emit x)
 
       go : (w : Bool)
           → spread (tidy shut bars emit last true t) ≡ tidy shut bars emit₁ last true t

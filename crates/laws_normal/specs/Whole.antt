@@ -6,25 +6,25 @@ use Rattle.std.proofs.Math.Bool.{true, false}
 use Rattle.std.proofs.lemmas.Bool.{false≢true}
 use Rattle.rules.specs.Text.Ascii.{ascii, is}
 use Rattle.rules.specs.Text.Lists.{all_of}
-use Rattle.rules.specs.Text.Bytes.{Bytes, white, starts, replaceFrom, replace, trimmed}
-use Rattle.rules.specs.Text.Normal.{run, becomes, subscriptBecomes, replacements, squeezed, continued, normal}
+use Rattle.rules.specs.Text.Bytes.{Bytes, white, starts, replace_from, replace, trimmed}
+use Rattle.rules.specs.Text.Normal.{run, becomes, subscript_becomes, replacements, squeezed, continued, normal}
 use Rattle.laws_lists.specs.Tests.{and_left, and_right}
 use Rattle.laws_normal.specs.Scans.{byte, never, or, lead, dropped, tidy, alone, none, hold}
-use Rattle.laws_normal.specs.Tidy.{replace-first, replace-second, squeezed-tidy, tidy-dropped, alone-passes, tidy-held, tidy-spread, Place, start, inside, after, squeeze, spaceDue, pastWhite, squeeze-end, squeeze-white, squeeze-byte}
+use Rattle.laws_normal.specs.Tidy.{replace-first, replace-second, squeezed-tidy, tidy-dropped, alone-passes, tidy-held, tidy-spread, Place, start, inside, after, squeeze, space_due, past_white, squeeze-end, squeeze-white, squeeze-byte}
 use Rattle.laws_normal.specs.Hold.{replace-digit, Fine, AllFine, hold-or, hold-dollars, hold-squeeze}
 
 -- ---- replacements 1 to 14
 
 -- `s ` becomes `s`, and ` s` becomes `s`
 shuts : (s : ℕ) → eqb 32 s ≡ false → (shut bars : ℕ → Bool) (t : Bytes)
-    → replaceFrom zero (s ∷ 32 ∷ []) (s ∷ []) (tidy shut bars alone 32 false t) ≡ tidy (or (byte s) shut) bars alone 32 false t
+    → replace_from zero (s ∷ 32 ∷ []) (s ∷ []) (tidy shut bars alone 32 false t) ≡ tidy (or (byte s) shut) bars alone 32 false t
 shuts s n shut bars t =
     replace-first s 32 (tidy shut bars alone 32 false t)
     ∙ ap (λ (b : Bool). dropped (byte s) 32 b (tidy shut bars alone 32 false t)) (sym n)
     ∙ tidy-dropped (byte s) shut bars alone (alone-passes (byte s)) 32 false t
 
 bars-too : (s : ℕ) → eqb s 32 ≡ false → (shut bars : ℕ → Bool) (t : Bytes)
-    → replaceFrom zero (32 ∷ s ∷ []) (s ∷ []) (tidy shut bars alone 32 false t) ≡ tidy shut (or (byte s) bars) alone 32 false t
+    → replace_from zero (32 ∷ s ∷ []) (s ∷ []) (tidy shut bars alone 32 false t) ≡ tidy shut (or (byte s) bars) alone 32 false t
 bars-too s n shut bars t = (replace-second s n (tidy shut bars alone 32 false t)).0 ∙ tidy-held (byte s) shut bars 32 false t
 
 abbrev shut₁ : ℕ → Bool
@@ -64,10 +64,10 @@ abbrev pub bars₆ : ℕ → Bool
 bars₆ = or (byte 60) bars₅
 
 abbrev drops : ℕ → Bytes → Bytes
-drops s u = replaceFrom zero (s ∷ 32 ∷ []) (s ∷ []) u
+drops s u = replace_from zero (s ∷ 32 ∷ []) (s ∷ []) u
 
 abbrev pulls : ℕ → Bytes → Bytes
-pulls s u = replaceFrom zero (32 ∷ s ∷ []) (s ∷ []) u
+pulls s u = replace_from zero (32 ∷ s ∷ []) (s ∷ []) u
 
 six-dropped : (t : Bytes) → drops 60 (drops 62 (drops 124 (drops 44 (drops 58 (drops 61 (tidy (byte 32) never alone 32 false t)))))) ≡ tidy shut₆ never alone 32 false t
 six-dropped t = rw (shuts 61 refl (byte 32) never t, shuts 58 refl shut₁ never t, shuts 44 refl shut₂ never t, shuts 124 refl shut₃ never t, shuts 62 refl shut₄ never t, shuts 60 refl shut₅ never t)
@@ -83,32 +83,32 @@ inverse = 124 ∷ 111 ∷ 109 ∷ 105 ∷ 116 ∷ 95 ∷ 105 ∷ 110 ∷ 118 ∷
 abbrev pub forward : Bytes
 forward = 124 ∷ 111 ∷ 109 ∷ 105 ∷ 116 ∷ 95 ∷ 102 ∷ 119 ∷ 100 ∷ []
 
-abbrev inverseSpace : Bytes
-inverseSpace = 124 ∷ 111 ∷ 109 ∷ 105 ∷ 116 ∷ 95 ∷ 105 ∷ 110 ∷ 118 ∷ 32 ∷ []
+abbrev inverse_space : Bytes
+inverse_space = 124 ∷ 111 ∷ 109 ∷ 105 ∷ 116 ∷ 95 ∷ 105 ∷ 110 ∷ 118 ∷ 32 ∷ []
 
-abbrev forwardSpace : Bytes
-forwardSpace = 124 ∷ 111 ∷ 109 ∷ 105 ∷ 116 ∷ 95 ∷ 102 ∷ 119 ∷ 100 ∷ 32 ∷ []
+abbrev forward_space : Bytes
+forward_space = 124 ∷ 111 ∷ 109 ∷ 105 ∷ 116 ∷ 95 ∷ 102 ∷ 119 ∷ 100 ∷ 32 ∷ []
 
 -- a byte with its space, where it is one of the two
 marked : ℕ → Bytes
-marked x = cond (eqb x 62) inverseSpace (cond (eqb x 60) forwardSpace (x ∷ []))
+marked x = cond (eqb x 62) inverse_space (cond (eqb x 60) forward_space (x ∷ []))
 
-marked-is : (x : ℕ) → replaceFrom zero (60 ∷ []) forwardSpace (replaceFrom zero (62 ∷ []) inverseSpace (x ∷ [])) ≡ marked x
-unfolding replaceFrom starts marked
+marked-is : (x : ℕ) → replace_from zero (60 ∷ []) forward_space (replace_from zero (62 ∷ []) inverse_space (x ∷ [])) ≡ marked x
+unfolding replace_from starts marked
 marked-is x = go (eqb x 62)
   where
-    go' : (b : Bool) → cond (b && true) forwardSpace (x ∷ []) ≡ cond b forwardSpace (x ∷ [])
+    go' : (b : Bool) → cond (b && true) forward_space (x ∷ []) ≡ cond b forward_space (x ∷ [])
     go' true = refl
     go' false = refl
 
-    go : (b : Bool) → replaceFrom zero (60 ∷ []) forwardSpace (cond (b && true) inverseSpace (x ∷ [])) ≡ cond b inverseSpace (cond (eqb x 60) forwardSpace (x ∷ []))
+    go : (b : Bool) → replace_from zero (60 ∷ []) forward_space (cond (b && true) inverse_space (x ∷ [])) ≡ cond b inverse_space (cond (eqb x 60) forward_space (x ∷ []))
     go true = refl
     go false = go' (eqb x 60)
 
-two-marked : (t : Bytes) → replaceFrom zero (60 ∷ []) forwardSpace (replaceFrom zero (62 ∷ []) inverseSpace (tidy shut₆ bars₆ alone 32 false t)) ≡ tidy shut₆ bars₆ marked 32 false t
+two-marked : (t : Bytes) → replace_from zero (60 ∷ []) forward_space (replace_from zero (62 ∷ []) inverse_space (tidy shut₆ bars₆ alone 32 false t)) ≡ tidy shut₆ bars₆ marked 32 false t
 two-marked t =
-    ap (replaceFrom zero (60 ∷ []) forwardSpace) (tidy-spread 62 inverseSpace refl shut₆ bars₆ alone 32 false t)
-    ∙ tidy-spread 60 forwardSpace refl shut₆ bars₆ _ 32 false t
+    ap (replace_from zero (60 ∷ []) forward_space) (tidy-spread 62 inverse_space refl shut₆ bars₆ alone 32 false t)
+    ∙ tidy-spread 60 forward_space refl shut₆ bars₆ _ 32 false t
     ∙ ap (λ (emit : ℕ → Bytes). tidy shut₆ bars₆ emit 32 false t) (fun_ext marked-is)
 
 -- ---- `$`
@@ -121,7 +121,7 @@ unfolding marked
 marked-passes x w r b = go (eqb x 62) refl (eqb x 60) refl
   where
     go : (c : Bool) → eqb x 62 ≡ c → (d : Bool) → eqb x 60 ≡ d
-        → dropped (byte 36) 32 b (cond c inverseSpace (cond d forwardSpace (x ∷ [])) ++ r) ≡ cond c inverseSpace (cond d forwardSpace (x ∷ [])) ++ dropped (byte 36) 32 (eqb x 36) r
+        → dropped (byte 36) 32 b (cond c inverse_space (cond d forward_space (x ∷ [])) ++ r) ≡ cond c inverse_space (cond d forward_space (x ∷ [])) ++ dropped (byte 36) 32 (eqb x 36) r
     go true e d f = rw (eqb-true x 62 e) (unfold dropped in refl)
     go false e true f = rw (eqb-true x 60 f) (unfold dropped in refl)
     go false e false f = alone-passes (byte 36) x w r b
@@ -152,7 +152,7 @@ solid-is true e = sym e
 solid-is false e = refl
 
 squeeze-in : (x : ℕ) (r : Bytes) → white x ≡ false → squeeze inside (x ∷ r) ≡ x ∷ squeeze inside r
-unfolding spaceDue lead
+unfolding space_due lead
 squeeze-in x r e = squeeze-byte inside x r e
 
 squeeze-word : (w r : Bytes) → all_of solid w ≡ true → squeeze inside (w ++ r) ≡ w ++ squeeze inside r
@@ -167,16 +167,16 @@ stands true = after
 stands false = inside
 
 -- a word, and the space behind it
-squeeze-mark : (p : Place) (x : ℕ) (w r : Bytes) → white x ≡ false → all_of solid w ≡ true → squeeze p (x ∷ (w ++ (32 ∷ r))) ≡ lead (spaceDue p) (x ∷ (w ++ squeeze after r))
+squeeze-mark : (p : Place) (x : ℕ) (w r : Bytes) → white x ≡ false → all_of solid w ≡ true → squeeze p (x ∷ (w ++ (32 ∷ r))) ≡ lead (space_due p) (x ∷ (w ++ squeeze after r))
 squeeze-mark p x w r e f =
     squeeze-byte p x (w ++ (32 ∷ r)) e
-    ∙ ap (λ (u : Bytes). lead (spaceDue p) (x ∷ u)) (squeeze-word w (32 ∷ r) f ∙ ap (λ (u : Bytes). w ++ u) (unfold pastWhite in squeeze-white inside 32 r (unfold white in refl)))
+    ∙ ap (λ (u : Bytes). lead (space_due p) (x ∷ u)) (squeeze-word w (32 ∷ r) f ∙ ap (λ (u : Bytes). w ++ u) (unfold past_white in squeeze-white inside 32 r (unfold white in refl)))
 
-squeeze-marked : (p : Place) (x : ℕ) (r : Bytes) → white x ≡ false → squeeze p (marked x ++ r) ≡ lead (spaceDue p) (word x ++ squeeze (stands (due x)) r)
+squeeze-marked : (p : Place) (x : ℕ) (r : Bytes) → white x ≡ false → squeeze p (marked x ++ r) ≡ lead (space_due p) (word x ++ squeeze (stands (due x)) r)
 unfolding marked word due
 squeeze-marked p x r w = go (eqb x 62) (eqb x 60)
   where
-    go : (c d : Bool) → squeeze p (cond c inverseSpace (cond d forwardSpace (x ∷ [])) ++ r) ≡ lead (spaceDue p) (cond c inverse (cond d forward (x ∷ [])) ++ squeeze (stands (c || d)) r)
+    go : (c d : Bool) → squeeze p (cond c inverse_space (cond d forward_space (x ∷ [])) ++ r) ≡ lead (space_due p) (cond c inverse (cond d forward (x ∷ [])) ++ squeeze (stands (c || d)) r)
     go true d = unfold stands all_of solid white in squeeze-mark p 124 (111 ∷ 109 ∷ 105 ∷ 116 ∷ 95 ∷ 105 ∷ 110 ∷ 118 ∷ []) r refl refl
     go false true = unfold stands all_of solid white in squeeze-mark p 124 (111 ∷ 109 ∷ 105 ∷ 116 ∷ 95 ∷ 102 ∷ 119 ∷ 100 ∷ []) r refl refl
     go false false = unfold stands in squeeze-byte p x r w
@@ -201,15 +201,15 @@ unfolding stands Stands
 stands-behind x true e = (e, due-shut x e)
 stands-behind x false e = e
 
-speaks-lead : (p : Place) (last : ℕ) (u v : Bytes) → Stands p last → ((q : Place) → squeeze q u ≡ lead (spaceDue q) v) → (c g : Bool)
+speaks-lead : (p : Place) (last : ℕ) (u v : Bytes) → Stands p last → ((q : Place) → squeeze q u ≡ lead (space_due q) v) → (c g : Bool)
     → squeeze p (lead (not (shut₇ last || c) && g) u) ≡ lead (due last || (not (shut₇ last || c) && g)) v
-unfolding Stands spaceDue
+unfolding Stands space_due
 speaks-lead start last u v s h c g = rw (s.0, s.1) (unfold lead in h start)
 speaks-lead after last u v s h c g = rw (s.0, s.1) (unfold lead in h after)
 speaks-lead inside last u v s h c g = rw s (go (not (shut₇ last || c) && g))
   where
     go : (b : Bool) → squeeze inside (lead b u) ≡ lead b v
-    go true = unfold lead in squeeze-white inside 32 u (unfold white in refl) ∙ unfold pastWhite in h after
+    go true = unfold lead in squeeze-white inside 32 u (unfold white in refl) ∙ unfold past_white in h after
     go false = unfold lead in h inside
 
 speaks : (p : Place) (last : ℕ) (gap : Bool) (t : Bytes) → Stands p last → squeeze p (tidy shut₇ bars₆ marked last gap t) ≡ spoken last gap t
@@ -252,43 +252,43 @@ digit-apart c B n z e = go (eqb z c) refl
 
 fine₀ : Fine 128
 unfolding white
-fine₀ = record { first = refl; solid = refl; dollar = refl; newFirst = refl; newSolid = refl; newDollar = refl }
+fine₀ = record { first = refl; solid = refl; dollar = refl; new_first = refl; new_solid = refl; new_dollar = refl }
 
 fine₁ : Fine 129
 unfolding white
-fine₁ = record { first = refl; solid = refl; dollar = refl; newFirst = refl; newSolid = refl; newDollar = refl }
+fine₁ = record { first = refl; solid = refl; dollar = refl; new_first = refl; new_solid = refl; new_dollar = refl }
 
 fine₂ : Fine 130
 unfolding white
-fine₂ = record { first = refl; solid = refl; dollar = refl; newFirst = refl; newSolid = refl; newDollar = refl }
+fine₂ = record { first = refl; solid = refl; dollar = refl; new_first = refl; new_solid = refl; new_dollar = refl }
 
 fine₃ : Fine 131
 unfolding white
-fine₃ = record { first = refl; solid = refl; dollar = refl; newFirst = refl; newSolid = refl; newDollar = refl }
+fine₃ = record { first = refl; solid = refl; dollar = refl; new_first = refl; new_solid = refl; new_dollar = refl }
 
 fine₄ : Fine 132
 unfolding white
-fine₄ = record { first = refl; solid = refl; dollar = refl; newFirst = refl; newSolid = refl; newDollar = refl }
+fine₄ = record { first = refl; solid = refl; dollar = refl; new_first = refl; new_solid = refl; new_dollar = refl }
 
 fine₅ : Fine 133
 unfolding white
-fine₅ = record { first = refl; solid = refl; dollar = refl; newFirst = refl; newSolid = refl; newDollar = refl }
+fine₅ = record { first = refl; solid = refl; dollar = refl; new_first = refl; new_solid = refl; new_dollar = refl }
 
 fine₆ : Fine 134
 unfolding white
-fine₆ = record { first = refl; solid = refl; dollar = refl; newFirst = refl; newSolid = refl; newDollar = refl }
+fine₆ = record { first = refl; solid = refl; dollar = refl; new_first = refl; new_solid = refl; new_dollar = refl }
 
 fine₇ : Fine 135
 unfolding white
-fine₇ = record { first = refl; solid = refl; dollar = refl; newFirst = refl; newSolid = refl; newDollar = refl }
+fine₇ = record { first = refl; solid = refl; dollar = refl; new_first = refl; new_solid = refl; new_dollar = refl }
 
 fine₈ : Fine 136
 unfolding white
-fine₈ = record { first = refl; solid = refl; dollar = refl; newFirst = refl; newSolid = refl; newDollar = refl }
+fine₈ = record { first = refl; solid = refl; dollar = refl; new_first = refl; new_solid = refl; new_dollar = refl }
 
 fine₉ : Fine 137
 unfolding white
-fine₉ = record { first = refl; solid = refl; dollar = refl; newFirst = refl; newSolid = refl; newDollar = refl }
+fine₉ = record { first = refl; solid = refl; dollar = refl; new_first = refl; new_solid = refl; new_dollar = refl }
 
 abbrev digits₀ : ℕ → Bool
 digits₀ = byte 128
@@ -351,7 +351,7 @@ pub all₉ : AllFine digits₉
 all₉ = digit_or (byte 137) digits₈ (digit-byte 137 fine₉) all₈
 
 abbrev ten : ℕ → Bytes → Bytes
-ten z u = replaceFrom zero (226 ∷ 130 ∷ z ∷ 61 ∷ []) (95 ∷ (z - 80) ∷ 61 ∷ []) u
+ten z u = replace_from zero (226 ∷ 130 ∷ z ∷ 61 ∷ []) (95 ∷ (z - 80) ∷ 61 ∷ []) u
 
 ten-held : (u : Bytes) → ten 137 (ten 136 (ten 135 (ten 134 (ten 133 (ten 132 (ten 131 (ten 130 (ten 129 (ten 128 u))))))))) ≡ hold digits₉ none u
 ten-held u =
@@ -359,28 +359,28 @@ ten-held u =
 
 -- ---- all of them
 
-abbrev allDropped : Bytes → Bytes
-allDropped u = drops 60 (drops 62 (drops 124 (drops 44 (drops 58 (drops 61 u)))))
+abbrev all_dropped : Bytes → Bytes
+all_dropped u = drops 60 (drops 62 (drops 124 (drops 44 (drops 58 (drops 61 u)))))
 
-abbrev allPulled : Bytes → Bytes
-allPulled u = pulls 60 (pulls 62 (pulls 124 (pulls 44 (pulls 58 (pulls 61 u)))))
+abbrev all_pulled : Bytes → Bytes
+all_pulled u = pulls 60 (pulls 62 (pulls 124 (pulls 44 (pulls 58 (pulls 61 u)))))
 
-abbrev allMarked : Bytes → Bytes
-allMarked u = replaceFrom zero (60 ∷ []) forwardSpace (replaceFrom zero (62 ∷ []) inverseSpace u)
+abbrev all_marked : Bytes → Bytes
+all_marked u = replace_from zero (60 ∷ []) forward_space (replace_from zero (62 ∷ []) inverse_space u)
 
-abbrev allTen : Bytes → Bytes
-allTen u = ten 137 (ten 136 (ten 135 (ten 134 (ten 133 (ten 132 (ten 131 (ten 130 (ten 129 (ten 128 u)))))))))
+abbrev all_ten : Bytes → Bytes
+all_ten u = ten 137 (ten 136 (ten 135 (ten 134 (ten 133 (ten 132 (ten 131 (ten 130 (ten 129 (ten 128 u)))))))))
 
-run_is : (u : Bytes) → run replacements u ≡ drops 36 (allTen (allMarked (allPulled (allDropped u))))
-unfolding run replacements becomes subscriptBecomes ascii replace
+run_is : (u : Bytes) → run replacements u ≡ drops 36 (all_ten (all_marked (all_pulled (all_dropped u))))
+unfolding run replacements becomes subscript_becomes ascii replace
 run_is u = refl
 
-run-tidy : (t : Bytes) → allMarked (allPulled (allDropped (squeezed t))) ≡ tidy shut₆ bars₆ marked 32 false t
+run-tidy : (t : Bytes) → all_marked (all_pulled (all_dropped (squeezed t))) ≡ tidy shut₆ bars₆ marked 32 false t
 unfolding squeezed
 run-tidy t =
-    ap (λ (u : Bytes). allMarked (allPulled (allDropped u))) (squeezed-tidy t)
-    ∙ ap (λ (u : Bytes). allMarked (allPulled u)) (six-dropped t)
-    ∙ ap allMarked (six-pulled t)
+    ap (λ (u : Bytes). all_marked (all_pulled (all_dropped u))) (squeezed-tidy t)
+    ∙ ap (λ (u : Bytes). all_marked (all_pulled u)) (six-dropped t)
+    ∙ ap all_marked (six-pulled t)
     ∙ two-marked t
 
 squeezed-is : (u : Bytes) → squeezed u ≡ squeeze start u
@@ -390,7 +390,7 @@ squeezed-is u = refl
 run-held : (t : Bytes) → squeezed (run replacements (squeezed t)) ≡ hold digits₉ none (spoken 32 false t)
 run-held t =
     squeezed-is (run replacements (squeezed t))
-    ∙ ap (squeeze start) (run_is (squeezed t) ∙ ap (λ (u : Bytes). drops 36 (allTen u)) (run-tidy t) ∙ ap (drops 36) (ten-held (tidy shut₆ bars₆ marked 32 false t)))
+    ∙ ap (squeeze start) (run_is (squeezed t) ∙ ap (λ (u : Bytes). drops 36 (all_ten u)) (run-tidy t) ∙ ap (drops 36) (ten-held (tidy shut₆ bars₆ marked 32 false t)))
     ∙ ap (squeeze start) (replace-first 36 32 (hold digits₉ none (tidy shut₆ bars₆ marked 32 false t)))
     ∙ ap (squeeze start) (hold-dollars digits₉ all₉ (tidy shut₆ bars₆ marked 32 false t))
     ∙ hold-squeeze digits₉ all₉ (dropped (byte 36) 32 false (tidy shut₆ bars₆ marked 32 false t))

@@ -9,7 +9,7 @@ use Rattle.std.proofs.lemmas.Bool.{false≢true}
 use mathlib.Core.List.{List, [], ◌∷◌, ◌++◌, map, append_assoc, map-append}
 use native.Mathlib.Omega.{arith}
 use Rattle.rules.specs.Text.Ascii.{is}
-use Rattle.rules.specs.Text.Lists.{any_of, kept, place_of, nonEmpty}
+use Rattle.rules.specs.Text.Lists.{any_of, kept, place_of, non_empty}
 use Rattle.rules.specs.Text.Bytes.{Bytes, Words, Steps, white, onto, cut, words}
 use Rattle.rules.specs.Text.Split.{steps_of}
 use Rattle.laws_lists.specs.Tests.{or_left, or_right}
@@ -18,7 +18,7 @@ use Rattle.laws_text.specs.Edges.{words-end}
 use Rattle.laws_text.specs.Arrows.{arrow}
 use Rattle.laws_normal.specs.Scans.{lead}
 use Rattle.laws_normal.specs.Whole.{due, word, digits₉}
-use Rattle.laws_normal.specs.Machine.{State, skips, spaces, keptOf, fresh, freshly, joins, joining, nextMode, nextGap, next, out, from, begin}
+use Rattle.laws_normal.specs.Machine.{State, skips, spaces, kept_of, fresh, freshly, joins, joining, next_mode, next_gap, next, out, from, begin}
 
 -- ---- the pieces of two texts with a `|` between
 
@@ -62,11 +62,11 @@ kept_append test (x ∷ l) m = go (test x) (kept_append test l m)
 
 steps-bar : (a b : Bytes) → steps_of (a ++ (124 ∷ b)) ≡ steps_of a ++ steps_of b
 unfolding steps_of
-steps-bar a b = rw (cut-bar a b, map-append words (cut (is "|") a) (cut (is "|") b)) (kept_append nonEmpty (map words (cut (is "|") a)) (map words (cut (is "|") b)))
+steps-bar a b = rw (cut-bar a b, map-append words (cut (is "|") a) (cut (is "|") b)) (kept_append non_empty (map words (cut (is "|") a)) (map words (cut (is "|") b)))
 
 pub steps-nil : steps_of [] ≡ []
 unfolding steps_of cut kept
-steps-nil = rw words-nil (unfold nonEmpty in refl)
+steps-nil = rw words-nil (unfold non_empty in refl)
 
 -- a `|` in front of a text
 steps_front : (b : Bytes) → steps_of (124 ∷ b) ≡ steps_of b
@@ -75,32 +75,32 @@ steps_front b = steps-bar [] b ∙ ap (λ (u : Steps). u ++ steps_of b) steps-ni
 -- ---- a space behind a text is no word
 
 -- a space behind the last piece
-onLast : List Bytes → List Bytes
-onLast [] = []
-onLast (p ∷ []) = (p ++ (32 ∷ [])) ∷ []
-onLast (p ∷ q ∷ ps) = p ∷ onLast (q ∷ ps)
+on_last : List Bytes → List Bytes
+on_last [] = []
+on_last (p ∷ []) = (p ++ (32 ∷ [])) ∷ []
+on_last (p ∷ q ∷ ps) = p ∷ on_last (q ∷ ps)
 
-onto-last : (x : ℕ) (p : Bytes) (ps : List Bytes) → onto x (onLast (p ∷ ps)) ≡ onLast (onto x (p ∷ ps))
-unfolding onto onLast
+onto-last : (x : ℕ) (p : Bytes) (ps : List Bytes) → onto x (on_last (p ∷ ps)) ≡ on_last (onto x (p ∷ ps))
+unfolding onto on_last
 onto-last x p [] = refl
 onto-last x p (q ∷ ps) = refl
 
-more-last : (p : Bytes) {ps : List Bytes} → Some ps → p ∷ onLast ps ≡ onLast (p ∷ ps)
-unfolding onLast
+more-last : (p : Bytes) {ps : List Bytes} → Some ps → p ∷ on_last ps ≡ on_last (p ∷ ps)
+unfolding on_last
 more-last p s = rw s.whole
 
-cut-space : (a : Bytes) → cut (is "|") (a ++ (32 ∷ [])) ≡ onLast (cut (is "|") a)
-unfolding cut onto onLast
+cut-space : (a : Bytes) → cut (is "|") (a ++ (32 ∷ [])) ≡ on_last (cut (is "|") a)
+unfolding cut onto on_last
 cut-space [] = refl
 cut-space (x ∷ a) = go (is "|" x) (cut-space a) (cut-some a)
   where
-    go : (c : Bool) → cut (is "|") (a ++ (32 ∷ [])) ≡ onLast (cut (is "|") a) → Some (cut (is "|") a)
-        → cond c ([] ∷ cut (is "|") (a ++ (32 ∷ []))) (onto x (cut (is "|") (a ++ (32 ∷ [])))) ≡ onLast (cond c ([] ∷ cut (is "|") a) (onto x (cut (is "|") a)))
+    go : (c : Bool) → cut (is "|") (a ++ (32 ∷ [])) ≡ on_last (cut (is "|") a) → Some (cut (is "|") a)
+        → cond c ([] ∷ cut (is "|") (a ++ (32 ∷ []))) (onto x (cut (is "|") (a ++ (32 ∷ [])))) ≡ on_last (cond c ([] ∷ cut (is "|") a) (onto x (cut (is "|") a)))
     go true h s = ap (λ (ps : List Bytes). [] ∷ ps) h ∙ more-last [] s
     go false h s = ap (onto x) h ∙ rw s.whole (onto-last x s.first s.others)
 
-last-words : (ps : List Bytes) → map words (onLast ps) ≡ map words ps
-unfolding onLast
+last-words : (ps : List Bytes) → map words (on_last ps) ≡ map words ps
+unfolding on_last
 last-words [] = refl
 last-words (p ∷ []) = ap (λ (ws : Words). ws ∷ []) (words-end p).0
 last-words (p ∷ q ∷ ps) = ap (λ (wss : Steps). words p ∷ wss) (last-words (q ∷ ps))
@@ -125,40 +125,40 @@ record Cut (front all behind : Bytes) : Type 0 where
 
 -- a byte that is written as a `|` and more, and behind which a space is due
 record Begins (x : ℕ) (rest : Bytes) : Type 0 where
-  notWhite : white x ≡ false
-  notColon : eqb x 58 ≡ false
-  notSecond : eqb x 130 ≡ false
-  notEquals : eqb x 61 ≡ false
-  notDigit : digits₉ x ≡ false
-  isFresh : fresh x ≡ 2
-  isWord : freshly x ≡ 124 ∷ rest
+  not_white : white x ≡ false
+  not_colon : eqb x 58 ≡ false
+  not_second : eqb x 130 ≡ false
+  not_equals : eqb x 61 ≡ false
+  not_digit : digits₉ x ≡ false
+  is_fresh : fresh x ≡ 2
+  is_word : freshly x ≡ 124 ∷ rest
 
 abbrev owing : State
 owing = record { mode = 2; gap = 0 }
 
 module _ (x : ℕ) (rest : Bytes) (b : Begins x rest) where
   -- what is held back, a space or none, and the byte as it is written
-  out-begins : (mode gap : ℕ) → out mode gap x ≡ keptOf mode ++ lead (spaces mode gap x) (124 ∷ rest)
+  out-begins : (mode gap : ℕ) → out mode gap x ≡ kept_of mode ++ lead (spaces mode gap x) (124 ∷ rest)
   unfolding out skips joining lead
-  out-begins mode gap = rw (b.notColon, b.notWhite, b.notDigit, b.notSecond, b.notEquals, b.isWord, and-false (eqb mode 3), and-false (eqb mode 4), and-false (ltb 79 mode)) (go (spaces mode gap x))
+  out-begins mode gap = rw (b.not_colon, b.not_white, b.not_digit, b.not_second, b.not_equals, b.is_word, and-false (eqb mode 3), and-false (eqb mode 4), and-false (ltb 79 mode)) (go (spaces mode gap x))
     where
-      go : (c : Bool) → cond c (keptOf mode ++ (32 ∷ 124 ∷ rest)) (keptOf mode ++ (124 ∷ rest)) ≡ keptOf mode ++ lead c (124 ∷ rest)
+      go : (c : Bool) → cond c (kept_of mode ++ (32 ∷ 124 ∷ rest)) (kept_of mode ++ (124 ∷ rest)) ≡ kept_of mode ++ lead c (124 ∷ rest)
       go true = refl
       go false = refl
 
   next-begins : (s : State) → next s x ≡ owing
-  unfolding next nextMode nextGap skips joins
-  next-begins s = rw (b.notColon, b.notWhite, b.notDigit, b.notSecond, b.isFresh, and-false (eqb s.mode 3), and-false (eqb s.mode 4)) (go (spaces s.mode s.gap x))
+  unfolding next next_mode next_gap skips joins
+  next-begins s = rw (b.not_colon, b.not_white, b.not_digit, b.not_second, b.is_fresh, and-false (eqb s.mode 3), and-false (eqb s.mode 4)) (go (spaces s.mode s.gap x))
     where
       go : (c : Bool) → ◌≡◌ {A = State} (record { mode = cond c 2 2; gap = 0 }) owing
       go true = refl
       go false = refl
 
-  at-arrow : (s : State) (t : Bytes) → from s (x ∷ t) ≡ keptOf s.mode ++ lead (spaces s.mode s.gap x) (124 ∷ (rest ++ from owing t))
+  at-arrow : (s : State) (t : Bytes) → from s (x ∷ t) ≡ kept_of s.mode ++ lead (spaces s.mode s.gap x) (124 ∷ (rest ++ from owing t))
   unfolding from
   at-arrow s t =
-      rw (out-begins s.mode s.gap, next-begins s) (append_assoc (keptOf s.mode) (lead (spaces s.mode s.gap x) (124 ∷ rest)) (from owing t))
-      ∙ ap (λ (u : Bytes). keptOf s.mode ++ u) (go (spaces s.mode s.gap x))
+      rw (out-begins s.mode s.gap, next-begins s) (append_assoc (kept_of s.mode) (lead (spaces s.mode s.gap x) (124 ∷ rest)) (from owing t))
+      ∙ ap (λ (u : Bytes). kept_of s.mode ++ u) (go (spaces s.mode s.gap x))
     where
       go : (c : Bool) → lead c (124 ∷ rest) ++ from owing t ≡ lead c (124 ∷ (rest ++ from owing t))
       go true = unfold lead in refl
@@ -166,7 +166,7 @@ module _ (x : ℕ) (rest : Bytes) (b : Begins x rest) where
 
   -- the machine that begins with it writes a `|` first
   anew : (t : Bytes) → from begin (x ∷ t) ≡ 124 ∷ (rest ++ from owing t)
-  unfolding begin spaces keptOf lead
+  unfolding begin spaces kept_of lead
   anew t = at-arrow begin t
 
   -- what stands before it, up to its end; and then as the machine begins with it
@@ -188,10 +188,10 @@ unfolding arrow white fresh freshly word due
 windows v t x e = go (eqb x 62) refl (eqb x 60) refl e
   where
     inverse-begins : Begins 62 (111 ∷ 109 ∷ 105 ∷ 116 ∷ 95 ∷ 105 ∷ 110 ∷ 118 ∷ [])
-    inverse-begins = record { notWhite = refl; notColon = refl; notSecond = refl; notEquals = refl; notDigit = refl; isFresh = refl; isWord = refl }
+    inverse-begins = record { not_white = refl; not_colon = refl; not_second = refl; not_equals = refl; not_digit = refl; is_fresh = refl; is_word = refl }
 
     forward-begins : Begins 60 (111 ∷ 109 ∷ 105 ∷ 116 ∷ 95 ∷ 102 ∷ 119 ∷ 100 ∷ [])
-    forward-begins = record { notWhite = refl; notColon = refl; notSecond = refl; notEquals = refl; notDigit = refl; isFresh = refl; isWord = refl }
+    forward-begins = record { not_white = refl; not_colon = refl; not_second = refl; not_equals = refl; not_digit = refl; is_fresh = refl; is_word = refl }
 
     go : (a : Bool) → eqb x 62 ≡ a → (b : Bool) → eqb x 60 ≡ b → a || b ≡ true → steps_of (from begin (v ++ (x ∷ t))) ≡ steps_of (from begin v) ++ steps_of (from begin (x ∷ t))
     go true f b g h = rw (eqb-true x 62 f) (begins-steps 62 _ inverse-begins v t)

@@ -6,14 +6,14 @@ use Rattle.std.proofs.Math.Bool.{true, false}
 use Rattle.std.proofs.lemmas.Bool.{false≢true}
 use Rattle.std.proofs.Math.ListN.{drop}
 use Rattle.rules.specs.Text.Ascii.{ascii}
-use Rattle.rules.specs.Text.Lists.{any_of, all_of, nonEmpty}
+use Rattle.rules.specs.Text.Lists.{any_of, all_of, non_empty}
 use Rattle.rules.specs.Text.Bytes.{Bytes, Words, white, starts}
-use Rattle.rules.specs.Proj.Words.{isProj, firstProj, inItsPlace, exchanged, has_key, last_of, withoutLast, composed, ellipsoid, scale, tidied}
+use Rattle.rules.specs.Proj.Words.{is_proj, first_proj, in_its_place, exchanged, has_key, last_of, without_last, composed, ellipsoid, scale, tidied}
 use Rattle.laws_lists.specs.Tests.{and_left, and_right}
 use Rattle.laws_text.specs.Passes.{in_word}
 use Rattle.laws_text.specs.Plain.{dark, blankless, plain, plain-blankless}
 use Rattle.laws_proj.specs.Tests.{both, all_append, all_drop, all-each}
-use Rattle.laws_proj.specs.Solid.{lastFine, solid, mild, fine, solid-mild}
+use Rattle.laws_proj.specs.Solid.{last_fine, solid, mild, fine, solid-mild}
 
 -- words of which only the first may be empty
 unfoldable pub even : Words → Bool
@@ -27,21 +27,21 @@ plain-even (w ∷ ws) e = both (plain-blankless w (and_left (plain w) (all_of pl
 
 -- ---- they are solid
 
-dark-last : (x : ℕ) (t : Bytes) → all_of dark (x ∷ t) ≡ true → lastFine (x ∷ t) ≡ true
-unfolding all_of lastFine
+dark-last : (x : ℕ) (t : Bytes) → all_of dark (x ∷ t) ≡ true → last_fine (x ∷ t) ≡ true
+unfolding all_of last_fine
 dark-last x [] e = and_left (not (white x)) true e
 dark-last x (y ∷ t) e = dark-last y t (and_right (not (white x)) (all_of dark (y ∷ t)) e)
 
 plain-solid : (w : Bytes) → plain w ≡ true → solid w ≡ true
-unfolding plain blankless nonEmpty solid in_word
+unfolding plain blankless non_empty solid in_word
 plain-solid [] e = absurd (false≢true e)
 plain-solid (x ∷ w) e =
     let d : not (white x) ≡ true = unfold all_of in and_left (not (white x)) (all_of dark w) e in
     both d (dark-last x w e)
 
 blankless-mild : (w : Bytes) → blankless w ≡ true → mild w ≡ true
-blankless-mild [] e = unfold mild nonEmpty in refl
-blankless-mild (x ∷ w) e = solid-mild (x ∷ w) (plain-solid (x ∷ w) (unfold plain nonEmpty in e))
+blankless-mild [] e = unfold mild non_empty in refl
+blankless-mild (x ∷ w) e = solid-mild (x ∷ w) (plain-solid (x ∷ w) (unfold plain non_empty in e))
 
 pub even-fine : (ws : Words) → even ws ≡ true → fine ws ≡ true
 unfolding even fine
@@ -57,28 +57,28 @@ blankless-drop : (n : ℕ) (w : Bytes) → blankless w ≡ true → blankless (d
 unfolding blankless
 blankless-drop n w e = all_drop dark n w e
 
-first-dark : (ws : Words) → all_of plain ws ≡ true → blankless (firstProj ws) ≡ true
-unfolding all_of firstProj
+first-dark : (ws : Words) → all_of plain ws ≡ true → blankless (first_proj ws) ≡ true
+unfolding all_of first_proj
 first-dark [] e = unfold blankless all_of in refl
-first-dark (w ∷ ws) e = go (isProj w) (first-dark ws (and_right (plain w) (all_of plain ws) e))
+first-dark (w ∷ ws) e = go (is_proj w) (first-dark ws (and_right (plain w) (all_of plain ws) e))
   where
-    go : (b : Bool) → blankless (firstProj ws) ≡ true → blankless (cond b w (firstProj ws)) ≡ true
+    go : (b : Bool) → blankless (first_proj ws) ≡ true → blankless (cond b w (first_proj ws)) ≡ true
     go true h = plain-blankless w (and_left (plain w) (all_of plain ws) e)
     go false h = h
 
-place-plain : (v : Bytes) (ws : Words) → plain v ≡ true → all_of plain ws ≡ true → all_of plain (inItsPlace v ws) ≡ true
-unfolding all_of inItsPlace
+place-plain : (v : Bytes) (ws : Words) → plain v ≡ true → all_of plain ws ≡ true → all_of plain (in_its_place v ws) ≡ true
+unfolding all_of in_its_place
 place-plain v [] p e = refl
-place-plain v (w ∷ ws) p e = go (isProj w) (place-plain v ws p (and_right (plain w) (all_of plain ws) e))
+place-plain v (w ∷ ws) p e = go (is_proj w) (place-plain v ws p (and_right (plain w) (all_of plain ws) e))
   where
-    go : (b : Bool) → all_of plain (inItsPlace v ws) ≡ true → all_of plain (cond b (v ∷ ws) (w ∷ inItsPlace v ws)) ≡ true
+    go : (b : Bool) → all_of plain (in_its_place v ws) ≡ true → all_of plain (cond b (v ∷ ws) (w ∷ in_its_place v ws)) ≡ true
     go true h = unfold all_of in both p (and_right (plain w) (all_of plain ws) e)
     go false h = unfold all_of in both (and_left (plain w) (all_of plain ws) e) h
 
 pub exchanged-even : (ws : Words) → all_of plain ws ≡ true → even (exchanged ws) ≡ true
 unfolding exchanged
 exchanged-even [] e = unfold even in refl
-exchanged-even (w ∷ ws) e = go (isProj w) (any_of isProj ws)
+exchanged-even (w ∷ ws) e = go (is_proj w) (any_of is_proj ws)
   where
     p : plain w ≡ true
     p = unfold all_of in and_left (plain w) (all_of plain ws) e
@@ -86,9 +86,9 @@ exchanged-even (w ∷ ws) e = go (isProj w) (any_of isProj ws)
     ps : all_of plain ws ≡ true
     ps = unfold all_of in and_right (plain w) (all_of plain ws) e
 
-    go : (b d : Bool) → even (cond b (drop 5 w ∷ ws) (cond d (drop 5 (firstProj ws) ∷ inItsPlace w ws) (w ∷ ws))) ≡ true
+    go : (b d : Bool) → even (cond b (drop 5 w ∷ ws) (cond d (drop 5 (first_proj ws) ∷ in_its_place w ws) (w ∷ ws))) ≡ true
     go true d = unfold even in both (blankless-drop 5 w (plain-blankless w p)) ps
-    go false true = unfold even in both (blankless-drop 5 (firstProj ws) (first-dark ws ps)) (place-plain w ws p ps)
+    go false true = unfold even in both (blankless-drop 5 (first_proj ws) (first-dark ws ps)) (place-plain w ws p ps)
     go false false = plain-even (w ∷ ws) e
 
 -- after the first, none is empty
@@ -113,21 +113,21 @@ last-dark key (w ∷ ws) e = go (has_key key ws) (last-dark key ws (and_right (b
     go true h = h
     go false h = and_left (blankless w) (all_of blankless ws) e
 
-without-plain : (key : Bytes) (ws : Words) → all_of plain ws ≡ true → all_of plain (withoutLast key ws) ≡ true
-unfolding all_of withoutLast
+without-plain : (key : Bytes) (ws : Words) → all_of plain ws ≡ true → all_of plain (without_last key ws) ≡ true
+unfolding all_of without_last
 without-plain key [] e = refl
 without-plain key (w ∷ ws) e = go (has_key key ws) (without-plain key ws (and_right (plain w) (all_of plain ws) e))
   where
-    go : (b : Bool) → all_of plain (withoutLast key ws) ≡ true → all_of plain (cond b (w ∷ withoutLast key ws) ws) ≡ true
+    go : (b : Bool) → all_of plain (without_last key ws) ≡ true → all_of plain (cond b (w ∷ without_last key ws) ws) ≡ true
     go true h = unfold all_of in both (and_left (plain w) (all_of plain ws) e) h
     go false h = and_right (plain w) (all_of plain ws) e
 
-without-even : (key : Bytes) (ws : Words) → even ws ≡ true → even (withoutLast key ws) ≡ true
-unfolding withoutLast
+without-even : (key : Bytes) (ws : Words) → even ws ≡ true → even (without_last key ws) ≡ true
+unfolding without_last
 without-even key [] e = e
 without-even key (w ∷ ws) e = go (has_key key ws) (unfold even in e)
   where
-    go : (b : Bool) → (blankless w && all_of plain ws) ≡ true → even (cond b (w ∷ withoutLast key ws) ws) ≡ true
+    go : (b : Bool) → (blankless w && all_of plain ws) ≡ true → even (cond b (w ∷ without_last key ws) ws) ≡ true
     go true f = unfold even in both (and_left (blankless w) (all_of plain ws) f) (without-plain key ws (and_right (blankless w) (all_of plain ws) f))
     go false f = plain-even ws (and_right (blankless w) (all_of plain ws) f)
 
@@ -147,7 +147,7 @@ ellipsoid-even ws e = go (not (has_key (ascii "ellps=") ws) && (has_key (ascii "
   where
     composed-plain : plain (ascii "ellps=" ++ (drop 2 (last_of (ascii "a=") ws) ++ (ascii "," ++ drop 3 (last_of (ascii "rf=") ws)))) ≡ true
     composed-plain =
-        unfold plain ascii nonEmpty in
+        unfold plain ascii non_empty in
         blankless-append (ascii "ellps=") (drop 2 (last_of (ascii "a=") ws) ++ (ascii "," ++ drop 3 (last_of (ascii "rf=") ws))) (unfold blankless all_of white in refl)
         (blankless-append (drop 2 (last_of (ascii "a=") ws)) (ascii "," ++ drop 3 (last_of (ascii "rf=") ws)) (blankless-drop 2 (last_of (ascii "a=") ws) (last-dark (ascii "a=") ws (even-dark ws e)))
         (blankless-append (ascii ",") (drop 3 (last_of (ascii "rf=") ws)) (unfold blankless all_of white in refl)
@@ -155,12 +155,12 @@ ellipsoid-even ws e = go (not (has_key (ascii "ellps=") ws) && (has_key (ascii "
 
     go : (b : Bool) → even (cond b (composed ws) ws) ≡ true
     go true =
-        even-append (withoutLast (ascii "rf=") (withoutLast (ascii "a=") ws)) _
-        (without-even (ascii "rf=") (withoutLast (ascii "a=") ws) (without-even (ascii "a=") ws e)) composed-plain
+        even-append (without_last (ascii "rf=") (without_last (ascii "a=") ws)) _
+        (without-even (ascii "rf=") (without_last (ascii "a=") ws) (without-even (ascii "a=") ws e)) composed-plain
     go false = e
 
 scaled-plain : (w : Bytes) → blankless w ≡ true → plain (ascii "k_0=" ++ drop 2 w) ≡ true
-unfolding plain ascii nonEmpty
+unfolding plain ascii non_empty
 scaled-plain w e = blankless-append (ascii "k_0=") (drop 2 w) (unfold blankless all_of white in refl) (blankless-drop 2 w e)
 
 scale-plain : (ws : Words) → all_of plain ws ≡ true → all_of plain (scale ws) ≡ true

@@ -6,7 +6,7 @@ use Rattle.std.proofs.Math.Bool.{true, false, or_assoc, and_assoc}
 use Rattle.std.proofs.lemmas.Bool.{false≢true}
 use mathlib.Core.List.{List, [], ◌∷◌, ◌++◌}
 use Prim.Native.Nat.{ℕ, zero, suc, ◌+◌, ◌≤◌}
-use Rattle.rules.specs.Text.Lists.{any_of, all_of, kept, nonEmpty}
+use Rattle.rules.specs.Text.Lists.{any_of, all_of, kept, non_empty}
 use Rattle.rules.specs.Text.Bytes.{Bytes, starts}
 use Rattle.laws_lists.specs.Tests.{and_left, and_right}
 
@@ -77,7 +77,7 @@ empty-is (y ∷ x) e = absurd (never e)
     never : suc (length x) ≡ 0 → ⊥
     never e = omega arith
 
-pub some_is : (x : Bytes) → (length x ≡ 0 → ⊥) → nonEmpty x ≡ true
-unfolding nonEmpty
+pub some_is : (x : Bytes) → (length x ≡ 0 → ⊥) → non_empty x ≡ true
+unfolding non_empty
 some_is [] n = absurd (n refl)
 some_is (y ∷ x) n = refl

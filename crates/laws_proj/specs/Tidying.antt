@@ -12,7 +12,7 @@ use Rattle.std.proofs.Math.Dec.{eqb, ltb}
 use Rattle.rules.specs.Text.Ascii.{ascii}
 use Rattle.rules.specs.Text.Lists.{any_of}
 use Rattle.rules.specs.Text.Bytes.{Bytes, Words, starts}
-use Rattle.rules.specs.Proj.Words.{has_key, last_of, withoutLast, composed, ellipsoid, scale, exchanged, tidied}
+use Rattle.rules.specs.Proj.Words.{has_key, last_of, without_last, composed, ellipsoid, scale, exchanged, tidied}
 use Rattle.laws_proj.specs.Tests.{starts_other}
 
 -- ---- the definitions
@@ -23,9 +23,9 @@ count_of key [] = 0
 count_of key (w ∷ ws) = cond (starts key w) (suc (count_of key ws)) (count_of key ws)
 
 -- the last word that begins with it, or else w
-unfoldable pub lastFrom : Bytes → Bytes → Words → Bytes
-lastFrom key w [] = w
-lastFrom key w (v ∷ ws) = lastFrom key (cond (starts key v) v w) ws
+unfoldable pub last_from : Bytes → Bytes → Words → Bytes
+last_from key w [] = w
+last_from key w (v ∷ ws) = last_from key (cond (starts key v) v w) ws
 
 -- the words without the n-th that begins with the key: all of them where n is 0
 unfoldable pub without : ℕ → Bytes → Words → Words
@@ -39,16 +39,16 @@ scaling still ws = cond still (scale ws) ws
 
 -- What is left of the tidied words: of those that begin with `a=` and with `rf=`, the so-manieth is taken out, and the last
 -- words follow.
-unfoldable pub tidyRest : ℕ → ℕ → Bool → Words → Words → Words
-tidyRest a rf still last ws = scaling still (without rf (ascii "rf=") (without a (ascii "a=") ws) ++ last)
+unfoldable pub tidy_rest : ℕ → ℕ → Bool → Words → Words → Words
+tidy_rest a rf still last ws = scaling still (without rf (ascii "rf=") (without a (ascii "a=") ws) ++ last)
 
 -- "`ellps=a,rf`", by both values
-unfoldable pub ellpsOf : Bytes → Bytes → Bytes
-ellpsOf a rf = ascii "ellps=" ++ (a ++ (ascii "," ++ rf))
+unfoldable pub ellps_of : Bytes → Bytes → Bytes
+ellps_of a rf = ascii "ellps=" ++ (a ++ (ascii "," ++ rf))
 
 -- a word of its own, or the scale
-unfoldable pub ownWord : Bool → Bytes → Bytes
-ownWord scaled w = cond scaled (ascii "k_0=" ++ drop 2 w) w
+unfoldable pub own_word : Bool → Bytes → Bytes
+own_word scaled w = cond scaled (ascii "k_0=" ++ drop 2 w) w
 
 -- ---- taking out
 
@@ -109,22 +109,22 @@ module _ (a rf : ℕ) (still : Bool) (last : Words) (w : Bytes) (ws : Words) whe
     unfolding ascii
     no-k = starts_other 97 107 _ _ w e refl
 
-    pub rest-a-last : a ≡ 1 → tidyRest a rf still last (w ∷ ws) ≡ tidyRest 0 rf still last ws
-    unfolding tidyRest
+    pub rest-a-last : a ≡ 1 → tidy_rest a rf still last (w ∷ ws) ≡ tidy_rest 0 rf still last ws
+    unfolding tidy_rest
     rest-a-last z = rw (without-last (ascii "a=") w ws a z e, without-none (ascii "a=") ws 0 refl)
 
-    pub rest-a-more : 1 < a → tidyRest a rf still last (w ∷ ws) ≡ w ∷ tidyRest (a - 1) rf still last ws
-    unfolding tidyRest
+    pub rest-a-more : 1 < a → tidy_rest a rf still last (w ∷ ws) ≡ w ∷ tidy_rest (a - 1) rf still last ws
+    unfolding tidy_rest
     rest-a-more h = rw (without_more (ascii "a=") w ws a h e, without_other (ascii "rf=") w (without (a - 1) (ascii "a=") ws) rf no-rf) (scaling-other still w (behind (a - 1) rf) no-k)
 
-    pub rest-a-none : a ≡ 0 → tidyRest a rf still last (w ∷ ws) ≡ w ∷ tidyRest a rf still last ws
-    unfolding tidyRest
+    pub rest-a-none : a ≡ 0 → tidy_rest a rf still last (w ∷ ws) ≡ w ∷ tidy_rest a rf still last ws
+    unfolding tidy_rest
     rest-a-none z =
         rw (without-none (ascii "a=") (w ∷ ws) a z, without-none (ascii "a=") ws a z, without_other (ascii "rf=") w ws rf no-rf) (scaling-other still w (without rf (ascii "rf=") ws ++ last) no-k)
 
   module _ (n : starts (ascii "a=") w ≡ false) where
-    past-a : tidyRest a rf still last (w ∷ ws) ≡ scaling still (without rf (ascii "rf=") (w ∷ without a (ascii "a=") ws) ++ last)
-    unfolding tidyRest
+    past-a : tidy_rest a rf still last (w ∷ ws) ≡ scaling still (without rf (ascii "rf=") (w ∷ without a (ascii "a=") ws) ++ last)
+    unfolding tidy_rest
     past-a = rw (without_other (ascii "a=") w ws a n)
 
     module _ (e : starts (ascii "rf=") w ≡ true) where
@@ -132,51 +132,51 @@ module _ (a rf : ℕ) (still : Bool) (last : Words) (w : Bytes) (ws : Words) whe
       unfolding ascii
       rf-no-k = starts_other 114 107 _ _ w e refl
 
-      pub rest-rf-last : rf ≡ 1 → tidyRest a rf still last (w ∷ ws) ≡ tidyRest a 0 still last ws
-      unfolding tidyRest
+      pub rest-rf-last : rf ≡ 1 → tidy_rest a rf still last (w ∷ ws) ≡ tidy_rest a 0 still last ws
+      unfolding tidy_rest
       rest-rf-last z = past-a ∙ rw (without-last (ascii "rf=") w (without a (ascii "a=") ws) rf z e, without-none (ascii "rf=") (without a (ascii "a=") ws) 0 refl)
 
-      pub rest-rf-more : 1 < rf → tidyRest a rf still last (w ∷ ws) ≡ w ∷ tidyRest a (rf - 1) still last ws
-      unfolding tidyRest
+      pub rest-rf-more : 1 < rf → tidy_rest a rf still last (w ∷ ws) ≡ w ∷ tidy_rest a (rf - 1) still last ws
+      unfolding tidy_rest
       rest-rf-more h = past-a ∙ rw (without_more (ascii "rf=") w (without a (ascii "a=") ws) rf h e) (scaling-other still w (behind a (rf - 1)) rf-no-k)
 
-      pub rest-rf-none : rf ≡ 0 → tidyRest a rf still last (w ∷ ws) ≡ w ∷ tidyRest a rf still last ws
-      unfolding tidyRest
+      pub rest-rf-none : rf ≡ 0 → tidy_rest a rf still last (w ∷ ws) ≡ w ∷ tidy_rest a rf still last ws
+      unfolding tidy_rest
       rest-rf-none z =
           past-a ∙ rw (without-none (ascii "rf=") (w ∷ without a (ascii "a=") ws) rf z, without-none (ascii "rf=") (without a (ascii "a=") ws) rf z)
           (scaling-other still w (without a (ascii "a=") ws ++ last) rf-no-k)
 
     module _ (m : starts (ascii "rf=") w ≡ false) where
-      past-both : tidyRest a rf still last (w ∷ ws) ≡ scaling still (w ∷ behind a rf)
+      past-both : tidy_rest a rf still last (w ∷ ws) ≡ scaling still (w ∷ behind a rf)
       past-both = past-a ∙ ap (λ (us : Words). scaling still (us ++ last)) (without_other (ascii "rf=") w (without a (ascii "a=") ws) rf m)
 
-      pub rest-scale : starts (ascii "k=") w ≡ true → still ≡ true → tidyRest a rf still last (w ∷ ws) ≡ (ascii "k_0=" ++ drop 2 w) ∷ tidyRest a rf false last ws
-      unfolding tidyRest scaling scale
+      pub rest-scale : starts (ascii "k=") w ≡ true → still ≡ true → tidy_rest a rf still last (w ∷ ws) ≡ (ascii "k_0=" ++ drop 2 w) ∷ tidy_rest a rf false last ws
+      unfolding tidy_rest scaling scale
       rest-scale e z = past-both ∙ rw (z, e)
 
-      pub rest-scaled : still ≡ false → tidyRest a rf still last (w ∷ ws) ≡ w ∷ tidyRest a rf still last ws
-      unfolding tidyRest
+      pub rest-scaled : still ≡ false → tidy_rest a rf still last (w ∷ ws) ≡ w ∷ tidy_rest a rf still last ws
+      unfolding tidy_rest
       rest-scaled z = past-both ∙ scaling-done still w (behind a rf) z
 
-      pub rest_plain : starts (ascii "k=") w ≡ false → tidyRest a rf still last (w ∷ ws) ≡ w ∷ tidyRest a rf still last ws
-      unfolding tidyRest
+      pub rest_plain : starts (ascii "k=") w ≡ false → tidy_rest a rf still last (w ∷ ws) ≡ w ∷ tidy_rest a rf still last ws
+      unfolding tidy_rest
       rest_plain e = past-both ∙ scaling-other still w (behind a rf) e
 
 -- the last words: the scale is not among them
-pub rest_end : (a rf : ℕ) (still : Bool) (x y : Bytes) → tidyRest a rf still (ellpsOf x y ∷ []) [] ≡ ellpsOf x y ∷ []
-unfolding tidyRest scaling scale ellpsOf ascii starts
+pub rest_end : (a rf : ℕ) (still : Bool) (x y : Bytes) → tidy_rest a rf still (ellps_of x y ∷ []) [] ≡ ellps_of x y ∷ []
+unfolding tidy_rest scaling scale ellps_of ascii starts
 rest_end a rf still x y = rw (without-nil (ascii "a=") a, without-nil (ascii "rf=") rf) (go still)
   where
     without-nil : (key : Bytes) (n : ℕ) → without n key [] ≡ []
     without-nil key zero = unfold without in refl
     without-nil key (suc n) = unfold without in refl
 
-    go : (b : Bool) → cond b (scale (ellpsOf x y ∷ [])) (ellpsOf x y ∷ []) ≡ ellpsOf x y ∷ []
+    go : (b : Bool) → cond b (scale (ellps_of x y ∷ [])) (ellps_of x y ∷ []) ≡ ellps_of x y ∷ []
     go true = unfold scale starts in refl
     go false = refl
 
-pub rest-nothing : (a rf : ℕ) (still : Bool) → tidyRest a rf still [] [] ≡ []
-unfolding tidyRest scaling scale
+pub rest-nothing : (a rf : ℕ) (still : Bool) → tidy_rest a rf still [] [] ≡ []
+unfolding tidy_rest scaling scale
 rest-nothing a rf still = rw (without-nil (ascii "a=") a, without-nil (ascii "rf=") rf) (go still)
   where
     without-nil : (key : Bytes) (n : ℕ) → without n key [] ≡ []
@@ -199,22 +199,22 @@ module _ (key : Bytes) where
       go true h = sym (lt-ltb 0 (suc (count_of key ws)) (omega arith))
       go false h = h
 
-  last-same : (us : Words) (u : Bytes) → has_key key us ≡ false → lastFrom key u us ≡ u
-  unfolding has_key any_of lastFrom
+  last-same : (us : Words) (u : Bytes) → has_key key us ≡ false → last_from key u us ≡ u
+  unfolding has_key any_of last_from
   last-same [] u f = refl
   last-same (x ∷ us) u f = turn (starts key x) f (last-same us u)
     where
-      turn : (b : Bool) → (b || has_key key us) ≡ false → (has_key key us ≡ false → lastFrom key u us ≡ u) → lastFrom key (cond b x u) us ≡ u
+      turn : (b : Bool) → (b || has_key key us) ≡ false → (has_key key us ≡ false → last_from key u us ≡ u) → last_from key (cond b x u) us ≡ u
       turn true g h = absurd (true≢false g)
       turn false g h = h g
 
-  pub last-from : (ws : Words) (w : Bytes) → has_key key ws ≡ true → lastFrom key w ws ≡ last_of key ws
-  unfolding has_key any_of lastFrom last_of
+  pub last-from : (ws : Words) (w : Bytes) → has_key key ws ≡ true → last_from key w ws ≡ last_of key ws
+  unfolding has_key any_of last_from last_of
   last-from [] w e = absurd (false≢true e)
   last-from (v ∷ ws) w e = go (has_key key ws) refl (starts key v) e (last-from ws)
     where
-      go : (d : Bool) → has_key key ws ≡ d → (b : Bool) → (b || has_key key ws) ≡ true → ((u : Bytes) → has_key key ws ≡ true → lastFrom key u ws ≡ last_of key ws)
-          → lastFrom key (cond b v w) ws ≡ cond d (last_of key ws) v
+      go : (d : Bool) → has_key key ws ≡ d → (b : Bool) → (b || has_key key ws) ≡ true → ((u : Bytes) → has_key key ws ≡ true → last_from key u ws ≡ last_of key ws)
+          → last_from key (cond b v w) ws ≡ cond d (last_of key ws) v
       go true f b g h = h (cond b v w) f
       go false f true g h = last-same ws v f
       go false f false g h = absurd (false≢true (sym f ∙ g))
@@ -240,14 +240,14 @@ module _ (key : Bytes) where
   one_less n = omega arith
 
   -- the last of them is the so-manieth
-  pub without-count : (ws : Words) → has_key key ws ≡ true → without (count_of key ws) key ws ≡ withoutLast key ws
-  unfolding has_key any_of withoutLast count_of
+  pub without-count : (ws : Words) → has_key key ws ≡ true → without (count_of key ws) key ws ≡ without_last key ws
+  unfolding has_key any_of without_last count_of
   without-count [] e = absurd (false≢true e)
   without-count (w ∷ ws) e = go (has_key key ws) refl (starts key w) refl e (without-count ws)
     where
       go : (d : Bool) → has_key key ws ≡ d → (b : Bool) → starts key w ≡ b → (b || has_key key ws) ≡ true
-          → (has_key key ws ≡ true → without (count_of key ws) key ws ≡ withoutLast key ws)
-          → without (cond b (suc (count_of key ws)) (count_of key ws)) key (w ∷ ws) ≡ cond d (w ∷ withoutLast key ws) ws
+          → (has_key key ws ≡ true → without (count_of key ws) key ws ≡ without_last key ws)
+          → without (cond b (suc (count_of key ws)) (count_of key ws)) key (w ∷ ws) ≡ cond d (w ∷ without_last key ws) ws
       go true f true k g h =
           without_more key w ws (suc (count_of key ws)) (omega (arith, count-some ws f)) k
           ∙ ap (λ (n : ℕ). w ∷ without n key ws) (one_less (count_of key ws)) ∙ ap (λ (us : Words). w ∷ us) (h f)
@@ -257,28 +257,28 @@ module _ (key : Bytes) where
 
   -- a test that no word passes which begins with the key
   module _ (test : Bytes → Bool) (n : (w : Bytes) → starts key w ≡ true → test w ≡ false) where
-    pub without-any : (ws : Words) → has_key key ws ≡ true → any_of test (withoutLast key ws) ≡ any_of test ws
-    unfolding has_key any_of withoutLast
+    pub without-any : (ws : Words) → has_key key ws ≡ true → any_of test (without_last key ws) ≡ any_of test ws
+    unfolding has_key any_of without_last
     without-any [] e = absurd (false≢true e)
     without-any (w ∷ ws) e = go (has_key key ws) refl (starts key w) refl e (without-any ws)
       where
         go : (d : Bool) → has_key key ws ≡ d → (b : Bool) → starts key w ≡ b → (b || has_key key ws) ≡ true
-            → (has_key key ws ≡ true → any_of test (withoutLast key ws) ≡ any_of test ws)
-            → any_of test (cond d (w ∷ withoutLast key ws) ws) ≡ (test w || any_of test ws)
+            → (has_key key ws ≡ true → any_of test (without_last key ws) ≡ any_of test ws)
+            → any_of test (cond d (w ∷ without_last key ws) ws) ≡ (test w || any_of test ws)
         go true f b k g h = ap (λ (x : Bool). test w || x) (h f)
         go false f true k g h = sym (rw (n w k))
         go false f false k g h = absurd (false≢true (sym f ∙ g))
 
 -- the same of words that begin with another key
 pub without-key : (key other : Bytes) → ((w : Bytes) → starts key w ≡ true → starts other w ≡ false) → (ws : Words) → has_key key ws ≡ true
-    → count_of other (withoutLast key ws) ≡ count_of other ws
-unfolding has_key any_of withoutLast count_of
+    → count_of other (without_last key ws) ≡ count_of other ws
+unfolding has_key any_of without_last count_of
 without-key key other n [] e = absurd (false≢true e)
 without-key key other n (w ∷ ws) e = go (has_key key ws) refl (starts key w) refl e (without-key key other n ws)
   where
     go : (d : Bool) → has_key key ws ≡ d → (b : Bool) → starts key w ≡ b → (b || has_key key ws) ≡ true
-        → (has_key key ws ≡ true → count_of other (withoutLast key ws) ≡ count_of other ws)
-        → count_of other (cond d (w ∷ withoutLast key ws) ws) ≡ cond (starts other w) (suc (count_of other ws)) (count_of other ws)
+        → (has_key key ws ≡ true → count_of other (without_last key ws) ≡ count_of other ws)
+        → count_of other (cond d (w ∷ without_last key ws) ws) ≡ cond (starts other w) (suc (count_of other ws)) (count_of other ws)
     go true f b k g h = ap (λ (x : ℕ). cond (starts other w) (suc x) x) (h f)
     go false f true k g h = sym (rw (n w k))
     go false f false k g h = absurd (false≢true (sym f ∙ g))
@@ -292,21 +292,21 @@ unfoldable pub composes : Words → Bool
 composes ws = not (has_key (ascii "ellps=") ws) && (has_key (ascii "a=") ws && has_key (ascii "rf=") ws)
 
 module _ (ws : Words) where
-  pub tidied-alone : composes (exchanged ws) ≡ false → tidied ws ≡ tidyRest 0 0 true [] (exchanged ws)
-  unfolding tidied ellipsoid composes tidyRest scaling
+  pub tidied-alone : composes (exchanged ws) ≡ false → tidied ws ≡ tidy_rest 0 0 true [] (exchanged ws)
+  unfolding tidied ellipsoid composes tidy_rest scaling
   tidied-alone e =
       rw (e, without-none (ascii "a=") (exchanged ws) 0 refl, without-none (ascii "rf=") (exchanged ws) 0 refl, append-nil (exchanged ws))
 
   module _ (a : has_key (ascii "a=") (exchanged ws) ≡ true) (r : has_key (ascii "rf=") (exchanged ws) ≡ true) where
-    rf-left : has_key (ascii "rf=") (withoutLast (ascii "a=") (exchanged ws)) ≡ true
+    rf-left : has_key (ascii "rf=") (without_last (ascii "a=") (exchanged ws)) ≡ true
     rf-left =
-        has-count (ascii "rf=") (withoutLast (ascii "a=") (exchanged ws)) ∙ ap (ltb 0) (without-key (ascii "a=") (ascii "rf=") a-no-rf (exchanged ws) a)
+        has-count (ascii "rf=") (without_last (ascii "a=") (exchanged ws)) ∙ ap (ltb 0) (without-key (ascii "a=") (ascii "rf=") a-no-rf (exchanged ws) a)
         ∙ sym (has-count (ascii "rf=") (exchanged ws)) ∙ r
 
     pub tidied-composed : has_key (ascii "ellps=") (exchanged ws) ≡ false
-        → tidied ws ≡ tidyRest (count_of (ascii "a=") (exchanged ws)) (count_of (ascii "rf=") (exchanged ws)) true
-        (ellpsOf (drop 2 (last_of (ascii "a=") (exchanged ws))) (drop 3 (last_of (ascii "rf=") (exchanged ws))) ∷ []) (exchanged ws)
-    unfolding tidied ellipsoid composed tidyRest scaling ellpsOf
+        → tidied ws ≡ tidy_rest (count_of (ascii "a=") (exchanged ws)) (count_of (ascii "rf=") (exchanged ws)) true
+        (ellps_of (drop 2 (last_of (ascii "a=") (exchanged ws))) (drop 3 (last_of (ascii "rf=") (exchanged ws))) ∷ []) (exchanged ws)
+    unfolding tidied ellipsoid composed tidy_rest scaling ellps_of
     tidied-composed e =
         rw (
           e,
@@ -314,5 +314,5 @@ module _ (ws : Words) where
           r,
           without-count (ascii "a=") (exchanged ws) a,
           ← without-key (ascii "a=") (ascii "rf=") a-no-rf (exchanged ws) a,
-          without-count (ascii "rf=") (withoutLast (ascii "a=") (exchanged ws)) rf-left,
+          without-count (ascii "rf=") (without_last (ascii "a=") (exchanged ws)) rf-left,
         )

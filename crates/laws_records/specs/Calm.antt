@@ -8,7 +8,7 @@ use mathlib.Core.List.{List, [], ◌∷◌, ◌++◌}
 use borrow.Author.Tests.{eqb-true, ltb-true, not-true}
 use Rattle.rules.specs.Text.Ascii.{ascii, is}
 use Rattle.rules.specs.Text.Lists.{any_of, all_of}
-use Rattle.rules.specs.Text.Bytes.{Bytes, starts, replaceFrom, replace, afterEach}
+use Rattle.rules.specs.Text.Bytes.{Bytes, starts, replace_from, replace, after_each}
 use Rattle.rules.specs.Text.Normal.{Replacement, run}
 use Rattle.laws_lists.specs.Tests.{and_left, and_right, below, below_at}
 
@@ -135,22 +135,22 @@ unfoldable pub gap : Bytes → Bool
 gap sep = below 127 (λ p. so (firm p) (quiet p sep))
 
 module _ (sep : Bytes) (g : gap sep ≡ true) where
-  pub after-stands : (p : ℕ) (ws : List Bytes) → firm p ≡ true → all_of calm ws ≡ true → Stands p (afterEach sep ws)
-  unfolding gap all_of afterEach
+  pub after-stands : (p : ℕ) (ws : List Bytes) → firm p ≡ true → all_of calm ws ≡ true → Stands p (after_each sep ws)
+  unfolding gap all_of after_each
   after-stands p [] h a = record { quietly = unfold quiet in refl; ends = unfold end_of in h }
   after-stands p (w ∷ ws) h a =
       let s = calm-stands (end_of p sep) w (and_left (calm w) (all_of calm ws) a) in
-      stands-append p sep (w ++ afterEach sep ws) (firm-so (λ p. quiet p sep) g p h)
-      (stands-append (end_of p sep) w (afterEach sep ws) s.quietly (after-stands (end_of (end_of p sep) w) ws s.ends (and_right (calm w) (all_of calm ws) a)))
+      stands-append p sep (w ++ after_each sep ws) (firm-so (λ p. quiet p sep) g p h)
+      (stands-append (end_of p sep) w (after_each sep ws) s.quietly (after-stands (end_of (end_of p sep) w) ws s.ends (and_right (calm w) (all_of calm ws) a)))
 
   -- calm texts with it between are a calm text
-  pub joined-calm : (w : Bytes) (ws : List Bytes) → calm w ≡ true → all_of calm ws ≡ true → calm (w ++ afterEach sep ws) ≡ true
+  pub joined-calm : (w : Bytes) (ws : List Bytes) → calm w ≡ true → all_of calm ws ≡ true → calm (w ++ after_each sep ws) ≡ true
   unfolding calm
   joined-calm [] ws h a = absurd (false≢true h)
   joined-calm (x ∷ t) ws h a =
       let r = and_right (firm x) (quiet x t && firm (end_of x t)) h in
       let e = after-stands (end_of x t) ws (and_right (quiet x t) (firm (end_of x t)) r) a in
-      let s = stands-append x t (afterEach sep ws) (and_left (quiet x t) (firm (end_of x t)) r) e in
+      let s = stands-append x t (after_each sep ws) (and_left (quiet x t) (firm (end_of x t)) r) e in
       rw (and_left (firm x) _ h, s.quietly) s.ends
 
 -- ---- no replacement finds what it looks for
@@ -200,8 +200,8 @@ pub quiet-rest : (x y : ℕ) (t : Bytes) → quiet x (y ∷ t) ≡ true → quie
 unfolding quiet
 quiet-rest x y t q = and_right (follows x y) (quiet y t) q
 
-replace-from : (old new : Bytes) → shut old ≡ true → (x : ℕ) (t : Bytes) → known x ≡ true → quiet x t ≡ true → replaceFrom zero old new (x ∷ t) ≡ x ∷ t
-unfolding replaceFrom
+replace-from : (old new : Bytes) → shut old ≡ true → (x : ℕ) (t : Bytes) → known x ≡ true → quiet x t ≡ true → replace_from zero old new (x ∷ t) ≡ x ∷ t
+unfolding replace_from
 replace-from old new s x [] k q = rw (never-starts old x [] s k q)
 replace-from old new s x (y ∷ t) k q =
     rw (never-starts old x (y ∷ t) s k q)

@@ -10,10 +10,10 @@ use Rattle.rules.specs.Text.Ascii.{ascii, is}
 use Rattle.rules.specs.Text.Lists.{any_of, all_of}
 use Rattle.rules.specs.Text.Bytes.{Bytes, Words, same}
 use Rattle.rules.specs.Text.Refusal.{answers}
-use Rattle.rules.specs.Text.Parameters.{Parameter, parameter, name, precedes, enteredBy, enteredAllBy, entered, enteredAll}
-use Rattle.rules.specs.Pipeline.Keys.{kind_of, unknown, misspelt, tooLong}
+use Rattle.rules.specs.Text.Parameters.{Parameter, parameter, name, precedes, entered_by, entered_all_by, entered, entered_all}
+use Rattle.rules.specs.Pipeline.Keys.{kind_of, unknown, misspelt, too_long}
 use Rattle.rules.specs.Operators.Arguments.{value_of}
-use Rattle.rules.specs.Pipeline.Prepare.{ownRule, judged14, judged11, named, judged10, judged}
+use Rattle.rules.specs.Pipeline.Prepare.{own_rule, judged14, judged11, named, judged10, judged}
 use Rattle.rules.specs.declared.Mode.{Mode}
 use Rattle.rules.specs.declared.Step.{Step}
 use Rattle.rules.specs.declared.Name.{Name}
@@ -37,7 +37,7 @@ apart k p q v w r n false true e f = refl
 apart k p q v w r n false false e f = refl
 
 value-entered : (k : Bytes) (p : Parameter) (l : List Parameter) → value_of k (entered p l) ≡ cond (same k p.key) (some p.value) (value_of k l)
-unfolding value_of enteredBy
+unfolding value_of entered_by
 value-entered k p [] = refl
 value-entered k p (q ∷ l) = go (same p.key q.key) (precedes p.key q.key) refl (value-entered k p l)
   where
@@ -55,8 +55,8 @@ unfoldable pub latest : Bytes → List Parameter → Option Bytes → Option Byt
 latest k [] r = r
 latest k (p ∷ ps) r = latest k ps (cond (same k p.key) (some p.value) r)
 
-value-all : (k : Bytes) (ps l : List Parameter) → value_of k (enteredAll ps l) ≡ latest k ps (value_of k l)
-unfolding enteredAllBy latest
+value-all : (k : Bytes) (ps l : List Parameter) → value_of k (entered_all ps l) ≡ latest k ps (value_of k l)
+unfolding entered_all_by latest
 value-all k [] l = refl
 value-all k (p ∷ ps) l = value-all k ps (entered p l) ∙ ap (latest k ps) (value-entered k p l)
 
@@ -69,7 +69,7 @@ latest-append k (p ∷ ps) qs r = latest-append k ps qs (cond (same k p.key) (so
 
 module _ (test : Parameter → Bool) where
   any-entered : (p : Parameter) (l : List Parameter) → test p ≡ false → any_of test l ≡ false → any_of test (entered p l) ≡ false
-  unfolding any_of enteredBy
+  unfolding any_of entered_by
   any-entered p [] h e = rw h
   any-entered p (q ∷ l) h e = go (same p.key q.key) (precedes p.key q.key) (any-entered p l h (or_right (test q) (any_of test l) e))
     where
@@ -78,8 +78,8 @@ module _ (test : Parameter → Bool) where
       go false true f = rw h e
       go false false f = rw (or_left (test q) (any_of test l) e) f
 
-  any-all : (ps l : List Parameter) → any_of test ps ≡ false → any_of test l ≡ false → any_of test (enteredAll ps l) ≡ false
-  unfolding any_of enteredAllBy
+  any-all : (ps l : List Parameter) → any_of test ps ≡ false → any_of test l ≡ false → any_of test (entered_all ps l) ≡ false
+  unfolding any_of entered_all_by
   any-all [] l h e = e
   any-all (p ∷ ps) l h e = any-all ps (entered p l) (or_right (test p) (any_of test ps) h) (any-entered p l (or_left (test p) (any_of test ps) h) e)
 
@@ -103,7 +103,7 @@ any-or-right f g (p ∷ l) h =
 -- ---- how many they are
 
 entered-length : (p : Parameter) (l : List Parameter) → length (entered p l) ≤ suc (length l)
-unfolding enteredBy
+unfolding entered_by
 entered-length p [] = le_refl 1
 entered-length p (q ∷ l) = go (same p.key q.key) (precedes p.key q.key) (entered-length p l)
   where
@@ -112,8 +112,8 @@ entered-length p (q ∷ l) = go (same p.key q.key) (precedes p.key q.key) (enter
     go false true h = omega arith
     go false false h = omega arith
 
-pub all-length : (ps l : List Parameter) → length (enteredAll ps l) ≤ length ps + length l
-unfolding enteredAllBy
+pub all-length : (ps l : List Parameter) → length (entered_all ps l) ≤ length ps + length l
+unfolding entered_all_by
 all-length [] l = omega arith
 all-length (p ∷ ps) l = omega (arith, all-length ps (entered p l), entered-length p l)
 
@@ -136,21 +136,21 @@ unfoldable pub picked : Bytes → List Flag → Option Bytes → Option Bytes
 picked k [] r = r
 picked k (f ∷ fs) r = picked k fs (cond (same k f.word) (cond f.given (some (ascii "true")) r) r)
 
-unfoldable pub bareFlags : List Flag → Bool
-bareFlags fs = all_of (λ (f : Flag). lacks (is "=") f.word) fs
+unfoldable pub bare_flags : List Flag → Bool
+bare_flags fs = all_of (λ (f : Flag). lacks (is "=") f.word) fs
 
 pub parameter-bare : (w : Bytes) → lacks (is "=") w ≡ true → parameter w ≡ bare w
 unfolding parameter bare lacks
 parameter-bare w h = rw (not-true (any_of (is "=") w) h)
 
-pub latest-chosen : (k : Bytes) (fs : List Flag) (r : Option Bytes) → bareFlags fs ≡ true → latest k (map parameter (chosen fs)) r ≡ picked k fs r
-unfolding bareFlags all_of chosen latest picked bare
+pub latest-chosen : (k : Bytes) (fs : List Flag) (r : Option Bytes) → bare_flags fs ≡ true → latest k (map parameter (chosen fs)) r ≡ picked k fs r
+unfolding bare_flags all_of chosen latest picked bare
 latest-chosen k [] r h = refl
 latest-chosen k (f ∷ fs) r h =
     go f.given (same k f.word) refl (latest-chosen k fs) (parameter-bare f.word (and_left (lacks (is "=") f.word) _ h)) (and_right (lacks (is "=") f.word) _ h)
   where
-    go : (g b : Bool) → same k f.word ≡ b → ((r : Option Bytes) → bareFlags fs ≡ true → latest k (map parameter (chosen fs)) r ≡ picked k fs r)
-        → parameter f.word ≡ bare f.word → bareFlags fs ≡ true
+    go : (g b : Bool) → same k f.word ≡ b → ((r : Option Bytes) → bare_flags fs ≡ true → latest k (map parameter (chosen fs)) r ≡ picked k fs r)
+        → parameter f.word ≡ bare f.word → bare_flags fs ≡ true
         → latest k (map parameter (cond g (f.word ∷ chosen fs) (chosen fs))) r ≡ picked k fs (cond b (cond g (some (ascii "true")) r) r)
     go true b e ih p a =
         ap (λ (q : Parameter). latest k (map parameter (chosen fs)) (cond (same k q.key) (some q.value) r)) p
@@ -159,8 +159,8 @@ latest-chosen k (f ∷ fs) r h =
     go false true e ih p a = ih r a
     go false false e ih p a = ih r a
 
-pub any-chosen : (test : Parameter → Bool) (fs : List Flag) → bareFlags fs ≡ true → any_of (λ (f : Flag). test (bare f.word)) fs ≡ false → any_of test (map parameter (chosen fs)) ≡ false
-unfolding bareFlags all_of any_of chosen
+pub any-chosen : (test : Parameter → Bool) (fs : List Flag) → bare_flags fs ≡ true → any_of (λ (f : Flag). test (bare f.word)) fs ≡ false → any_of test (map parameter (chosen fs)) ≡ false
+unfolding bare_flags all_of any_of chosen
 any-chosen test [] h e = refl
 any-chosen test (f ∷ fs) h e =
     go f.given (parameter-bare f.word (and_left (lacks (is "=") f.word) _ h))
@@ -175,28 +175,28 @@ any-chosen test (f ∷ fs) h e =
 
 -- 11, 12 or 13 of one parameter
 unfoldable pub faulty : Name → Parameter → Bool
-faulty n p = unknown n p || (misspelt (kind_of n p) p.value || tooLong (kind_of n p) p.value)
+faulty n p = unknown n p || (misspelt (kind_of n p) p.value || too_long (kind_of n p) p.value)
 
 module _ (w : Bytes) (own : List Parameter) (fs : List Flag) where
   -- the table of a step with that name, parameters of its own, and flags
-  unfoldable pub tableFrom : List Parameter
-  tableFrom = enteredAll (name w ∷ (own ++ map parameter (chosen fs))) []
+  unfoldable pub table_from : List Parameter
+  table_from = entered_all (name w ∷ (own ++ map parameter (chosen fs))) []
 
   -- the value of a key in it
   unfoldable pub look : Bytes → Option Bytes
   look k = picked k fs (latest k own (cond (same k (ascii "_name")) (some w) none))
 
-module _ (w : Bytes) (own : List Parameter) (fs : List Flag) (b : bareFlags fs ≡ true) where
-  pub looked : (k : Bytes) → value_of k (tableFrom w own fs) ≡ look w own fs k
-  unfolding tableFrom look name
+module _ (w : Bytes) (own : List Parameter) (fs : List Flag) (b : bare_flags fs ≡ true) where
+  pub looked : (k : Bytes) → value_of k (table_from w own fs) ≡ look w own fs k
+  unfolding table_from look name
   looked k =
       value-all k (name w ∷ (own ++ map parameter (chosen fs))) []
       ∙ unfold latest value_of name in (latest-append k own (map parameter (chosen fs)) (cond (same k (ascii "_name")) (some w) none))
       ∙ latest-chosen k fs (latest k own (cond (same k (ascii "_name")) (some w) none)) b
 
   table-faultless : (n : Name) → any_of (faulty n) (name w ∷ own) ≡ false → any_of (λ (f : Flag). faulty n (bare f.word)) fs ≡ false
-      → any_of (faulty n) (tableFrom w own fs) ≡ false
-  unfolding tableFrom
+      → any_of (faulty n) (table_from w own fs) ≡ false
+  unfolding table_from
   table-faultless n o f =
       let z : any_of (faulty n) [] ≡ false = unfold any_of in refl in
       any-all (faulty n) (name w ∷ (own ++ map parameter (chosen fs))) [] (any_append (faulty n) (name w ∷ own) (map parameter (chosen fs)) o (any-chosen (faulty n) fs b f)) z
@@ -206,17 +206,17 @@ abbrev astray : Name → Parameter → Bool
 astray n p = misspelt (kind_of n p) p.value
 
 abbrev over : Name → Parameter → Bool
-over n p = tooLong (kind_of n p) p.value
+over n p = too_long (kind_of n p) p.value
 
-faultless-judged : (mode : Mode) (n : Name) (ps : List Parameter) → any_of (faulty n) ps ≡ false → judged11 mode n ps ≡ judged14 (ownRule mode n ps)
+faultless-judged : (mode : Mode) (n : Name) (ps : List Parameter) → any_of (faulty n) ps ≡ false → judged11 mode n ps ≡ judged14 (own_rule mode n ps)
 unfolding judged11 faulty
 faultless-judged mode n ps h =
     let r = any-or-right (unknown n) (λ p. astray n p || over n p) ps h in
     rw (any-or-left (unknown n) (λ p. astray n p || over n p) ps h, any-or-left (astray n) (over n) ps r, any-or-right (astray n) (over n) ps r)
 
-module _ (mode : Mode) (w : Bytes) (own : List Parameter) (fs : List Flag) (b : bareFlags fs ≡ true) where
+module _ (mode : Mode) (w : Bytes) (own : List Parameter) (fs : List Flag) (b : bare_flags fs ≡ true) where
   pub table-judged : (n : Name) (s : Step) → named (look w own fs (ascii "_name")) ≡ Is n → any_of (faulty n) (name w ∷ own) ≡ false
-      → any_of (λ (f : Flag). faulty n (bare f.word)) fs ≡ false → ownRule mode n (tableFrom w own fs) ≡ some s → judged mode (tableFrom w own fs) ≡ answers s
+      → any_of (λ (f : Flag). faulty n (bare f.word)) fs ≡ false → own_rule mode n (table_from w own fs) ≡ some s → judged mode (table_from w own fs) ≡ answers s
   unfolding judged judged10 judged14
   table-judged n s e o f r =
-      rw (looked w own fs b (ascii "_name"), e) (faultless-judged mode n (tableFrom w own fs) (table-faultless w own fs b n o f) ∙ ap judged14 r)
+      rw (looked w own fs b (ascii "_name"), e) (faultless-judged mode n (table_from w own fs) (table-faultless w own fs b n o f) ∙ ap judged14 r)

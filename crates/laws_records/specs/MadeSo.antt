@@ -3,8 +3,8 @@ use Rattle.std.specs.Prelude.{◌≡◌, ◌≤◌, true, leb, eqb, ℤ}
 use Rattle.std.proofs.Common.{leb-true}
 use Rattle.rules.specs.Text.Lists.{all_of}
 use Rattle.rules.specs.Operators.Arguments.{size}
-use Rattle.rules.specs.Operators.Table.{isArgs, greatest}
-use Rattle.rules.specs.Pipeline.Record.{made, operator, args, unused, nineDigits}
+use Rattle.rules.specs.Operators.Table.{is_args, greatest}
+use Rattle.rules.specs.Pipeline.Record.{made, operator, args, unused, nine_digits}
 use Rattle.rules.specs.declared.Step.{Step}
 use Rattle.laws_lists.specs.Tests.{and_left, and_right}
 
@@ -16,8 +16,8 @@ pub record Made (s : Step) : Type 0 where
   pub inverse : leb s.omit_inv 1 ≡ true
   pub reading : leb s.reading 1 ≡ true
   pub zeros : all_of (λ (x : ℤ). eqb (size x) 0) (unused s) ≡ true
-  pub digits : all_of nineDigits (args s) ≡ true
-  pub rule : isArgs (operator s) (args s) ≡ true
+  pub digits : all_of nine_digits (args s) ≡ true
+  pub rule : is_args (operator s) (args s) ≡ true
 
 pub made_so : (s : Step) → made s ≡ true → Made s
 unfolding made
@@ -37,6 +37,6 @@ made_so s h =
       inverse = and_left (leb s.omit_inv 1) _ b;
       reading = and_left (leb s.reading 1) _ r;
       zeros = and_left (all_of (λ (x : ℤ). eqb (size x) 0) (unused s)) _ u;
-      digits = and_left (all_of nineDigits (args s)) _ a;
-      rule = and_right (all_of nineDigits (args s)) _ a;
+      digits = and_left (all_of nine_digits (args s)) _ a;
+      rule = and_right (all_of nine_digits (args s)) _ a;
     }

@@ -7,16 +7,16 @@ use Rattle.rules.specs.Text.Ascii.{ascii}
 use Rattle.rules.specs.Text.Lists.{any_of}
 use Rattle.rules.specs.Text.Bytes.{Bytes}
 use Rattle.rules.specs.Text.Refusal.{Reply, answers, refuses, refuses12, and_then}
-use Rattle.rules.specs.Text.Split.{steps, splitSteps}
+use Rattle.rules.specs.Text.Split.{steps, split_steps}
 use Rattle.rules.specs.Text.Reader.{spans}
-use Rattle.rules.specs.Text.Parameters.{Parameter, parametersOf}
+use Rattle.rules.specs.Text.Parameters.{Parameter, parameters_of}
 use Rattle.rules.specs.Operators.Arguments.{value_of}
 use Rattle.rules.specs.Operators.Descriptions.{choose}
-use Rattle.rules.specs.Operators.Adapt.{Word, wordGiven, between}
-use Rattle.rules.specs.Operators.Documented.{adaptIn, combinedIn}
-use Rattle.rules.specs.Pipeline.Record.{inReading, withSpans}
-use Rattle.rules.specs.Pipeline.Keys.{kind_of, unknown, misspelt, tooLong}
-use Rattle.rules.specs.Pipeline.Prepare.{recorded, ownRule, judged14, judged11, named, judged10, judged, offsetIn, atStep, prepareStep, prepareSteps, prepareSplit, prepareIn, prepareAs}
+use Rattle.rules.specs.Operators.Adapt.{Word, word_given, between}
+use Rattle.rules.specs.Operators.Documented.{adapt_in, combined_in}
+use Rattle.rules.specs.Pipeline.Record.{in_reading, with_spans}
+use Rattle.rules.specs.Pipeline.Keys.{kind_of, unknown, misspelt, too_long}
+use Rattle.rules.specs.Pipeline.Prepare.{recorded, own_rule, judged14, judged11, named, judged10, judged, offset_in, at_step, prepare_step, prepare_steps, prepare_split, prepare_in, prepare_as}
 use Rattle.rules.specs.declared.Mode.{Mode}
 use Rattle.rules.specs.declared.Reading.{Reading}
 use Rattle.rules.specs.declared.Step.{Step}
@@ -50,20 +50,20 @@ if-alike false r s t h = h
 module _ (m k : Mode) where
   -- ---- one step
 
-  adapt-alike : (ps : List Parameter) → Alike (judged14 (ownRule m name-is.Adapt ps)) (judged14 (ownRule k name-is.Adapt ps))
-  unfolding ownRule
-  adapt-alike ps = go (wordGiven (value_of (ascii "from") ps)) (wordGiven (value_of (ascii "to") ps))
+  adapt-alike : (ps : List Parameter) → Alike (judged14 (own_rule m name-is.Adapt ps)) (judged14 (own_rule k name-is.Adapt ps))
+  unfolding own_rule
+  adapt-alike ps = go (word_given (value_of (ascii "from") ps)) (word_given (value_of (ascii "to") ps))
     where
-      go : (v w : Option Word) → Alike (judged14 (recorded ps (choose (adaptIn m) (between (combinedIn m) v w)))) (judged14 (recorded ps (choose (adaptIn k) (between (combinedIn k) v w))))
+      go : (v w : Option Word) → Alike (judged14 (recorded ps (choose (adapt_in m) (between (combined_in m) v w)))) (judged14 (recorded ps (choose (adapt_in k) (between (combined_in k) v w))))
       go none w = unfold between choose recorded judged14 in refuse 14 0
       go (some v) none = unfold between choose recorded judged14 in refuse 14 0
       go (some v) (some w) = unfold between choose recorded judged14 in answer _ _
 
-  own-alike : (n : Name) (ps : List Parameter) → Alike (judged14 (ownRule m n ps)) (judged14 (ownRule k n ps))
-  own-alike name-is.Push ps = unfold ownRule in same _
-  own-alike name-is.Pop ps = unfold ownRule in same _
-  own-alike name-is.Stack ps = unfold ownRule in same _
-  own-alike name-is.Axisswap ps = unfold ownRule in same _
+  own-alike : (n : Name) (ps : List Parameter) → Alike (judged14 (own_rule m n ps)) (judged14 (own_rule k n ps))
+  own-alike name-is.Push ps = unfold own_rule in same _
+  own-alike name-is.Pop ps = unfold own_rule in same _
+  own-alike name-is.Stack ps = unfold own_rule in same _
+  own-alike name-is.Axisswap ps = unfold own_rule in same _
   own-alike name-is.Adapt ps = adapt-alike ps
 
   judged-alike : (ps : List Parameter) → Alike (judged m ps) (judged k ps)
@@ -76,10 +76,10 @@ module _ (m k : Mode) where
           unfold judged10 judged11 in
           if-alike (any_of (unknown n) ps) _ _ _
           (if-alike (any_of (λ (p : Parameter). misspelt (kind_of n p) p.value) ps) _ _ _
-          (if-alike (any_of (λ (p : Parameter). tooLong (kind_of n p) p.value) ps) _ _ _ (own-alike n ps)))
+          (if-alike (any_of (λ (p : Parameter). too_long (kind_of n p) p.value) ps) _ _ _ (own-alike n ps)))
 
-  at-alike : (place offset : ℕ) {r s : Reply Step} → Alike r s → Alike (atStep place offset r) (atStep place offset s)
-  unfolding atStep
+  at-alike : (place offset : ℕ) {r s : Reply Step} → Alike r s → Alike (at_step place offset r) (at_step place offset s)
+  unfolding at_step
   at-alike place offset (answer x y) = answer x y
   at-alike place offset (refuse n p) = refuse n place
   at-alike place offset (refuse-12 p o) = refuse-12 place offset
@@ -90,33 +90,33 @@ module _ (m k : Mode) where
   ps-alike (refuses n p) = refuse n p
   ps-alike (refuses12 p o) = refuse-12 p o
 
-  step-alike : (place : ℕ) (t : Bytes) → Alike (prepareStep m place t) (prepareStep k place t)
-  unfolding prepareStep
-  step-alike place t = at-alike place (offsetIn t) (if-alike (ltb 4096 (length t)) _ _ _ (ps-alike (parametersOf t)))
+  step-alike : (place : ℕ) (t : Bytes) → Alike (prepare_step m place t) (prepare_step k place t)
+  unfolding prepare_step
+  step-alike place t = at-alike place (offset_in t) (if-alike (ltb 4096 (length t)) _ _ _ (ps-alike (parameters_of t)))
 
   -- ---- all steps
 
-  steps_alike : (place : ℕ) (ts : List Bytes) → Alike (prepareSteps m place ts) (prepareSteps k place ts)
-  unfolding prepareSteps
+  steps_alike : (place : ℕ) (ts : List Bytes) → Alike (prepare_steps m place ts) (prepare_steps k place ts)
+  unfolding prepare_steps
   steps_alike place [] = answer [] []
   steps_alike place (t ∷ ts) =
       then-alike (step-alike place t) _ _ (λ x y. then-alike (steps_alike (suc place) ts) _ _ (λ l n. answer (x ∷ l) (y ∷ n)))
 
-  split-alike : (r : Reply (List Bytes)) → Alike (and_then r (prepareSteps m 1)) (and_then r (prepareSteps k 1))
+  split-alike : (r : Reply (List Bytes)) → Alike (and_then r (prepare_steps m 1)) (and_then r (prepare_steps k 1))
   unfolding and_then
   split-alike (answers ts) = steps_alike 1 ts
   split-alike (refuses n p) = refuse n p
   split-alike (refuses12 p o) = refuse-12 p o
 
-  in-alike : (t : Bytes) → Alike (prepareIn m t) (prepareIn k t)
-  unfolding prepareIn prepareSplit
-  in-alike t = then-alike (split-alike (splitSteps (steps t))) _ _ (λ x y. answer (withSpans (spans t) x) (withSpans (spans t) y))
+  in-alike : (t : Bytes) → Alike (prepare_in m t) (prepare_in k t)
+  unfolding prepare_in prepare_split
+  in-alike t = then-alike (split-alike (split_steps (steps t))) _ _ (λ x y. answer (with_spans (spans t) x) (with_spans (spans t) y))
 
-  prepare-alike : (r : Reading) (t : Bytes) → Alike (prepareAs r m t) (prepareAs r k t)
-  unfolding prepareAs
-  prepare-alike r t = then-alike (in-alike t) _ _ (λ x y. answer (map (inReading r) x) (map (inReading r) y))
+  prepare-alike : (r : Reading) (t : Bytes) → Alike (prepare_as r m t) (prepare_as r k t)
+  unfolding prepare_as
+  prepare-alike r t = then-alike (in-alike t) _ _ (λ x y. answer (map (in_reading r) x) (map (in_reading r) y))
 
-  pub same-refusal : (r : Reading) (t : Bytes) (number place : ℕ) → prepareAs r m t ≡ refuses number place → prepareAs r k t ≡ refuses number place
+  pub same-refusal : (r : Reading) (t : Bytes) (number place : ℕ) → prepare_as r m t ≡ refuses number place → prepare_as r k t ≡ refuses number place
   same-refusal r t number place h = go (prepare-alike r t) h
     where
       go : {x y : Reply (List Step)} → Alike x y → x ≡ refuses number place → y ≡ refuses number place
@@ -124,7 +124,7 @@ module _ (m k : Mode) where
       go (refuse n p) h = h
       go (refuse-12 p o) h = h
 
-  pub same-refusal-12 : (r : Reading) (t : Bytes) (place offset : ℕ) → prepareAs r m t ≡ refuses12 place offset → prepareAs r k t ≡ refuses12 place offset
+  pub same-refusal-12 : (r : Reading) (t : Bytes) (place offset : ℕ) → prepare_as r m t ≡ refuses12 place offset → prepare_as r k t ≡ refuses12 place offset
   same-refusal-12 r t place offset h = go (prepare-alike r t) h
     where
       go : {x y : Reply (List Step)} → Alike x y → x ≡ refuses12 place offset → y ≡ refuses12 place offset

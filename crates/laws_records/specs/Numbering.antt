@@ -2,11 +2,11 @@
 use Rattle.std.specs.Prelude.{◌≡◌, refl, ℕ, suc, ◌≤◌, eqb}
 use Rattle.std.proofs.Common.{arith, eqb-true, lit≤}
 use Rattle.rules.specs.Operators.Descriptions.{Operator, Push, Pop, StackPush, StackPop, StackFlip, StackRoll, StackUnroll, StackSwap, StackDrop, Axisswap, Adapt, Documented}
-use Rattle.rules.specs.Operators.Table.{number_of, operatorOf, greatest}
+use Rattle.rules.specs.Operators.Table.{number_of, operator_of, greatest}
 use Rattle.laws_lists.specs.Tests.{below, below_at}
 
-pub operator-number : (o : Operator) → operatorOf (number_of o) ≡ o
-unfolding operatorOf number_of
+pub operator-number : (o : Operator) → operator_of (number_of o) ≡ o
+unfolding operator_of number_of
 operator-number Push = refl
 operator-number Pop = refl
 operator-number StackPush = refl
@@ -20,9 +20,9 @@ operator-number Axisswap = refl
 operator-number Adapt = refl
 operator-number Documented = refl
 
-pub number-operator : (k : ℕ) → k ≤ greatest → number_of (operatorOf k) ≡ k
-unfolding operatorOf number_of below
-number-operator k h = eqb-true (number_of (operatorOf k)) k (below_at (suc greatest) (λ (k : ℕ). eqb (number_of (operatorOf k)) k) refl k (omega arith))
+pub number-operator : (k : ℕ) → k ≤ greatest → number_of (operator_of k) ≡ k
+unfolding operator_of number_of below
+number-operator k h = eqb-true (number_of (operator_of k)) k (below_at (suc greatest) (λ (k : ℕ). eqb (number_of (operator_of k)) k) refl k (omega arith))
 
 pub number_small : (o : Operator) → number_of o ≤ greatest
 unfolding number_of

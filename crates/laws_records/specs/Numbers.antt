@@ -10,10 +10,10 @@ use borrow.Author.Tests.{leb-true, le-leb, ltb-true, ltb-false, not-true}
 use Rattle.std.proofs.Math.ListN.{length-append}
 use Rattle.rules.specs.Text.Ascii.{ascii, is}
 use Rattle.rules.specs.Text.Lists.{any_of, all_of}
-use Rattle.rules.specs.Text.Bytes.{Bytes, joinedBy}
-use Rattle.rules.specs.Text.Decimal.{digit, digitsTo, spelled, plainForm, plain, decimal, pieces, numberThen, allNumbers, series, is_whole, signed, minus, whole_of}
+use Rattle.rules.specs.Text.Bytes.{Bytes, joined_by}
+use Rattle.rules.specs.Text.Decimal.{digit, digits_to, spelled, plain_form, plain, decimal, pieces, number_then, all_numbers, series, is_whole, signed, minus, whole_of}
 use Rattle.rules.specs.Operators.Arguments.{size, wholes, spelling, listing}
-use Rattle.rules.specs.Pipeline.Record.{nineDigits}
+use Rattle.rules.specs.Pipeline.Record.{nine_digits}
 use Rattle.rules.specs.declared.Decimal.{Decimal}
 use Rattle.rules.specs.declared.Number.TheVariants.{Is}
 use Rattle.rules.specs.Text.Numerals.{digits}
@@ -89,7 +89,7 @@ unfoldable pub whole : ℤ → Decimal
 whole x = record { minus = minus x; whole = size x; millionths = 0 }
 
 plain-digits : (m : Bool) (n : ℕ) → n ≤ 999999999 → plain m (digits n) ≡ Is (record { minus = m; whole = n; millionths = 0 })
-unfolding plain plainForm digitsTo spelled
+unfolding plain plain_form digits_to spelled
 plain-digits m n h =
     let t = digits n in
     let s = nine-spell n h in
@@ -106,8 +106,8 @@ unsigned (b ∷ t) a h =
     let e : eqb b 45 ≡ false = not-true (eqb b 45) (unfold below so digit in digit-so (λ b. not (eqb b 45)) refl b (and_left (digit b) (all_of digit t) a)) in
     rw e
 
-pub decimal-spelling : (x : ℤ) → nineDigits x ≡ true → decimal (spelling x) ≡ Is (whole x)
-unfolding spelling whole minus nineDigits
+pub decimal-spelling : (x : ℤ) → nine_digits x ≡ true → decimal (spelling x) ≡ Is (whole x)
+unfolding spelling whole minus nine_digits
 decimal-spelling (pos n) h =
     let l = leb-true n 999999999 h in
     let s = nine-spell n l in
@@ -116,10 +116,10 @@ decimal-spelling (negsuc n) h = unfold ascii decimal in plain-digits true (suc n
 
 -- ---- lists of them
 
-all-spelled : (l : List ℤ) → all_of nineDigits l ≡ true → allNumbers (map spelling l) ≡ some (map whole l)
-unfolding all_of allNumbers numberThen
+all-spelled : (l : List ℤ) → all_of nine_digits l ≡ true → all_numbers (map spelling l) ≡ some (map whole l)
+unfolding all_of all_numbers number_then
 all-spelled [] h = refl
-all-spelled (x ∷ l) h = rw (decimal-spelling x (and_left (nineDigits x) _ h), all-spelled l (and_right (nineDigits x) _ h))
+all-spelled (x ∷ l) h = rw (decimal-spelling x (and_left (nine_digits x) _ h), all-spelled l (and_right (nine_digits x) _ h))
 
 whole_again : (x : ℤ) → whole_of (whole x) ≡ x
 unfolding whole_of whole signed minus
@@ -143,8 +143,8 @@ pub record Firmly (t : Bytes) : Type 0 where
   pub firmly : all_of firm t ≡ true
   pub not-empty : 1 ≤ length t
 
-spelling-firm : (x : ℤ) → nineDigits x ≡ true → Firmly (spelling x)
-unfolding spelling minus nineDigits
+spelling-firm : (x : ℤ) → nine_digits x ≡ true → Firmly (spelling x)
+unfolding spelling minus nine_digits
 spelling-firm (pos n) h =
     let s = nine-spell n (leb-true n 999999999 h) in
     record { firmly = firm-digits (digits n) s.ones; not-empty = s.some_of }
@@ -173,21 +173,21 @@ firm-lacks test h [] a = refl
 firm-lacks test h (x ∷ t) a =
     rw (not-true (test x) (firm-so (λ b. not (test b)) h x (and_left (firm x) _ a))) (firm-lacks test h t (and_right (firm x) _ a))
 
-all-calm : (l : List ℤ) → all_of nineDigits l ≡ true → all_of calm (map spelling l) ≡ true
+all-calm : (l : List ℤ) → all_of nine_digits l ≡ true → all_of calm (map spelling l) ≡ true
 unfolding all_of
 all-calm [] h = refl
-all-calm (x ∷ l) h = rw (firm-calm (spelling x) (spelling-firm x (and_left (nineDigits x) _ h))) (all-calm l (and_right (nineDigits x) _ h))
+all-calm (x ∷ l) h = rw (firm-calm (spelling x) (spelling-firm x (and_left (nine_digits x) _ h))) (all-calm l (and_right (nine_digits x) _ h))
 
-pub spelling-lacks : (test : ℕ → Bool) → below 127 (λ b. so (firm b) (not (test b))) ≡ true → (l : List ℤ) → all_of nineDigits l ≡ true → all_of (lacks test) (map spelling l) ≡ true
+pub spelling-lacks : (test : ℕ → Bool) → below 127 (λ b. so (firm b) (not (test b))) ≡ true → (l : List ℤ) → all_of nine_digits l ≡ true → all_of (lacks test) (map spelling l) ≡ true
 unfolding all_of
 spelling-lacks test f [] h = refl
 spelling-lacks test f (x ∷ l) h =
-    rw (firm-lacks test f (spelling x) (spelling-firm x (and_left (nineDigits x) _ h)).firmly) (spelling-lacks test f l (and_right (nineDigits x) _ h))
+    rw (firm-lacks test f (spelling x) (spelling-firm x (and_left (nine_digits x) _ h)).firmly) (spelling-lacks test f l (and_right (nine_digits x) _ h))
 
 -- a list that is not empty
-module _ (x : ℤ) (l : List ℤ) (h : all_of nineDigits (x ∷ l) ≡ true) where
+module _ (x : ℤ) (l : List ℤ) (h : all_of nine_digits (x ∷ l) ≡ true) where
   pub listing-calm : calm (listing (x ∷ l)) ≡ true
-  unfolding listing joinedBy
+  unfolding listing joined_by
   listing-calm =
       let a = all-calm (x ∷ l) h in
       unfold ascii in

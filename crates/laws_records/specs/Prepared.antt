@@ -5,10 +5,10 @@ use Rattle.std.proofs.Math.Option.{none}
 use Rattle.std.proofs.Math.Seq.{take-append_seam}
 use Rattle.rules.specs.Text.Bytes.{Bytes, joined}
 use Rattle.rules.specs.Text.Refusal.{Reply, answers, refuses, refuses12, tested, lent, outcome, prepared}
-use Rattle.rules.specs.Text.Split.{steps, splitSteps}
+use Rattle.rules.specs.Text.Split.{steps, split_steps}
 use Rattle.rules.specs.Text.Reader.{definition}
-use Rattle.rules.specs.Pipeline.Record.{readingNumber, spanEnd, refusal18}
-use Rattle.rules.specs.Pipeline.Prepare.{prepareSteps, prepareSplit, prepareIn, prepareAs, PreparesAs}
+use Rattle.rules.specs.Pipeline.Record.{reading_number, span_end, refusal18}
+use Rattle.rules.specs.Pipeline.Prepare.{prepare_steps, prepare_split, prepare_in, prepare_as, PreparesAs}
 use Rattle.rules.specs.Pipeline.Run.{runs}
 use Rattle.rules.specs.Pipeline.Check.{check}
 use Rattle.rules.specs.Face.Demands.{bytes_at, Rise, Walk}
@@ -31,57 +31,57 @@ use Rattle.laws_records.specs.Made.{then-answers, split-made, prepared-in, prepa
 -- ---- spans
 
 -- The spans of the records are where the reader of the normalised definition finds the steps,
-prepare-walks : (mode : Mode) (t : Bytes) (l : List Step) → prepareIn mode t ≡ answers l → Walk (definition t) 0 l
+prepare-walks : (mode : Mode) (t : Bytes) (l : List Step) → prepare_in mode t ≡ answers l → Walk (definition t) 0 l
 prepare-walks mode t l h =
     let p = prepared-in mode t l h in
     let k = split-made mode t p.0 p.1 in
     rw (← p.2) (spans-walk t p.0 (k.0.many ∙ sym (spans-count t)))
 
 -- in either reading.
-pub prepared-walks : (r : Reading) (mode : Mode) (t : Bytes) (l : List Step) → tested (prepareAs r mode) t ≡ answers l → Walk (definition t) 0 l
+pub prepared-walks : (r : Reading) (mode : Mode) (t : Bytes) (l : List Step) → tested (prepare_as r mode) t ≡ answers l → Walk (definition t) 0 l
 prepared-walks r mode t l h =
-    let p = prepared-as r mode t l (tested-answers (prepareAs r mode) t l h) in
+    let p = prepared-as r mode t l (tested-answers (prepare_as r mode) t l h) in
     rw (← p.2) (reading-walks r (definition t) 0 p.0 (prepare-walks mode t p.0 p.1))
 
 -- The bytes there are the step's words with one space between: splitting gave the steps, so none has modifiers alone.
-pub prepared-bytes : (r : Reading) (mode : Mode) (t : Bytes) (l : List Step) → tested (prepareAs r mode) t ≡ answers l
+pub prepared-bytes : (r : Reading) (mode : Mode) (t : Bytes) (l : List Step) → tested (prepare_as r mode) t ≡ answers l
     → map (λ (s : Step). bytes_at (definition t) s.span) l ≡ map joined (steps t)
-unfolding prepareSplit
+unfolding prepare_split
 prepared-bytes r mode t l h =
-    let a = prepared-as r mode t l (tested-answers (prepareAs r mode) t l h) in
+    let a = prepared-as r mode t l (tested-answers (prepare_as r mode) t l h) in
     let p = prepared-in mode t a.0 a.1 in
-    let f = then-answers (splitSteps (steps t)) (prepareSteps mode 1) p.0 p.1 in
+    let f = then-answers (split_steps (steps t)) (prepare_steps mode 1) p.0 p.1 in
     walk-texts t l (split-worded (steps t) f.0 f.1) (prepared-walks r mode t l h)
 
 -- spans that rise up to a byte rise up to any behind it
 rise-within : (most more end : ℕ) (l : List Step) → most ≤ more → Rise most end l → Rise more end l
 unfolding Rise
 rise-within most more end [] h r = tt
-rise-within most more end (s ∷ l) h r = (r.0, r.1, le_trans r.2 h, rise-within most more (spanEnd s.span) l h r.3)
+rise-within most more end (s ∷ l) h r = (r.0, r.1, le_trans r.2 h, rise-within most more (span_end s.span) l h r.3)
 
 -- The normalised definition of a text that is prepared has 40,960 bytes at most, so the spans of its records rise up to there.
-pub prepared-short : (r : Reading) (mode : Mode) (t : Bytes) (l : List Step) → tested (prepareAs r mode) t ≡ answers l → length (definition t) ≤ 40960
-prepared-short r mode t l h = definition-length t (tested-short (prepareAs r mode) t l h)
+pub prepared-short : (r : Reading) (mode : Mode) (t : Bytes) (l : List Step) → tested (prepare_as r mode) t ≡ answers l → length (definition t) ≤ 40960
+prepared-short r mode t l h = definition-length t (tested-short (prepare_as r mode) t l h)
 
-pub prepared-rise : (r : Reading) (mode : Mode) (t : Bytes) (l : List Step) → tested (prepareAs r mode) t ≡ answers l → Rise 40960 0 l
+pub prepared-rise : (r : Reading) (mode : Mode) (t : Bytes) (l : List Step) → tested (prepare_as r mode) t ≡ answers l → Rise 40960 0 l
 prepared-rise r mode t l h =
     rise-within (length (definition t)) 40960 0 l (prepared-short r mode t l h) (walk-rises (definition t) 0 l (prepared-walks r mode t l h))
 
 -- ---- refusal 18
 
 -- It does not apply to them,
-pub never-18 : (r : Reading) (mode : Mode) (t : Bytes) (l : List Step) → tested (prepareAs r mode) t ≡ answers l → refusal18 l ≡ none
+pub never-18 : (r : Reading) (mode : Mode) (t : Bytes) (l : List Step) → tested (prepare_as r mode) t ≡ answers l → refusal18 l ≡ none
 never-18 r mode t l h =
-    let k = prepare-as-made r mode t l (tested-answers (prepareAs r mode) t l h) in
-    (not-18 l).1 (k.0, k.1, one-reading (readingNumber r) l k.2, prepared-rise r mode t l h)
+    let k = prepare-as-made r mode t l (tested-answers (prepare_as r mode) t l h) in
+    (not-18 l).1 (k.0, k.1, one-reading (reading_number r) l k.2, prepared-rise r mode t l h)
 
 -- so no check of them is refused
-pub check-never-18 : (r : Reading) (mode : Mode) (t : Bytes) (l : List Step) → tested (prepareAs r mode) t ≡ answers l
+pub check-never-18 : (r : Reading) (mode : Mode) (t : Bytes) (l : List Step) → tested (prepare_as r mode) t ≡ answers l
     → (d : Direction) (number place : ℕ) → (check d l).verdict ≡ verdict-is.Refused number place → ⊥
 check-never-18 r mode t l h d number place e = never (cc (never-18 r mode t l h, (check-refused d l number place e).1))
 
 -- and no run of them is refused 18.
-pub run-never-18 : (r : Reading) (mode : Mode) (t : Bytes) (l : List Step) → tested (prepareAs r mode) t ≡ answers l
+pub run-never-18 : (r : Reading) (mode : Mode) (t : Bytes) (l : List Step) → tested (prepare_as r mode) t ≡ answers l
     → (d : Direction) (xs store : List Float) (place : ℕ) → (runs d l xs store).answer ≡ ran-is.Refused 18 place → ⊥
 run-never-18 r mode t l h d xs store place e = never (cc (never-18 r mode t l h, run-refused d l xs store place e))
 
@@ -105,13 +105,13 @@ lent-answers (answers l) table table' n h = go (ltb (length table) (length l)) h
 
 -- Of a table that preparing answered into, the records that it counts are those of the text. So they are not refused 18.
 pub table-tested : (r : Reading) (mode : Mode) {t : Bytes} {table table' : List Step} {n : ℕ} → PreparesAs r mode t table (prepared-is.Steps n) table'
-    → tested (prepareAs r mode) t ≡ answers (take n table')
+    → tested (prepare_as r mode) t ≡ answers (take n table')
 unfolding outcome
-table-tested r mode {t} {table} {table'} {n} p = lent-answers (tested (prepareAs r mode) t) table table' n p.exactly
+table-tested r mode {t} {table} {table'} {n} p = lent-answers (tested (prepare_as r mode) t) table table' n p.exactly
 
 pub table-prepared : (r : Reading) (mode : Mode) {t : Bytes} {table table' : List Step} {n : ℕ} → PreparesAs r mode t table (prepared-is.Steps n) table'
-    → prepareAs r mode t ≡ answers (take n table')
-table-prepared r mode {t} {table} {table'} {n} p = tested-answers (prepareAs r mode) t (take n table') (table-tested r mode p)
+    → prepare_as r mode t ≡ answers (take n table')
+table-prepared r mode {t} {table} {table'} {n} p = tested-answers (prepare_as r mode) t (take n table') (table-tested r mode p)
 
 pub table-never-18 : (r : Reading) (mode : Mode) {t : Bytes} {table table' : List Step} {n : ℕ} → PreparesAs r mode t table (prepared-is.Steps n) table'
     → refusal18 (take n table') ≡ none

@@ -8,7 +8,7 @@ use Rattle.std.proofs.Math.Seq.{take-append_seam}
 use Rattle.rules.specs.Text.Lists.{all_of}
 use Rattle.rules.specs.Text.Bytes.{Bytes}
 use Rattle.rules.specs.Text.Refusal.{Reply, answers, refuses, refuses12, lent, written, Lends}
-use Rattle.rules.specs.Pipeline.Record.{readingNumber, reading_of, withSpans, ofMode, made, tableReading, refusal18}
+use Rattle.rules.specs.Pipeline.Record.{reading_number, reading_of, with_spans, of_mode, made, table_reading, refusal18}
 use Rattle.rules.specs.Pipeline.Prepare.{PreparesAs}
 use Rattle.rules.specs.Face.Demands.{Rise}
 use Rattle.rules.specs.declared.Mode.{Mode}
@@ -19,7 +19,7 @@ use Rattle.rules.specs.declared.Written.TheVariants as written_is
 use Rattle.rules.specs.declared.Prepared.{Prepared}
 use Rattle.rules.specs.declared.Prepared.TheVariants as prepared-is
 use Rattle.laws_text.specs.Once.{once}
-use Rattle.rules.specs.Pipeline.Write.{tableWriting, writtenSpans, writtenUnless18, write}
+use Rattle.rules.specs.Pipeline.Write.{table_writing, written_spans, written_unless18, write}
 use Rattle.laws_lists.specs.Lists.{Every}
 use Rattle.laws_lists.specs.Tests.{and_left, never, and_right}
 use Rattle.laws_records.specs.MadeSo.{made_so}
@@ -46,25 +46,25 @@ lent-front (answers t) out r out' h = go (ltb (length out) (length t)) h
         rw (e, f, take-append_seam t (drop (length t) out))
 
 -- a table that is not refused 18: its records are all of one of the two readings
-table-alike : (l : List Step) → refusal18 l ≡ none → Every (InIt (readingNumber (reading_of (tableReading l)))) l
-table-alike l h = let k = (not-18 l).0 h in rw (number-again (tableReading l) (small l k.0)) k.2
+table-alike : (l : List Step) → refusal18 l ≡ none → Every (InIt (reading_number (reading_of (table_reading l)))) l
+table-alike l h = let k = (not-18 l).0 h in rw (number-again (table_reading l) (small l k.0)) k.2
   where
-    small : (l : List Step) → all_of made l ≡ true → leb (tableReading l) 1 ≡ true
-    small [] h = unfold tableReading in refl
-    small (s ∷ l) h = unfold tableReading all_of in (made_so s (and_left (made s) _ h)).reading
+    small : (l : List Step) → all_of made l ≡ true → leb (table_reading l) 1 ≡ true
+    small [] h = unfold table_reading in refl
+    small (s ∷ l) h = unfold table_reading all_of in (made_so s (and_left (made s) _ h)).reading
 
 -- it is the text of the table, which is not refused 18
 pub record IsText (l : List Step) (text : Bytes) : Type 0 where
   pub all_made : all_of made l ≡ true
   pub few : length l ≤ 64
-  pub alike : Every (InIt (readingNumber (reading_of (tableReading l)))) l
-  pub is : text ≡ tableWriting l
+  pub alike : Every (InIt (reading_number (reading_of (table_reading l)))) l
+  pub is : text ≡ table_writing l
 
 write-answers : (l : List Step) (t : Bytes) → write l ≡ answers t → IsText l t
-unfolding write writtenUnless18
+unfolding write written_unless18
 write-answers l t h = go (refusal18 l) refl h
   where
-    go : (o : Option ℕ) → refusal18 l ≡ o → writtenUnless18 o (tableWriting l) ≡ answers t → IsText l t
+    go : (o : Option ℕ) → refusal18 l ≡ o → written_unless18 o (table_writing l) ≡ answers t → IsText l t
     go none e h =
         let k = (not-18 l).0 e in
         record { all_made = k.0; few = k.1; alike = table-alike l e; is = cc h }
@@ -77,28 +77,28 @@ lends_writes l {out} {r} {out'} p = write-answers l (take r out') (lent-front (w
 
 -- Where `write` answered r bytes of a table of one mode, preparing these bytes in the table's reading and in that mode into any step table
 -- with room for its records can only answer how many they are, with exactly these records at the front, with the spans of the text, and the rest as it was.
-pub written-returns : (mode : Mode) (l : List Step) → Every Slots l → all_of (ofMode mode) l ≡ true → {out : Bytes} {r : ℕ} {out' : Bytes}
+pub written-returns : (mode : Mode) (l : List Step) → Every Slots l → all_of (of_mode mode) l ≡ true → {out : Bytes} {r : ℕ} {out' : Bytes}
     → Lends (write l) out (written_is.Wrote r) out'
-    → (table : List Step) → length l ≤ length table → {answer : Prepared} {table' : List Step} → PreparesAs (reading_of (tableReading l)) mode (take r out') table answer table'
-    → (answer ≡ prepared-is.Steps (length l)) × (table' ≡ withSpans (writtenSpans l) l ++ drop (length l) table)
+    → (table : List Step) → length l ≤ length table → {answer : Prepared} {table' : List Step} → PreparesAs (reading_of (table_reading l)) mode (take r out') table answer table'
+    → (answer ≡ prepared-is.Steps (length l)) × (table' ≡ with_spans (written_spans l) l ++ drop (length l) table)
 written-returns mode l e f {out} {r} {out'} w table room {answer} {table'} p =
     let k = lends_writes l w in
-    once p (rw k.is (table-prepares (reading_of (tableReading l)) mode l table (record { each = k.all_made; slots = e; alike = k.alike; of-mode = f }) k.few room))
+    once p (rw k.is (table-prepares (reading_of (table_reading l)) mode l table (record { each = k.all_made; slots = e; alike = k.alike; of-mode = f }) k.few room))
 
 -- ---- refusal 18, exactly
 
 -- A table of one mode, of records with eight slots, as every record of the code has, is not refused 18 exactly when its spans rise up to byte
 -- 40,960 and some text prepares to it, spans aside, in that mode, in some reading.
-pub not-18-exactly : (mode : Mode) (l : List Step) → Every Slots l → all_of (ofMode mode) l ≡ true → (refusal18 l ≡ none) ↔ (Rise 40960 0 l × ((r : Reading) × Texted r mode l))
+pub not-18-exactly : (mode : Mode) (l : List Step) → Every Slots l → all_of (of_mode mode) l ≡ true → (refusal18 l ≡ none) ↔ (Rise 40960 0 l × ((r : Reading) × Texted r mode l))
 not-18-exactly mode l slots f = (
   λ h.
       let k = (not-18 l).0 h in
-      let r = reading_of (tableReading l) in
+      let r = reading_of (table_reading l) in
       (k.3, (r, (tables-exactly r mode l).0 (record { each = k.0; slots = slots; alike = table-alike l h; of-mode = f }, k.1))),
   λ t.
       let r = t.1.0 in
       let k = (tables-exactly r mode l).1 t.1.1 in
-      (not-18 l).1 (k.0.each, k.1, one-reading (readingNumber r) l k.0.alike, t.0),
+      (not-18 l).1 (k.0.each, k.1, one-reading (reading_number r) l k.0.alike, t.0),
 )
 
 -- Any table, of one mode or mixed: it is not refused 18 exactly when it has 64 records at most, all of its first one's reading, its spans rise up
@@ -116,7 +116,7 @@ unfolding Every all_of
 each-made [] e h = refl
 each-made (s ∷ l) e h = rw ((made-somehow s e.0).1 h.0) (each-made l e.1 h.1)
 
-pub not-18-each : (l : List Step) → Every Slots l → (refusal18 l ≡ none) ↔ ((length l ≤ 64) × Every (InIt (tableReading l)) l × Rise 40960 0 l × Every TextedAlone l)
+pub not-18-each : (l : List Step) → Every Slots l → (refusal18 l ≡ none) ↔ ((length l ≤ 64) × Every (InIt (table_reading l)) l × Rise 40960 0 l × Every TextedAlone l)
 not-18-each l slots = (
   λ h. let k = (not-18 l).0 h in (k.1, k.2, k.3, each-texted l slots k.0),
   λ h. (not-18 l).1 (each-made l slots h.3, h.0, h.1, h.2),

@@ -8,17 +8,17 @@ use Rattle.rules.specs.Text.Lists.{any_of, all_of, is_none}
 use Rattle.rules.specs.Text.Bytes.{Bytes, Words, same}
 use Rattle.rules.specs.Text.Parameters.{Parameter}
 use Rattle.rules.specs.Operators.Table.{number_of}
-use Rattle.rules.specs.Operators.Arguments.{size, isGiven}
-use Rattle.rules.specs.Pipeline.Record.{readingNumber, noSpan, stepWith, operator, args, unused, is_set, made}
-use Rattle.rules.specs.Pipeline.Prepare.{mark, recordOf}
+use Rattle.rules.specs.Operators.Arguments.{size, is_given}
+use Rattle.rules.specs.Pipeline.Record.{reading_number, no_span, step_with, operator, args, unused, is_set, made}
+use Rattle.rules.specs.Pipeline.Prepare.{mark, record_of}
 use Rattle.rules.specs.declared.Reading.TheVariants.{Crate}
 use Rattle.rules.specs.declared.Step.{Step}
 use Rattle.laws_records.specs.MadeSo.{made_so}
 use Rattle.laws_records.specs.Numbering.{number-operator}
 use Rattle.laws_records.specs.Kept.{Kept}
-use Rattle.rules.specs.Pipeline.Write.{markWord, markWords}
+use Rattle.rules.specs.Pipeline.Write.{mark_word, mark_words}
 use Rattle.laws_lists.specs.Tests.{and_left, and_right}
-use Rattle.laws_records.specs.Given.{Flag, chosen, picked, bareFlags, latest, tableFrom, look, looked}
+use Rattle.laws_records.specs.Given.{Flag, chosen, picked, bare_flags, latest, table_from, look, looked}
 use Rattle.laws_records.specs.Settled.{lacks}
 
 -- ---- the parts of `made`
@@ -51,8 +51,8 @@ pub record IsMade (s : Step) : Type 0 where
   pub inv-again : cond (is_set s.inv) 1 0 ≡ s.inv
   pub fwd-again : cond (is_set s.omit_fwd) 1 0 ≡ s.omit_fwd
   pub back-again : cond (is_set s.omit_inv) 1 0 ≡ s.omit_inv
-  pub crates : readingNumber Crate ≡ s.reading
-  pub no_span : noSpan ≡ s.span
+  pub crates : reading_number Crate ≡ s.reading
+  pub no-span : no_span ≡ s.span
   pub keeps : Kept (operator s) (args s)
 
 slots-again : (l : List ℤ) (n : ℕ) → length l ≡ 8 → n ≤ 8 → all_of (λ (x : ℤ). eqb (size x) 0) (drop n l) ≡ true → take n l ++ replicate (8 - length (take n l)) (pos 0) ≡ l
@@ -68,7 +68,7 @@ made-keeps s h =
     let m = made_so s h in
     record { fit = omega (arith, m.slots, length-take s.n s.args); nines = m.digits; rule = m.rule }
 
-pub made-is : (s : Step) → length s.args ≡ 8 → made s ≡ true → readingNumber Crate ≡ s.reading → noSpan ≡ s.span → IsMade s
+pub made-is : (s : Step) → length s.args ≡ 8 → made s ≡ true → reading_number Crate ≡ s.reading → no_span ≡ s.span → IsMade s
 unfolding operator args unused
 made-is s e h c n =
     let m = made_so s h in
@@ -80,14 +80,14 @@ made-is s e h c n =
       fwd-again = mark-again s.omit_fwd m.forward;
       back-again = mark-again s.omit_inv m.inverse;
       crates = c;
-      no_span = n;
+      no-span = n;
       keeps = made-keeps s h;
     }
 
 -- ---- the marks
 
-unfoldable pub marksOf : Step → List Flag
-marksOf s =
+unfoldable pub marks_of : Step → List Flag
+marks_of s =
     record { word = ascii "inv"; given = is_set s.inv }
     ∷ record { word = ascii "omit_fwd"; given = is_set s.omit_fwd }
     ∷ record { word = ascii "omit_inv"; given = is_set s.omit_inv }
@@ -97,14 +97,14 @@ cond-append : (b : Bool) (w : Bytes) (ws : Words) → cond b (w ∷ []) [] ++ ws
 cond-append true w ws = refl
 cond-append false w ws = refl
 
-pub mark-words : (s : Step) → markWords s ≡ chosen (marksOf s)
-unfolding markWords markWord marksOf chosen
+pub mark-words : (s : Step) → mark_words s ≡ chosen (marks_of s)
+unfolding mark_words mark_word marks_of chosen
 mark-words s =
     cond-append (is_set s.inv) (ascii "inv") _
     ∙ ap (λ (ws : Words). cond (is_set s.inv) (ascii "inv" ∷ ws) ws) (cond-append (is_set s.omit_fwd) (ascii "omit_fwd") _)
 
-pub marks-bare : (s : Step) → bareFlags (marksOf s) ≡ true
-unfolding bareFlags marksOf all_of lacks any_of ascii
+pub marks-bare : (s : Step) → bare_flags (marks_of s) ≡ true
+unfolding bare_flags marks_of all_of lacks any_of ascii
 marks-bare s = refl
 
 -- parameters that are no marks
@@ -119,25 +119,25 @@ given_back true v = refl
 given_back false v = refl
 
 module _ (s : Step) (w : Bytes) (own : List Parameter) (u : Unmarked own) where
-  look-inv : look w own (marksOf s) (ascii "inv") ≡ cond (is_set s.inv) (some (ascii "true")) none
-  unfolding look marksOf picked same ascii
+  look-inv : look w own (marks_of s) (ascii "inv") ≡ cond (is_set s.inv) (some (ascii "true")) none
+  unfolding look marks_of picked same ascii
   look-inv = rw u.no-inv
 
-  look-fwd : look w own (marksOf s) (ascii "omit_fwd") ≡ cond (is_set s.omit_fwd) (some (ascii "true")) none
-  unfolding look marksOf picked same ascii
+  look-fwd : look w own (marks_of s) (ascii "omit_fwd") ≡ cond (is_set s.omit_fwd) (some (ascii "true")) none
+  unfolding look marks_of picked same ascii
   look-fwd = rw u.no-fwd
 
-  look-back : look w own (marksOf s) (ascii "omit_inv") ≡ cond (is_set s.omit_inv) (some (ascii "true")) none
-  unfolding look marksOf picked same ascii
+  look-back : look w own (marks_of s) (ascii "omit_inv") ≡ cond (is_set s.omit_inv) (some (ascii "true")) none
+  unfolding look marks_of picked same ascii
   look-back = rw u.no-back
 
-  marked : (key : String) (b : Bool) → look w own (marksOf s) (ascii key) ≡ cond b (some (ascii "true")) none → mark key (tableFrom w own (marksOf s)) ≡ cond b 1 0
-  unfolding mark isGiven
-  marked key b h = rw (looked w own (marksOf s) (marks-bare s) (ascii key), h, given_back b (ascii "true"))
+  marked : (key : String) (b : Bool) → look w own (marks_of s) (ascii key) ≡ cond b (some (ascii "true")) none → mark key (table_from w own (marks_of s)) ≡ cond b 1 0
+  unfolding mark is_given
+  marked key b h = rw (looked w own (marks_of s) (marks-bare s) (ascii key), h, given_back b (ascii "true"))
 
   -- the record that is made of these marks and the record's arguments is the record
-  pub record-again : IsMade s → recordOf (operator s) (tableFrom w own (marksOf s)) (args s) ≡ s
-  unfolding recordOf stepWith
+  pub record-again : IsMade s → record_of (operator s) (table_from w own (marks_of s)) (args s) ≡ s
+  unfolding record_of step_with
   record-again m =
       rw (
         m.number,
@@ -149,6 +149,6 @@ module _ (s : Step) (w : Bytes) (own : List Parameter) (u : Unmarked own) where
         m.inv-again,
         m.fwd-again,
         m.back-again,
-        m.no_span,
+        m.no-span,
         m.crates,
       )

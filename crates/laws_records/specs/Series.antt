@@ -5,9 +5,9 @@ use Rattle.std.proofs.Math.Option.{Option, none, some}
 use Rattle.rules.specs.Text.Ascii.{is}
 use Rattle.rules.specs.Text.Lists.{all_of}
 use Rattle.rules.specs.Text.Bytes.{Bytes, before, behind}
-use Rattle.rules.specs.Text.Decimal.{digit, digitsTo, spelled, plainForm, plain, decimal, pieces, numberThen, allNumbers, series, signed, whole_of}
+use Rattle.rules.specs.Text.Decimal.{digit, digits_to, spelled, plain_form, plain, decimal, pieces, number_then, all_numbers, series, signed, whole_of}
 use Rattle.rules.specs.Operators.Arguments.{size}
-use Rattle.rules.specs.Pipeline.Record.{nineDigits}
+use Rattle.rules.specs.Pipeline.Record.{nine_digits}
 use Rattle.rules.specs.declared.Decimal.{Decimal}
 use Rattle.rules.specs.declared.Number.{Number}
 use Rattle.rules.specs.declared.Number.TheVariants.{Is, Not}
@@ -36,8 +36,8 @@ spelled-most n m (suc k) (b ∷ t) h l d =
     let g = leb-true b 57 (and_right (leb 48 b) (leb b 57) (and_left (digit b) (all_of digit t) d)) in
     spelled-most (n * 10 + (b - 48)) (m * 10 + 9) k t (omega arith) (omega arith) (and_right (digit b) (all_of digit t) d)
 
-nine : (t : Bytes) → digitsTo 9 t ≡ true → spelled 0 t ≤ 999999999
-unfolding digitsTo most
+nine : (t : Bytes) → digits_to 9 t ≡ true → spelled 0 t ≤ 999999999
+unfolding digits_to most
 nine t h =
     let r = and_right (leb 1 (length t)) (leb (length t) 9 && all_of digit t) h in
     spelled-most 0 0 9 t (le_refl 0) (leb-true (length t) 9 (and_left (leb (length t) 9) (all_of digit t) r)) (and_right (leb (length t) 9) (all_of digit t) r)
@@ -51,27 +51,27 @@ size-signed false n = refl
 size-signed true zero = refl
 size-signed true (suc n) = refl
 
-form-digits : (t : Bytes) → plainForm t ≡ true → digitsTo 9 (before (is ".") t) ≡ true
-unfolding plainForm
-form-digits t h = and_left (digitsTo 9 (before (is ".") t)) _ h
+form-digits : (t : Bytes) → plain_form t ≡ true → digits_to 9 (before (is ".") t) ≡ true
+unfolding plain_form
+form-digits t h = and_left (digits_to 9 (before (is ".") t)) _ h
 
-plain-nine : (minus : Bool) (t : Bytes) (d : Decimal) → plain minus t ≡ Is d → nineDigits (whole_of d) ≡ true
-unfolding plain nineDigits whole_of
-plain-nine minus t d h = go (plainForm t) refl h
+plain-nine : (minus : Bool) (t : Bytes) (d : Decimal) → plain minus t ≡ Is d → nine_digits (whole_of d) ≡ true
+unfolding plain nine_digits whole_of
+plain-nine minus t d h = go (plain_form t) refl h
   where
     v : Decimal
     v = record { minus = minus; whole = spelled 0 (before (is ".") t); millionths = spelled 0 (behind (is ".") t) * 10 ^ (6 - length (behind (is ".") t)) }
 
-    go : (b : Bool) → plainForm t ≡ b → cond b (Is v) Not ≡ Is d → leb (size (signed d.minus d.whole)) 999999999 ≡ true
+    go : (b : Bool) → plain_form t ≡ b → cond b (Is v) Not ≡ Is d → leb (size (signed d.minus d.whole)) 999999999 ≡ true
     go true e h = let same : v ≡ d = cc h in rw (← same, size-signed minus v.whole) (le-leb v.whole 999999999 (nine (before (is ".") t) (form-digits t e)))
     go false e h = absurd (never (cc h))
 
-pub decimal-nine : (p : Bytes) (d : Decimal) → decimal p ≡ Is d → nineDigits (whole_of d) ≡ true
+pub decimal-nine : (p : Bytes) (d : Decimal) → decimal p ≡ Is d → nine_digits (whole_of d) ≡ true
 unfolding decimal
 decimal-nine [] d h = absurd (never (cc h))
 decimal-nine (b ∷ t) d h = go (is "-" b) h
   where
-    go : (c : Bool) → cond c (plain true t) (plain false (b ∷ t)) ≡ Is d → nineDigits (whole_of d) ≡ true
+    go : (c : Bool) → cond c (plain true t) (plain false (b ∷ t)) ≡ Is d → nine_digits (whole_of d) ≡ true
     go true h = plain-nine true t d h
     go false h = plain-nine false (b ∷ t) d h
 
@@ -79,15 +79,15 @@ decimal-nine (b ∷ t) d h = go (is "-" b) h
 
 -- what a series of n pieces has that is read
 pub record Read (n : ℕ) (ds : List Decimal) : Type 0 where
-  pub nines : all_of nineDigits (map whole_of ds) ≡ true
+  pub nines : all_of nine_digits (map whole_of ds) ≡ true
   pub many : length ds ≡ n
 
-all_read : (ps : List Bytes) (ds : List Decimal) → allNumbers ps ≡ some ds → Read (length ps) ds
-unfolding allNumbers numberThen all_of
+all_read : (ps : List Bytes) (ds : List Decimal) → all_numbers ps ≡ some ds → Read (length ps) ds
+unfolding all_numbers number_then all_of
 all_read [] ds h = let e : [] ≡ ds = cc h in rw (← e) (record { nines = refl; many = refl })
-all_read (p ∷ ps) ds h = go (decimal p) (allNumbers ps) refl (all_read ps) h
+all_read (p ∷ ps) ds h = go (decimal p) (all_numbers ps) refl (all_read ps) h
   where
-    go : (x : Number) (r : Option (List Decimal)) → decimal p ≡ x → ((es : List Decimal) → r ≡ some es → Read (length ps) es) → numberThen x r ≡ some ds → Read (suc (length ps)) ds
+    go : (x : Number) (r : Option (List Decimal)) → decimal p ≡ x → ((es : List Decimal) → r ≡ some es → Read (length ps) es) → number_then x r ≡ some ds → Read (suc (length ps)) ds
     go Not r e ih h = absurd (never (cc h))
     go (Is d) none e ih h = absurd (never (cc h))
     go (Is d) (some es) e ih h =

@@ -9,8 +9,8 @@ use mathlib.Core.List.{List, [], ◌∷◌, ◌++◌, flat_map, append-nil}
 use borrow.Author.Tests.{eqb-true, not-true}
 use Rattle.std.proofs.Math.Dec.{eqb, ltb}
 use Rattle.rules.specs.Text.Ascii.{ascii, is}
-use Rattle.rules.specs.Text.Lists.{any_of, all_of, kept, nonEmpty}
-use Rattle.rules.specs.Text.Bytes.{Bytes, Words, white, inDomain, trimStart, trimEnd, trimmed, before, behind, onto, cut, words, afterEach, joinedBy, joined}
+use Rattle.rules.specs.Text.Lists.{any_of, all_of, kept, non_empty}
+use Rattle.rules.specs.Text.Bytes.{Bytes, Words, white, in_domain, trim_start, trim_end, trimmed, before, behind, onto, cut, words, after_each, joined_by, joined}
 use Rattle.rules.specs.Text.Normal.{squeezed, continued}
 use Rattle.rules.specs.Text.Comments.{newlines, uncommented, lined, stripped}
 use Rattle.laws_lists.specs.Tests.{and_left, and_right, or_left, or_right, below, never}
@@ -42,18 +42,18 @@ module _ (test : ℕ → Bool) where
       go true = refl
       go false = refl
 
-  trim_end : (x : ℕ) (t : Bytes) → test (end_of x t) ≡ false → trimEnd test (x ∷ t) ≡ x ∷ t
-  unfolding trimEnd
-  trim_end x [] h = rw (not-all x [] h)
-  trim_end x (y ∷ t) h = rw (not-all x (y ∷ t) h) (ap (λ (u : Bytes). x ∷ u) (trim_end y t (unfold end_of in h)))
+  trim-end : (x : ℕ) (t : Bytes) → test (end_of x t) ≡ false → trim_end test (x ∷ t) ≡ x ∷ t
+  unfolding trim_end
+  trim-end x [] h = rw (not-all x [] h)
+  trim-end x (y ∷ t) h = rw (not-all x (y ∷ t) h) (ap (λ (u : Bytes). x ∷ u) (trim-end y t (unfold end_of in h)))
 
   pub trim-calm : below 127 (λ b. so (firm b) (not (test b))) ≡ true → (t : Bytes) → calm t ≡ true → trimmed test t ≡ t
-  unfolding trimmed trimStart
+  unfolding trimmed trim_start
   trim-calm f [] h = absurd (false≢true (unfold calm in h))
   trim-calm f (x ∷ t) h =
       let a = not-true (test x) (firm-so (λ b. not (test b)) f x (calm-head x t h)) in
       let b = not-true (test (end_of x t)) (firm-so (λ b. not (test b)) f (end_of x t) (calm-end x t h)) in
-      rw a (trim_end x t b)
+      rw a (trim-end x t b)
 
   -- one that no known byte passes is passed by none
   none-quiet : below 127 (λ b. so (known b) (not (test b))) ≡ true → (p : ℕ) (t : Bytes) → quiet p t ≡ true → any_of test t ≡ false
@@ -89,14 +89,14 @@ module _ (test : ℕ → Bool) where
   unfolding lacks
   lacking w h = not-true (any_of test w) h
 
-  pub cut-joined : (b : ℕ) → test b ≡ true → (w : Bytes) (ws : List Bytes) → all_of lacks (w ∷ ws) ≡ true → cut test (joinedBy (b ∷ []) (w ∷ ws)) ≡ w ∷ ws
-  unfolding all_of joinedBy afterEach
+  pub cut-joined : (b : ℕ) → test b ≡ true → (w : Bytes) (ws : List Bytes) → all_of lacks (w ∷ ws) ≡ true → cut test (joined_by (b ∷ []) (w ∷ ws)) ≡ w ∷ ws
+  unfolding all_of joined_by after_each
   cut-joined b e w ws h = go w ws h
     where
-      go : (w : Bytes) (ws : List Bytes) → all_of lacks (w ∷ ws) ≡ true → cut test (w ++ afterEach (b ∷ []) ws) ≡ w ∷ ws
+      go : (w : Bytes) (ws : List Bytes) → all_of lacks (w ∷ ws) ≡ true → cut test (w ++ after_each (b ∷ []) ws) ≡ w ∷ ws
       go w [] h = rw (append-nil w) (cut-none w (lacking w (and_left (lacks w) _ h)))
       go w (v ∷ ws) h =
-          cut_at w b (v ++ afterEach (b ∷ []) ws) (lacking w (and_left (lacks w) _ h)) e ∙ ap (λ (ps : List Bytes). w ∷ ps) (go v ws (and_right (lacks w) _ h))
+          cut_at w b (v ++ after_each (b ∷ []) ws) (lacking w (and_left (lacks w) _ h)) e ∙ ap (λ (ps : List Bytes). w ∷ ps) (go v ws (and_right (lacks w) _ h))
 
   pub before-none : (t : Bytes) → any_of test t ≡ false → before test t ≡ t
   unfolding any_of before
@@ -116,14 +116,14 @@ kept-all {A} test (x ∷ l) h = rw (and_left (test x) (all_of test l) h) (ap (λ
 -- ---- squeezing
 
 grow-more : (x : ℕ) (ws : Words) → joined (grow x true ws) ≡ x ∷ joined ws
-unfolding joined joinedBy afterEach grow
+unfolding joined joined_by after_each grow
 grow-more x [] = refl
 grow-more x (w ∷ ws) = refl
 
 grow-new : (x z : ℕ) (v : Bytes) (ws : Words) → joined ws ≡ z ∷ v → joined (grow x false ws) ≡ x ∷ 32 ∷ z ∷ v
-unfolding joined joinedBy grow
+unfolding joined joined_by grow
 grow-new x z v [] h = absurd (never (cc h))
-grow-new x z v (w ∷ ws) h = unfold afterEach in ap (λ (u : Bytes). x ∷ 32 ∷ u) h
+grow-new x z v (w ∷ ws) h = unfold after_each in ap (λ (u : Bytes). x ∷ 32 ∷ u) h
 
 -- the only white space is a space, and no second one follows
 white-space : (x : ℕ) → known x ≡ true → white x ≡ true → eqb x 32 ≡ true
@@ -170,7 +170,7 @@ squeeze-new x y z v ih f w q e =
     rw (← s) at own
 
 squeeze-on : (x : ℕ) (t : Bytes) → Squeezes x t
-squeeze-on x [] w q e = rw (words-cons x [], w) (unfold words kept nonEmpty cut in_word grow joined joinedBy afterEach in refl)
+squeeze-on x [] w q e = rw (words-cons x [], w) (unfold words kept non_empty cut in_word grow joined joined_by after_each in refl)
 squeeze-on x (y ∷ []) w q e = squeeze-more x y [] (squeeze-on y []) (unfold end_of in e) w q e
 squeeze-on x (y ∷ z ∷ v) w q e = go (white y) refl (squeeze-on y (z ∷ v)) (squeeze-on z v)
   where
@@ -211,12 +211,12 @@ stripped-calm t h =
 
 -- ---- the domain
 
-domain-quiet : (p : ℕ) (t : Bytes) → quiet p t ≡ true → inDomain t ≡ true
-domain-quiet p [] h = unfold inDomain in refl
+domain-quiet : (p : ℕ) (t : Bytes) → quiet p t ≡ true → in_domain t ≡ true
+domain-quiet p [] h = unfold in_domain in refl
 domain-quiet p (x ∷ t) h =
     domain-ascii x t (unfold below so known any_of ascii in known_so (λ b. ltb b 128) refl x (follows-known p x (quiet-first p x t h))) ∙ domain-quiet x t (quiet-rest p x t h)
 
-pub domain-calm : (t : Bytes) → calm t ≡ true → inDomain t ≡ true
-domain-calm [] h = unfold inDomain in refl
+pub domain-calm : (t : Bytes) → calm t ≡ true → in_domain t ≡ true
+domain-calm [] h = unfold in_domain in refl
 domain-calm (x ∷ t) h =
     domain-ascii x t (unfold below so known any_of ascii in known_so (λ b. ltb b 128) refl x (firm-known x (calm-head x t h))) ∙ domain-quiet x t (calm-quiet x t h)

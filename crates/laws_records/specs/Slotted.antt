@@ -9,15 +9,15 @@ use Rattle.rules.specs.Text.Ascii.{ascii}
 use Rattle.rules.specs.Text.Lists.{any_of, all_of}
 use Rattle.rules.specs.Text.Bytes.{Bytes}
 use Rattle.rules.specs.Text.Refusal.{Reply, answers, refuses, refuses12, and_then}
-use Rattle.rules.specs.Text.Split.{steps, splitSteps}
-use Rattle.rules.specs.Text.Parameters.{Parameter, parametersOf}
+use Rattle.rules.specs.Text.Split.{steps, split_steps}
+use Rattle.rules.specs.Text.Parameters.{Parameter, parameters_of}
 use Rattle.rules.specs.Operators.Arguments.{value_of}
 use Rattle.rules.specs.Operators.Descriptions.{Operator, Chosen}
-use Rattle.rules.specs.Operators.Table.{wordingOf, greatest}
-use Rattle.rules.specs.Pipeline.Record.{readingNumber, stepWith, made}
-use Rattle.rules.specs.Pipeline.Keys.{kind_of, unknown, misspelt, tooLong}
-use Rattle.rules.specs.Pipeline.Prepare.{recordOf, recorded, ownRule, judged14, judged11, named, judged10, judged, offsetIn, atStep}
-use Rattle.rules.specs.Pipeline.Prepare.{prepareStep, prepareSteps, prepareSplit}
+use Rattle.rules.specs.Operators.Table.{wording_of, greatest}
+use Rattle.rules.specs.Pipeline.Record.{reading_number, step_with, made}
+use Rattle.rules.specs.Pipeline.Keys.{kind_of, unknown, misspelt, too_long}
+use Rattle.rules.specs.Pipeline.Prepare.{record_of, recorded, own_rule, judged14, judged11, named, judged10, judged, offset_in, at_step}
+use Rattle.rules.specs.Pipeline.Prepare.{prepare_step, prepare_steps, prepare_split}
 use Rattle.rules.specs.declared.Mode.{Mode}
 use Rattle.rules.specs.declared.Reading.TheVariants.{Crate}
 use Rattle.rules.specs.declared.Step.{Step}
@@ -35,12 +35,12 @@ record Slotted (s : Step) : Type 0 where
   slotted-by : Operator
   given : List Parameter
   listed : List ℤ
-  same-as : recordOf slotted-by given listed ≡ s
+  same-as : record_of slotted-by given listed ≡ s
 
 -- whatever the operator's own rule chose
-own-slotted : (mode : Mode) (n : Name) (ps : List Parameter) (s : Step) → ownRule mode n ps ≡ some s → Slotted s
-unfolding ownRule
-own-slotted mode n ps s h = go ((wordingOf n).chosen mode ps) h
+own-slotted : (mode : Mode) (n : Name) (ps : List Parameter) (s : Step) → own_rule mode n ps ≡ some s → Slotted s
+unfolding own_rule
+own-slotted mode n ps s h = go ((wording_of n).chosen mode ps) h
   where
     go : (c : Option Chosen) → recorded ps c ≡ some s → Slotted s
     go none h = unfold recorded in absurd (never (cc h))
@@ -54,36 +54,36 @@ judged-slotted mode ps s h = by10 (named (value_of (ascii "_name") ps)) h
     by14 none f h = absurd (never (cc h))
     by14 (some r) f h = f s (cc h)
 
-    by13 : (n : Name) (a b c : Bool) → cond a (refuses 11 0) (cond b (refuses12 0 0) (cond c (refuses 13 0) (judged14 (ownRule mode n ps)))) ≡ answers s → Slotted s
+    by13 : (n : Name) (a b c : Bool) → cond a (refuses 11 0) (cond b (refuses12 0 0) (cond c (refuses 13 0) (judged14 (own_rule mode n ps)))) ≡ answers s → Slotted s
     by13 n true b c h = absurd (never (cc h))
     by13 n false true c h = absurd (never (cc h))
     by13 n false false true h = absurd (never (cc h))
-    by13 n false false false h = by14 (ownRule mode n ps) (own-slotted mode n ps) h
+    by13 n false false false h = by14 (own_rule mode n ps) (own-slotted mode n ps) h
 
     by10 : (o : Named) → judged10 mode o ps ≡ answers s → Slotted s
     by10 Not h = absurd (never (cc h))
     by10 (Is n) h =
-        by13 n (any_of (unknown n) ps) (any_of (λ (p : Parameter). misspelt (kind_of n p) p.value) ps) (any_of (λ (p : Parameter). tooLong (kind_of n p) p.value) ps) h
+        by13 n (any_of (unknown n) ps) (any_of (λ (p : Parameter). misspelt (kind_of n p) p.value) ps) (any_of (λ (p : Parameter). too_long (kind_of n p) p.value) ps) h
 
-step-slotted : (mode : Mode) (place : ℕ) (t : Bytes) (s : Step) → prepareStep mode place t ≡ answers s → Slotted s
-unfolding prepareStep atStep
+step-slotted : (mode : Mode) (place : ℕ) (t : Bytes) (s : Step) → prepare_step mode place t ≡ answers s → Slotted s
+unfolding prepare_step at_step
 step-slotted mode place t s h = go (ltb 4096 (length t)) h
   where
-    at : (r : Reply Step) → atStep place (offsetIn t) r ≡ answers s → r ≡ answers s
+    at : (r : Reply Step) → at_step place (offset_in t) r ≡ answers s → r ≡ answers s
     at (answers x) h = h
     at (refuses n p) h = absurd (never (cc h))
     at (refuses12 p o) h = absurd (never (cc h))
 
-    go : (b : Bool) → atStep place (offsetIn t) (cond b (refuses 1 0) (and_then (parametersOf t) (judged mode))) ≡ answers s → Slotted s
+    go : (b : Bool) → at_step place (offset_in t) (cond b (refuses 1 0) (and_then (parameters_of t) (judged mode))) ≡ answers s → Slotted s
     go true h = absurd (never (cc h))
-    go false h = let f = then-answers (parametersOf t) (judged mode) s (at _ h) in judged-slotted mode f.0 s f.2
+    go false h = let f = then-answers (parameters_of t) (judged mode) s (at _ h) in judged-slotted mode f.0 s f.2
 
-steps-slotted : (mode : Mode) (place : ℕ) (ts : List Bytes) (l : List Step) → prepareSteps mode place ts ≡ answers l → Every Slotted l
-unfolding prepareSteps Every
+steps-slotted : (mode : Mode) (place : ℕ) (ts : List Bytes) (l : List Step) → prepare_steps mode place ts ≡ answers l → Every Slotted l
+unfolding prepare_steps Every
 steps-slotted mode place [] l h = let e : [] ≡ l = cc h in rw (← e) tt
 steps-slotted mode place (t ∷ ts) l h =
-    let f = then-answers (prepareStep mode place t) _ l h in
-    let g = then-answers (prepareSteps mode _ ts) _ l f.2 in
+    let f = then-answers (prepare_step mode place t) _ l h in
+    let g = then-answers (prepare_steps mode _ ts) _ l f.2 in
     let e : f.0 ∷ g.0 ≡ l = cc g.2 in
     rw (← e) (step-slotted mode place t f.0 f.1, steps-slotted mode _ ts g.0 g.1)
 
@@ -94,10 +94,10 @@ slotted-eight s h m = go h.slotted-by h.given h.listed h.same-as
     few : leb s.n 8 ≡ true
     few = unfold made in and_left (leb s.n 8) _ (and_right (leb s.operator greatest) _ m)
 
-    go : (o : Operator) (ps : List Parameter) (l : List ℤ) → recordOf o ps l ≡ s → Slots s
+    go : (o : Operator) (ps : List Parameter) (l : List ℤ) → record_of o ps l ≡ s → Slots s
     go o ps l e =
-        let n : length l ≡ s.n = unfold recordOf stepWith in ap (λ (r : Step). r.n) e in
-        let a : length (l ++ replicate (8 - length l) (pos 0)) ≡ length s.args = unfold recordOf stepWith in ap (λ (r : Step). length r.args) e in
+        let n : length l ≡ s.n = unfold record_of step_with in ap (λ (r : Step). r.n) e in
+        let a : length (l ++ replicate (8 - length l) (pos 0)) ≡ length s.args = unfold record_of step_with in ap (λ (r : Step). length r.args) e in
         omega (arith, length-append l (replicate (8 - length l) (pos 0)), length-replicate {A = ℤ} (8 - length l) (pos 0), leb-true s.n 8 few)
 
 eight-each : (l : List Step) → all_of made l ≡ true → Every Slotted l → Every Slots l
@@ -108,16 +108,16 @@ eight-each (s ∷ l) h k =
     (slotted-eight s k.0 m, eight-each l (and_right (made s) (all_of made l) h) k.1)
 
 -- and it is of the crate's reading
-slotted-crates : (l : List Step) → Every Slotted l → Every (InIt (readingNumber Crate)) l
-unfolding Every recordOf stepWith
+slotted-crates : (l : List Step) → Every Slotted l → Every (InIt (reading_number Crate)) l
+unfolding Every record_of step_with
 slotted-crates [] k = tt
 slotted-crates (s ∷ l) k = (ap (λ (r : Step). r.reading) k.0.same-as, slotted-crates l k.1)
 
 -- The records of a text's steps that pass `made` have their slots, and are of the crate's reading.
-pub split-slotted : (mode : Mode) (t : Bytes) (l : List Step) → prepareSplit mode t ≡ answers l → all_of made l ≡ true
-    → Every Slots l × Every (InIt (readingNumber Crate)) l
-unfolding prepareSplit
+pub split-slotted : (mode : Mode) (t : Bytes) (l : List Step) → prepare_split mode t ≡ answers l → all_of made l ≡ true
+    → Every Slots l × Every (InIt (reading_number Crate)) l
+unfolding prepare_split
 split-slotted mode t l p h =
-    let f = then-answers (splitSteps (steps t)) (prepareSteps mode 1) l p in
+    let f = then-answers (split_steps (steps t)) (prepare_steps mode 1) l p in
     let k = steps-slotted mode 1 f.0 l f.2 in
     (eight-each l h k, slotted-crates l k)

@@ -5,7 +5,7 @@ use Rattle.std.proofs.Common.{ap, subst}
 use mathlib.Core.List.{List, [], ◌∷◌, map}
 use Rattle.std.proofs.lemmas.List.{length-map}
 use Rattle.rules.specs.Text.Lists.{all_of}
-use Rattle.rules.specs.Pipeline.Record.{noSpan, spanned, spanless, withSpans, operator, args, unused, ofMode, made}
+use Rattle.rules.specs.Pipeline.Record.{no_span, spanned, spanless, with_spans, operator, args, unused, of_mode, made}
 use Rattle.rules.specs.Face.Demands.{SameButSpans}
 use Rattle.rules.specs.declared.Mode.{Mode}
 use Rattle.rules.specs.declared.Span.{Span}
@@ -19,15 +19,15 @@ pub made-aside : (s : Step) → made (spanless s) ≡ made s
 unfolding made operator args unused spanless spanned
 made-aside s = refl
 
-pub mode-aside : (mode : Mode) (s : Step) → ofMode mode (spanless s) ≡ ofMode mode s
-unfolding ofMode operator spanless spanned
+pub mode-aside : (mode : Mode) (s : Step) → of_mode mode (spanless s) ≡ of_mode mode s
+unfolding of_mode operator spanless spanned
 mode-aside mode s = refl
 
 -- ---- tables that differ only in spans
 
 -- records with other spans
-pub same-spanned : (ps : List Span) (l : List Step) → SameButSpans (withSpans ps l) l
-unfolding withSpans spanless spanned
+pub same-spanned : (ps : List Span) (l : List Step) → SameButSpans (with_spans ps l) l
+unfolding with_spans spanless spanned
 same-spanned [] l = refl
 same-spanned (p ∷ ps) [] = refl
 same-spanned (p ∷ ps) (s ∷ l) = ap (λ (m : List Step). spanless s ∷ m) (same-spanned ps l)
@@ -50,7 +50,7 @@ module _ (P : Step → Type 0) (any : (p : Span) (s : Step) → P s → P (spann
   every-aside : (l : List Step) → Every P l → Every P (map spanless l)
   unfolding Every spanless
   every-aside [] h = tt
-  every-aside (s ∷ l) h = (any noSpan s h.0, every-aside l h.1)
+  every-aside (s ∷ l) h = (any no_span s h.0, every-aside l h.1)
 
   every-again : (l : List Step) → Every P (map spanless l) → Every P l
   unfolding Every spanless spanned

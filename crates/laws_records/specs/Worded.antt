@@ -8,12 +8,12 @@ use Rattle.std.proofs.Common.{arith}
 use borrow.Author.Tests.{le-ltb}
 use Rattle.std.proofs.Math.ListN.{length, length-map}
 use Rattle.rules.specs.Text.Ascii.{ascii, is}
-use Rattle.rules.specs.Text.Lists.{any_of, all_of, nonEmpty}
-use Rattle.rules.specs.Text.Bytes.{Bytes, Words, white, words, afterEach, joinedBy, joined}
+use Rattle.rules.specs.Text.Lists.{any_of, all_of, non_empty}
+use Rattle.rules.specs.Text.Bytes.{Bytes, Words, white, words, after_each, joined_by, joined}
 use Rattle.rules.specs.Text.Refusal.{answers, and_then}
-use Rattle.rules.specs.Text.Split.{modifier, onlyModifiers, leading, following, turned, stepText}
-use Rattle.rules.specs.Text.Parameters.{parameter, name, elements, enteredAll, table_of, stepTable, textTable, parametersOf}
-use Rattle.rules.specs.Pipeline.Prepare.{judged, atStep, prepareStep}
+use Rattle.rules.specs.Text.Split.{modifier, only_modifiers, leading, following, turned, step_text}
+use Rattle.rules.specs.Text.Parameters.{parameter, name, elements, entered_all, table_of, step_table, text_table, parameters_of}
+use Rattle.rules.specs.Pipeline.Prepare.{judged, at_step, prepare_step}
 use Rattle.rules.specs.declared.Mode.{Mode}
 use Rattle.rules.specs.declared.Step.{Step}
 use Rattle.laws_lists.specs.Lists.{all_so}
@@ -35,17 +35,17 @@ module _ (test : ℕ → Bool) where
       go true h f = absurd (false≢true h)
       go false h f = f h k
 
-  lacks-after : (sep : Bytes) (ws : List Bytes) → lacks test sep ≡ true → all_of (lacks test) ws ≡ true → lacks test (afterEach sep ws) ≡ true
-  unfolding all_of afterEach
+  lacks-after : (sep : Bytes) (ws : List Bytes) → lacks test sep ≡ true → all_of (lacks test) ws ≡ true → lacks test (after_each sep ws) ≡ true
+  unfolding all_of after_each
   lacks-after sep [] s h = unfold lacks any_of in refl
   lacks-after sep (w ∷ ws) s h =
-      lacks-append sep (w ++ afterEach sep ws) s
-      (lacks-append w (afterEach sep ws) (and_left (lacks test w) _ h) (lacks-after sep ws s (and_right (lacks test w) _ h)))
+      lacks-append sep (w ++ after_each sep ws) s
+      (lacks-append w (after_each sep ws) (and_left (lacks test w) _ h) (lacks-after sep ws s (and_right (lacks test w) _ h)))
 
-  pub lacks-joined : (sep : Bytes) (ws : List Bytes) → lacks test sep ≡ true → all_of (lacks test) ws ≡ true → lacks test (joinedBy sep ws) ≡ true
-  unfolding all_of joinedBy
+  pub lacks-joined : (sep : Bytes) (ws : List Bytes) → lacks test sep ≡ true → all_of (lacks test) ws ≡ true → lacks test (joined_by sep ws) ≡ true
+  unfolding all_of joined_by
   lacks-joined sep [] s h = unfold lacks any_of in refl
-  lacks-joined sep (w ∷ ws) s h = lacks-append w (afterEach sep ws) (and_left (lacks test w) _ h) (lacks-after sep ws s (and_right (lacks test w) _ h))
+  lacks-joined sep (w ∷ ws) s h = lacks-append w (after_each sep ws) (and_left (lacks test w) _ h) (lacks-after sep ws s (and_right (lacks test w) _ h))
 
 -- ---- words
 
@@ -65,8 +65,8 @@ pub worded-bare : (w : Bytes) → worded w ≡ true → lacks (is "|") w ≡ tru
 unfolding worded
 worded-bare w h = and_right (lacks white w) _ (and_right (calm w) _ h)
 
-calm-some : (w : Bytes) → calm w ≡ true → nonEmpty w ≡ true
-unfolding calm nonEmpty
+calm-some : (w : Bytes) → calm w ≡ true → non_empty w ≡ true
+unfolding calm non_empty
 calm-some [] h = absurd (false≢true h)
 calm-some (x ∷ w) h = refl
 
@@ -79,7 +79,7 @@ pub record Spoken (w : Bytes) (ws : Words) : Type 0 where
 
 module _ (w : Bytes) (ws : Words) (h : all_of worded (w ∷ ws) ≡ true) where
   pub step-calm : calm (joined (w ∷ ws)) ≡ true
-  unfolding joined joinedBy
+  unfolding joined joined_by
   step-calm =
       let c : all_of calm (w ∷ ws) ≡ true = all_so worded calm worded-calm (w ∷ ws) h in
       joined-calm (32 ∷ []) (unfold gap below so firm known follows middle quiet any_of ascii in refl) w ws
@@ -89,23 +89,23 @@ module _ (w : Bytes) (ws : Words) (h : all_of worded (w ∷ ws) ≡ true) where
   unfolding joined
   step-bare = lacks-joined (is "|") (32 ∷ []) (w ∷ ws) (unfold lacks any_of in refl) (all_so worded (lacks (is "|")) worded-bare (w ∷ ws) h)
 
-  pub step_words : words (joined (w ∷ ws)) ≡ w ∷ ws
+  pub step-words : words (joined (w ∷ ws)) ≡ w ∷ ws
   unfolding words joined
-  step_words =
+  step-words =
       rw (cut-joined white 32 (unfold white in refl) w ws (all_so worded (lacks white) worded-dark (w ∷ ws) h))
-      (kept-all nonEmpty (w ∷ ws) (all_so worded nonEmpty (λ v k. calm-some v (worded-calm v k)) (w ∷ ws) h))
+      (kept-all non_empty (w ∷ ws) (all_so worded non_empty (λ v k. calm-some v (worded-calm v k)) (w ∷ ws) h))
 
 module _ {w : Bytes} {ws : Words} (h : Spoken w ws) where
   pub not-turned : turned (w ∷ ws) ≡ w ∷ ws
   unfolding turned following leading
   not-turned = rw (h.no-modifier, append-nil ws)
 
-  pub step-text : stepText (w ∷ ws) ≡ joined (w ∷ ws)
-  unfolding stepText
+  pub step-text : step_text (w ∷ ws) ≡ joined (w ∷ ws)
+  unfolding step_text
   step-text = ap joined not-turned
 
-  pub not-modifiers : onlyModifiers (w ∷ ws) ≡ false
-  unfolding onlyModifiers nonEmpty all_of
+  pub not-modifiers : only_modifiers (w ∷ ws) ≡ false
+  unfolding only_modifiers non_empty all_of
   not-modifiers = rw h.no-modifier
 
   step-elements : elements (w ∷ ws) ≡ name w ∷ map parameter ws
@@ -113,15 +113,15 @@ module _ {w : Bytes} {ws : Words} (h : Spoken w ws) where
   step-elements = rw h.no_value
 
   -- the parameters of the step's text are those of its words
-  pub step-parameters : parametersOf (joined (w ∷ ws)) ≡ answers (enteredAll (name w ∷ map parameter ws) [])
-  unfolding parametersOf textTable stepTable table_of
+  pub step-parameters : parameters_of (joined (w ∷ ws)) ≡ answers (entered_all (name w ∷ map parameter ws) [])
+  unfolding parameters_of text_table step_table table_of
   step-parameters =
       let b = lacking (is "|") (joined (w ∷ ws)) (step-bare w ws h.each) in
-      let few : length (enteredAll (name w ∷ map parameter ws) []) ≤ 32 =
+      let few : length (entered_all (name w ∷ map parameter ws) []) ≤ 32 =
       omega (arith, all-length (name w ∷ map parameter ws) [], length-map ws parameter, h.few) in
-      rw (normal-calm (joined (w ∷ ws)) (step-calm w ws h.each) b, b, step_words w ws h.each, not-modifiers, not-turned, step-elements, le-ltb 32 _ few)
+      rw (normal-calm (joined (w ∷ ws)) (step-calm w ws h.each) b, b, step-words w ws h.each, not-modifiers, not-turned, step-elements, le-ltb 32 _ few)
 
-  pub step-prepared : (mode : Mode) (place : ℕ) (s : Step) → length (joined (w ∷ ws)) ≤ 4096 → judged mode (enteredAll (name w ∷ map parameter ws) []) ≡ answers s
-      → prepareStep mode place (joined (w ∷ ws)) ≡ answers s
-  unfolding prepareStep atStep and_then
+  pub step-prepared : (mode : Mode) (place : ℕ) (s : Step) → length (joined (w ∷ ws)) ≤ 4096 → judged mode (entered_all (name w ∷ map parameter ws) []) ≡ answers s
+      → prepare_step mode place (joined (w ∷ ws)) ≡ answers s
+  unfolding prepare_step at_step and_then
   step-prepared mode place s l j = rw (le-ltb 4096 _ l, step-parameters, j)

@@ -6,7 +6,7 @@ use Rattle.rules.specs.Text.Ascii.{ascii}
 use Rattle.rules.specs.Text.Lists.{any_of, all_of}
 use Rattle.rules.specs.Text.Bytes.{white, joined}
 use Rattle.rules.specs.Pipeline.Record.{operator, args}
-use Rattle.rules.specs.Pipeline.Write.{nameWord, argWords, operatorWords, markWords, stepWords, writing}
+use Rattle.rules.specs.Pipeline.Write.{name_word, arg_words, operator_words, mark_words, step_words, writing}
 use Rattle.rules.specs.declared.Step.{Step}
 use Rattle.laws_lists.specs.Lists.{all_append}
 use Rattle.laws_lists.specs.Tests.{and_left, and_right}
@@ -16,7 +16,7 @@ use Rattle.laws_records.specs.Given.{Flag, chosen}
 use Rattle.laws_records.specs.Worded.{worded, Spoken}
 use Rattle.laws_records.specs.Sayings.{total, total-append, joined-total}
 use Rattle.laws_records.specs.Kept.{Kept}
-use Rattle.laws_records.specs.Records.{marksOf, mark-words}
+use Rattle.laws_records.specs.Records.{marks_of, mark-words}
 use Rattle.laws_records.specs.Owed.{Says, PlainName}
 use Rattle.laws_records.specs.Operators.Table.{has-text}
 
@@ -31,8 +31,8 @@ all-chosen (f ∷ fs) h = go f.given (all-chosen fs (and_right (worded f.word) _
     go true r = rw (and_left (worded f.word) _ h) r
     go false r = r
 
-marks-worded : (s : Step) → all_of worded (markWords s) ≡ true
-marks-worded s = rw (mark-words s) (all-chosen (marksOf s) (unfold all_of marksOf worded calm firm known follows middle quiet end_of lacks white any_of ascii in refl))
+marks-worded : (s : Step) → all_of worded (mark_words s) ≡ true
+marks-worded s = rw (mark-words s) (all-chosen (marks_of s) (unfold all_of marks_of worded calm firm known follows middle quiet end_of lacks white any_of ascii in refl))
 
 -- not longer than if all were there
 chosen-length : (fs : List Flag) → length (chosen fs) ≤ length fs
@@ -53,13 +53,13 @@ chosen-total (f ∷ fs) = go f.given (chosen-total fs)
     go true h = omega arith
     go false h = omega arith
 
-marks-few : (s : Step) → length (markWords s) ≤ 3
-unfolding marksOf
-marks-few s = rw (mark-words s) (chosen-length (marksOf s))
+marks-few : (s : Step) → length (mark_words s) ≤ 3
+unfolding marks_of
+marks-few s = rw (mark-words s) (chosen-length (marks_of s))
 
-marks-short : (s : Step) → total (markWords s) ≤ 22
-unfolding marksOf ascii total
-marks-short s = rw (mark-words s) (chosen-total (marksOf s))
+marks-short : (s : Step) → total (mark_words s) ≤ 22
+unfolding marks_of ascii total
+marks-short s = rw (mark-words s) (chosen-total (marks_of s))
 
 -- ---- the whole step
 
@@ -67,22 +67,22 @@ module _ (s : Step) (k : Kept (operator s) (args s)) where
   step-says : Says (operator s) (args s)
   step-says = (has-text (operator s)).says (args s) k.fit k.nines k.rule
 
-  step-name : PlainName (nameWord (operator s))
+  step-name : PlainName (name_word (operator s))
   step-name = (has-text (operator s)).named
 
-  pub step-spoken : Spoken (nameWord (operator s)) (argWords (operator s) (args s) ++ markWords s)
+  pub step-spoken : Spoken (name_word (operator s)) (arg_words (operator s) (args s) ++ mark_words s)
   step-spoken =
       record {
-        each = unfold all_of in rw step-name.reads (all_append worded (argWords (operator s) (args s)) (markWords s) step-says.each (marks-worded s));
+        each = unfold all_of in rw step-name.reads (all_append worded (arg_words (operator s) (args s)) (mark_words s) step-says.each (marks-worded s));
         no-modifier = step-name.no-modifier;
         no_value = step-name.no_value;
-        few = omega (arith, length-append (argWords (operator s) (args s)) (markWords s), step-says.few, marks-few s);
+        few = omega (arith, length-append (arg_words (operator s) (args s)) (mark_words s), step-says.few, marks-few s);
       }
 
   -- 64 of them, with three bytes between, have 4,096 at most
   pub writing-short : length (writing s) ≤ 61
-  unfolding writing stepWords operatorWords joined
+  unfolding writing step_words operator_words joined
   writing-short =
-      let a = joined-total 32 (nameWord (operator s)) (argWords (operator s) (args s) ++ markWords s) in
-      let b = total-append (nameWord (operator s) ∷ argWords (operator s) (args s)) (markWords s) in
+      let a = joined-total 32 (name_word (operator s)) (arg_words (operator s) (args s) ++ mark_words s) in
+      let b = total-append (name_word (operator s) ∷ arg_words (operator s) (args s)) (mark_words s) in
       omega (arith, step-says.short, marks-short s)

@@ -5,10 +5,10 @@ use Rattle.std.proofs.Math.Path.{refl}
 use Rattle.rules.specs.Text.Ascii.{ascii}
 use Rattle.rules.specs.Text.Bytes.{Bytes, white, starts, trimmed, before, onto, cut}
 use Rattle.laws_source.specs.Strings.{first, lines}
-use Rattle.laws_source.specs.Readers.{firstPart, isFullLineComment, loop, continue}
-use Rattle.laws_source.specs.Readers.{allComments, commentsTurn, removeCommentsBy, removeComments, commentsTurnWithout, removeCommentsWithout}
-use Rattle.laws_source.specs.Readers.{allProj, projTurn, collectProjBy, collectProj, projTurnWithout, collectProjWithout}
-use Rattle.laws_source.specs.Readers.{parseProjSteps, parseProjStepsWithout}
+use Rattle.laws_source.specs.Readers.{first_part, is_full_line_comment, loop, continue}
+use Rattle.laws_source.specs.Readers.{all_comments, comments_turn, remove_comments_by, remove_comments, comments_turn_without, remove_comments_without}
+use Rattle.laws_source.specs.Readers.{all_proj, proj_turn, collect_proj_by, collect_proj, proj_turn_without, collect_proj_without}
+use Rattle.laws_source.specs.Readers.{parse_proj_steps, parse_proj_steps_without}
 
 -- ---- the first part of a line
 
@@ -38,8 +38,8 @@ before-starts c (x ∷ t) = go (eqb x c) refl
     go false e = rw e refl
 
 -- The branch's question is answered no, for every line.
-pub never-full : (line : Bytes) → isFullLineComment line ≡ false
-unfolding isFullLineComment firstPart ascii
+pub never-full : (line : Bytes) → is_full_line_comment line ≡ false
+unfolding is_full_line_comment first_part ascii
 never-full line = rw (first-cut (λ (b : ℕ). eqb b 35) (trimmed white line)) (before-starts 35 (trimmed white line))
 
 -- ---- no text reaches it: whatever stood in the branch, every text is read as it is without the branch
@@ -49,26 +49,26 @@ unfolding loop
 loop-same f g e so [] = refl
 loop-same f g e so (line ∷ ls) = rw (e so line) (loop-same f g e (g so line) ls)
 
-pub comments-unreached : (branch : Bytes → Bytes) (t : Bytes) → removeCommentsBy branch t ≡ removeCommentsWithout t
-unfolding removeCommentsBy removeCommentsWithout
-comments-unreached branch t = loop-same (commentsTurn branch) commentsTurnWithout same_turn [] (lines (allComments t))
+pub comments-unreached : (branch : Bytes → Bytes) (t : Bytes) → remove_comments_by branch t ≡ remove_comments_without t
+unfolding remove_comments_by remove_comments_without
+comments-unreached branch t = loop-same (comments_turn branch) comments_turn_without same_turn [] (lines (all_comments t))
   where
-    same_turn : (so line : Bytes) → commentsTurn branch so line ≡ commentsTurnWithout so line
-    same_turn so line = unfold commentsTurn commentsTurnWithout in rw (never-full (trimmed white line)) refl
+    same_turn : (so line : Bytes) → comments_turn branch so line ≡ comments_turn_without so line
+    same_turn so line = unfold comments_turn comments_turn_without in rw (never-full (trimmed white line)) refl
 
-pub proj-unreached : (branch : Bytes → Bytes) (t : Bytes) → collectProjBy branch t ≡ collectProjWithout t
-unfolding collectProjBy collectProjWithout
-proj-unreached branch t = loop-same (projTurn branch) projTurnWithout same_turn [] (lines (allProj t))
+pub proj-unreached : (branch : Bytes → Bytes) (t : Bytes) → collect_proj_by branch t ≡ collect_proj_without t
+unfolding collect_proj_by collect_proj_without
+proj-unreached branch t = loop-same (proj_turn branch) proj_turn_without same_turn [] (lines (all_proj t))
   where
-    same_turn : (so line : Bytes) → projTurn branch so line ≡ projTurnWithout so line
-    same_turn so line = unfold projTurn projTurnWithout in rw (never-full (trimmed white line)) refl
+    same_turn : (so line : Bytes) → proj_turn branch so line ≡ proj_turn_without so line
+    same_turn so line = unfold proj_turn proj_turn_without in rw (never-full (trimmed white line)) refl
 
 -- ---- so the two readers are the same without it
 
-pub comments-without : (t : Bytes) → removeComments t ≡ removeCommentsWithout t
-unfolding removeComments
+pub comments-without : (t : Bytes) → remove_comments t ≡ remove_comments_without t
+unfolding remove_comments
 comments-without t = comments-unreached continue t
 
-pub proj-without : (t : Bytes) → parseProjSteps t ≡ parseProjStepsWithout t
-unfolding parseProjSteps parseProjStepsWithout collectProj
+pub proj-without : (t : Bytes) → parse_proj_steps t ≡ parse_proj_steps_without t
+unfolding parse_proj_steps parse_proj_steps_without collect_proj
 proj-without t = rw (proj-unreached continue t) refl

@@ -13,8 +13,8 @@ use Rattle.laws_source.specs.Strings.{ends}
 -- ---- a letter
 
 -- "neufswdp".contains(d)
-unfoldable pub isDesignator : ℕ → Bool
-isDesignator d = any_of (eqb d) (ascii "neufswdp")
+unfoldable pub is_designator : ℕ → Bool
+is_designator d = any_of (eqb d) (ascii "neufswdp")
 
 -- match d { 'w' => -1, 's' => -2, 'd' => -3, 'p' => -4, 'e' => 1, 'n' => 2, 'u' => 3, 'f' => 4, _ => 0 }: `arm` is what an arm makes of its number, and
 -- `last` is what the last case gives
@@ -31,8 +31,8 @@ matched arm last d =
     last)))))))
 
 -- does a letter come to the last case?
-unfoldable pub isLastCase : ℕ → Bool
-isLastCase d = matched (λ (x : ℤ). false) true d
+unfoldable pub is_last_case : ℕ → Bool
+is_last_case d = matched (λ (x : ℤ). false) true d
 
 -- let dd: i32 = match d { .. };
 unfoldable pub dd : ℤ → ℕ → ℤ
@@ -45,28 +45,28 @@ ahead x none = none
 ahead x (some l) = some (x ∷ l)
 
 -- if !"neufswdp".contains(d) { return None; } let dd: i32 = match d { .. }; indices[i] = dd;
-unfoldable pub indicesBy : ℤ → Bytes → Option (List ℤ)
-indicesBy last [] = some []
-indicesBy last (d ∷ ds) = cond (not (isDesignator d)) none (ahead (dd last d) (indicesBy last ds))
+unfoldable pub indices_by : ℤ → Bytes → Option (List ℤ)
+indices_by last [] = some []
+indices_by last (d ∷ ds) = cond (not (is_designator d)) none (ahead (dd last d) (indices_by last ds))
 
 -- _ => 0, // cannot happen: We already err'ed on unknowns
 unfoldable pub indices : Bytes → Option (List ℤ)
-indices t = indicesBy (pos 0) t
+indices t = indices_by (pos 0) t
 
 -- without the last case: the match gives a number where it has an arm, and else none
-unfoldable pub aheadIf : Option ℤ → Option (List ℤ) → Option (List ℤ)
-aheadIf none l = none
-aheadIf (some x) l = ahead x l
+unfoldable pub ahead_if : Option ℤ → Option (List ℤ) → Option (List ℤ)
+ahead_if none l = none
+ahead_if (some x) l = ahead x l
 
-unfoldable pub indicesWithout : Bytes → Option (List ℤ)
-indicesWithout [] = some []
-indicesWithout (d ∷ ds) = cond (not (isDesignator d)) none (aheadIf (matched some none d) (indicesWithout ds))
+unfoldable pub indices_without : Bytes → Option (List ℤ)
+indices_without [] = some []
+indices_without (d ∷ ds) = cond (not (is_designator d)) none (ahead_if (matched some none d) (indices_without ds))
 
 -- ---- the ending
 
 -- let good_angular = desc.ends_with("_deg") || desc.ends_with("_gon") || desc.ends_with("_rad") || desc.ends_with("_any");
-unfoldable pub goodAngular : Bytes → Bool
-goodAngular desc = ends (ascii "_deg") desc || (ends (ascii "_gon") desc || (ends (ascii "_rad") desc || ends (ascii "_any") desc))
+unfoldable pub good_angular : Bytes → Bool
+good_angular desc = ends (ascii "_deg") desc || (ends (ascii "_gon") desc || (ends (ascii "_rad") desc || ends (ascii "_any") desc))
 
 -- let mut torad = 1_f64; if desc.len() == 8 { .. if desc.ends_with("_deg") { .. } else if desc.ends_with("_gon") { .. } }
 unfoldable pub torad : Bytes → ℕ
@@ -83,31 +83,31 @@ unfoldable pub count : ℕ → List ℤ → ℕ
 count k l = length (kept (λ (x : ℤ). eqb (size x) k) l)
 
 -- count != [1, 1, 1, 1], turned
-unfoldable pub countedOnce : List ℤ → Bool
-countedOnce l = eqb (count 1 l) 1 && (eqb (count 2 l) 1 && (eqb (count 3 l) 1 && eqb (count 4 l) 1))
+unfoldable pub counted_once : List ℤ → Bool
+counted_once l = eqb (count 1 l) 1 && (eqb (count 2 l) 1 && (eqb (count 3 l) 1 && eqb (count 4 l) 1))
 
 -- if count != [1, 1, 1, 1] { return None; }
 unfoldable pub permutation : ℕ → Option (List ℤ) → Option Word
 permutation angle none = none
-permutation angle (some l) = cond (countedOnce l) (some (record { axes = l; angle = angle })) none
+permutation angle (some l) = cond (counted_once l) (some (record { axes = l; angle = angle })) none
 
 -- ---- the descriptor
 
 -- if desc.len() != 4 && desc.len() != 8 { return None; } .. if desc.len() == 8 { .. if !good_angular { return None; } .. }
-unfoldable pub byLetters : Bytes → Option (List ℤ) → Option Word
-byLetters desc l =
+unfoldable pub by_letters : Bytes → Option (List ℤ) → Option Word
+by_letters desc l =
     cond (not (eqb (length desc) 4) && not (eqb (length desc) 8)) none
-    (cond (eqb (length desc) 8 && not (goodAngular desc)) none
+    (cond (eqb (length desc) 8 && not (good_angular desc)) none
     (permutation (torad desc) l))
 
 -- if desc == "pass" { return Some(..); } .. let desc: Vec<char> = desc[0..4].chars().collect();
 unfoldable pub described : (Bytes → Option (List ℤ)) → Bytes → Option Word
 described letters desc =
     cond (same desc (ascii "pass")) (some (record { axes = pos 1 ∷ pos 2 ∷ pos 3 ∷ pos 4 ∷ []; angle = 0 }))
-    (byLetters desc (letters (take 4 desc)))
+    (by_letters desc (letters (take 4 desc)))
 
-unfoldable pub coordinateOrderDescriptor : Bytes → Option Word
-coordinateOrderDescriptor desc = described indices desc
+unfoldable pub coordinate_order_descriptor : Bytes → Option Word
+coordinate_order_descriptor desc = described indices desc
 
-unfoldable pub coordinateOrderDescriptorWithout : Bytes → Option Word
-coordinateOrderDescriptorWithout desc = described indicesWithout desc
+unfoldable pub coordinate_order_descriptor_without : Bytes → Option Word
+coordinate_order_descriptor_without desc = described indices_without desc

@@ -5,23 +5,23 @@
 use Rattle.std.specs.Prelude.{Bool, cond, not, List, [], ◌∷◌, ◌++◌, map}
 use Rattle.rules.specs.Text.Ascii.{ascii, is}
 use Rattle.rules.specs.Text.Lists.{kept}
-use Rattle.rules.specs.Text.Bytes.{Bytes, white, starts, replace, trimStart, trimmed, cut}
+use Rattle.rules.specs.Text.Bytes.{Bytes, white, starts, replace, trim_start, trimmed, cut}
 use Rattle.rules.specs.Text.Normal.{normal}
-use Rattle.laws_source.specs.Strings.{is_empty, first, lines, splitAt, trimStartMatches}
+use Rattle.laws_source.specs.Strings.{is_empty, first, lines, split_at, trim_start_matches}
 
 -- ---- what both do with a line
 
 -- let line: Vec<&str> = line.trim().split('#').collect();      and, of it, line[0]
-unfoldable pub firstPart : Bytes → Bytes
-firstPart line = first (cut (is "#") (trimmed white line))
+unfoldable pub first_part : Bytes → Bytes
+first_part line = first (cut (is "#") (trimmed white line))
 
 -- if line[0].starts_with('#')                                  the branch: "Full line comment - just skip"
-unfoldable pub isFullLineComment : Bytes → Bool
-isFullLineComment line = starts (ascii "#") (firstPart line)
+unfoldable pub is_full_line_comment : Bytes → Bool
+is_full_line_comment line = starts (ascii "#") (first_part line)
 
 -- trimmed += " "; trimmed += line[0].trim();
 unfoldable pub collected : Bytes → Bytes → Bytes
-collected so line = so ++ (ascii " " ++ trimmed white (firstPart line))
+collected so line = so ++ (ascii " " ++ trimmed white (first_part line))
 
 -- for line in all.lines()
 unfoldable pub loop : (Bytes → Bytes → Bytes) → Bytes → List Bytes → Bytes
@@ -35,65 +35,65 @@ continue so = so
 -- ---- remove_comments
 
 -- let all = self.as_ref().trim().replace("\r\n", "\n").replace('\r', "\n").replace("\n:", "\n").to_string();
-unfoldable pub allComments : Bytes → Bytes
-allComments t = replace (ascii "\n:") (ascii "\n") (replace (ascii "\r") (ascii "\n") (replace (ascii "\r\n") (ascii "\n") (trimmed white t)))
+unfoldable pub all_comments : Bytes → Bytes
+all_comments t = replace (ascii "\n:") (ascii "\n") (replace (ascii "\r") (ascii "\n") (replace (ascii "\r\n") (ascii "\n") (trimmed white t)))
 
 -- let line = line.trim(); if line.is_empty() { continue; }, then the branch, and then the collecting
-unfoldable pub commentsTurn : (Bytes → Bytes) → Bytes → Bytes → Bytes
-commentsTurn branch so line =
+unfoldable pub comments_turn : (Bytes → Bytes) → Bytes → Bytes → Bytes
+comments_turn branch so line =
     let line = trimmed white line in
     cond (is_empty line) so
-    (cond (isFullLineComment line) (branch so)
+    (cond (is_full_line_comment line) (branch so)
     (collected so line))
 
 -- let mut trimmed = String::new(); for line in all.lines() { .. } trimmed
-unfoldable pub removeCommentsBy : (Bytes → Bytes) → Bytes → Bytes
-removeCommentsBy branch t = loop (commentsTurn branch) [] (lines (allComments t))
+unfoldable pub remove_comments_by : (Bytes → Bytes) → Bytes → Bytes
+remove_comments_by branch t = loop (comments_turn branch) [] (lines (all_comments t))
 
-unfoldable pub removeComments : Bytes → Bytes
-removeComments t = removeCommentsBy continue t
+unfoldable pub remove_comments : Bytes → Bytes
+remove_comments t = remove_comments_by continue t
 
 -- without the branch
-unfoldable pub commentsTurnWithout : Bytes → Bytes → Bytes
-commentsTurnWithout so line =
+unfoldable pub comments_turn_without : Bytes → Bytes → Bytes
+comments_turn_without so line =
     let line = trimmed white line in
     cond (is_empty line) so
     (collected so line)
 
-unfoldable pub removeCommentsWithout : Bytes → Bytes
-removeCommentsWithout t = loop commentsTurnWithout [] (lines (allComments t))
+unfoldable pub remove_comments_without : Bytes → Bytes
+remove_comments_without t = loop comments_turn_without [] (lines (all_comments t))
 
 -- ---- parse_proj: the lines
 
 -- let all = definition.replace("\r\n", "\n").replace('\r', "\n").replace(" +", " ").replace("\n+", " ").trim().trim_start_matches('+').to_string();
-unfoldable pub allProj : Bytes → Bytes
-allProj t =
-    trimStart (is "+")
+unfoldable pub all_proj : Bytes → Bytes
+all_proj t =
+    trim_start (is "+")
     (trimmed white
     (replace (ascii "\n+") (ascii " ") (replace (ascii " +") (ascii " ") (replace (ascii "\r") (ascii "\n") (replace (ascii "\r\n") (ascii "\n") t)))))
 
 -- let line = line.trim();, then the branch, and then the collecting. (No line is skipped for being empty.)
-unfoldable pub projTurn : (Bytes → Bytes) → Bytes → Bytes → Bytes
-projTurn branch so line =
+unfoldable pub proj_turn : (Bytes → Bytes) → Bytes → Bytes → Bytes
+proj_turn branch so line =
     let line = trimmed white line in
-    cond (isFullLineComment line) (branch so)
+    cond (is_full_line_comment line) (branch so)
     (collected so line)
 
 -- let mut trimmed = String::new(); for line in all.lines() { .. }
-unfoldable pub collectProjBy : (Bytes → Bytes) → Bytes → Bytes
-collectProjBy branch t = loop (projTurn branch) [] (lines (allProj t))
+unfoldable pub collect_proj_by : (Bytes → Bytes) → Bytes → Bytes
+collect_proj_by branch t = loop (proj_turn branch) [] (lines (all_proj t))
 
-unfoldable pub collectProj : Bytes → Bytes
-collectProj t = collectProjBy continue t
+unfoldable pub collect_proj : Bytes → Bytes
+collect_proj t = collect_proj_by continue t
 
 -- without the branch
-unfoldable pub projTurnWithout : Bytes → Bytes → Bytes
-projTurnWithout so line =
+unfoldable pub proj_turn_without : Bytes → Bytes → Bytes
+proj_turn_without so line =
     let line = trimmed white line in
     collected so line
 
-unfoldable pub collectProjWithout : Bytes → Bytes
-collectProjWithout t = loop projTurnWithout [] (lines (allProj t))
+unfoldable pub collect_proj_without : Bytes → Bytes
+collect_proj_without t = loop proj_turn_without [] (lines (all_proj t))
 
 -- ---- parse_proj: the steps
 
@@ -102,16 +102,16 @@ unfoldable pub spaced : Bytes → Bytes
 spaced u = ascii " " ++ (normal u ++ ascii " ")
 
 -- x.trim().trim_start_matches("step ")
-unfoldable pub withoutStep : Bytes → Bytes
-withoutStep x = trimStartMatches (ascii "step ") (trimmed white x)
+unfoldable pub without_step : Bytes → Bytes
+without_step x = trim_start_matches (ascii "step ") (trimmed white x)
 
 -- trimmed.split(" step ").filter(|x| !x.trim().trim_start_matches("step ").is_empty()).map(|x| x.trim().trim_start_matches("step ").to_string())
-unfoldable pub stepsIn : Bytes → List Bytes
-stepsIn u = map withoutStep (kept (λ (x : Bytes). not (is_empty (withoutStep x))) (splitAt (ascii " step ") u))
+unfoldable pub steps_in : Bytes → List Bytes
+steps_in u = map without_step (kept (λ (x : Bytes). not (is_empty (without_step x))) (split_at (ascii " step ") u))
 
 -- let steps: Vec<String>
-unfoldable pub parseProjSteps : Bytes → List Bytes
-parseProjSteps t = stepsIn (spaced (collectProj t))
+unfoldable pub parse_proj_steps : Bytes → List Bytes
+parse_proj_steps t = steps_in (spaced (collect_proj t))
 
-unfoldable pub parseProjStepsWithout : Bytes → List Bytes
-parseProjStepsWithout t = stepsIn (spaced (collectProjWithout t))
+unfoldable pub parse_proj_steps_without : Bytes → List Bytes
+parse_proj_steps_without t = steps_in (spaced (collect_proj_without t))

@@ -4,11 +4,11 @@ use Rattle.std.specs.Prelude.{◌≡◌, refl, ℕ, suc, Float}
 use Rattle.std.proofs.Common.{sym, ap, ◌∙◌}
 use Rattle.std.proofs.Math.Option.{none}
 use mathlib.Core.List.{List, [], ◌∷◌, map, map-map}
-use Rattle.rules.specs.Pipeline.Record.{noSpan, operator, args, spanned, spanless, refusal18}
-use Rattle.rules.specs.Pipeline.Running.{Numbered, directed, act, omitted, runningFrom, running}
+use Rattle.rules.specs.Pipeline.Record.{no_span, operator, args, spanned, spanless, refusal18}
+use Rattle.rules.specs.Pipeline.Running.{Numbered, directed, act, omitted, running_from, running}
 use Rattle.rules.specs.Pipeline.Run.{unless18, runs}
-use Rattle.rules.specs.Pipeline.Check.{begin, verdict, only, foretold, spanAt, answered, checked, check}
-use Rattle.rules.specs.Pipeline.Write.{markWords, stepWords, writing, tableWriting, write}
+use Rattle.rules.specs.Pipeline.Check.{begin, verdict, only, foretold, span_at, answered, checked, check}
+use Rattle.rules.specs.Pipeline.Write.{mark_words, step_words, writing, table_writing, write}
 use Rattle.rules.specs.Face.Demands.{SameButSpans, SaysTheSame}
 use Rattle.rules.specs.declared.Span.{Span}
 use Rattle.rules.specs.declared.Step.{Step}
@@ -30,13 +30,13 @@ omitted-aside Forward s = refl
 omitted-aside Inverse s = refl
 
 pub writing-aside : (s : Step) → writing (spanless s) ≡ writing s
-unfolding writing stepWords markWords operator args spanless spanned
+unfolding writing step_words mark_words operator args spanless spanned
 writing-aside s = refl
 
 -- ---- of a table
 
-running-aside : (place : ℕ) (d : Direction) (t : List Step) → runningFrom place d (map spanless t) ≡ runningFrom place d t
-unfolding runningFrom
+running-aside : (place : ℕ) (d : Direction) (t : List Step) → running_from place d (map spanless t) ≡ running_from place d t
+unfolding running_from
 running-aside place d [] = refl
 running-aside place d (s ∷ l) = rw (omitted-aside d s, act-aside d s, running-aside (suc place) d l)
 
@@ -62,9 +62,9 @@ only-alike v p q = record { verdict = refl; run = refl; depths = refl; deepest =
 answered-alike : (t u : List Step) (v : Verdict) (l : List Numbered) → SaysTheSame (answered v t l) (answered v u l)
 unfolding answered
 answered-alike t u Passes l = says-itself (foretold l)
-answered-alike t u (TooFew k) l = only-alike (TooFew k) (spanAt k t) (spanAt k u)
-answered-alike t u (TooMany k) l = only-alike (TooMany k) (spanAt k t) (spanAt k u)
-answered-alike t u (Refused number k) l = says-itself (only (Refused number k) noSpan)
+answered-alike t u (TooFew k) l = only-alike (TooFew k) (span_at k t) (span_at k u)
+answered-alike t u (TooMany k) l = only-alike (TooMany k) (span_at k t) (span_at k u)
+answered-alike t u (Refused number k) l = says-itself (only (Refused number k) no_span)
 
 -- two tables that are not refused 18 and differ only in spans
 module _ (t u : List Step) (t-good : refusal18 t ≡ none) (u-good : refusal18 u ≡ none) (same : SameButSpans t u) where
@@ -77,5 +77,5 @@ module _ (t u : List Step) (t-good : refusal18 t ≡ none) (u-good : refusal18 u
   run-aside d xs store = rw (t-good, u-good, runs-the-same d t u same)
 
   pub write-aside : write t ≡ write u
-  unfolding write tableWriting
+  unfolding write table_writing
   write-aside = rw (t-good, u-good, alike (map writing) (λ v. map-map writing spanless v ∙ (λ k. map (λ (s : Step). writing-aside s k) v)) t u same)

@@ -7,16 +7,16 @@ use Prim.Native.Nat.{ℕ, zero, suc, ◌+◌, ◌-◌, min}
 use mathlib.Core.List.{List, [], ◌∷◌}
 use native.Mathlib.Omega.{arith}
 use Rattle.std.proofs.Math.ListN.{length-take}
-use Rattle.rules.specs.Operators.Acts.{Act, pushes, pops, popsAll, flips, rolls, swaps, drops, orders, adapts}
-use Rattle.rules.specs.Pipeline.Columns.{Machine, Kit, rolledOnce, rolled, swappedTop, pushed, popped, topped, flipped, moved, tooFew}
-use Rattle.rules.specs.Pipeline.Tuples.{State, onNumbers, stored, drained, stomped, starved, actedIf, acted}
+use Rattle.rules.specs.Operators.Acts.{Act, pushes, pops, pops_all, flips, rolls, swaps, drops, orders, adapts}
+use Rattle.rules.specs.Pipeline.Columns.{Machine, Kit, rolled_once, rolled, swapped_top, pushed, popped, topped, flipped, moved, too_few}
+use Rattle.rules.specs.Pipeline.Tuples.{State, on_numbers, stored, drained, stomped, starved, acted_if, acted}
 use Rattle.rules.specs.declared.Coord.{Coord}
 
 -- the depth after a step that finds enough columns
 unfoldable pub grown : Act → ℕ → ℕ
 grown (pushes is) d = length is + d
 grown (pops is) d = d - length is
-grown (popsAll is) d = d - length is
+grown (pops_all is) d = d - length is
 grown (flips is) d = d
 grown (rolls w n) d = d
 grown swaps d = d
@@ -28,7 +28,7 @@ grown (adapts mode back l) d = d
 unfoldable pub left : Act → ℕ → ℕ
 left (pushes is) d = d
 left (pops is) d = d - length is
-left (popsAll is) d = d
+left (pops_all is) d = d
 left (flips is) d = d
 left (rolls w n) d = d
 left swaps d = d
@@ -37,14 +37,14 @@ left (orders back l) d = d
 left (adapts mode back l) d = d
 
 -- the depth after a step of the run
-unfoldable pub depthAfter : Act → ℕ → ℕ
-depthAfter a d = cond (tooFew a d) (left a d) (grown a d)
+unfoldable pub depth_after : Act → ℕ → ℕ
+depth_after a d = cond (too_few a d) (left a d) (grown a d)
 
 -- ---- columns alone
 
 module _ {C : Type 0} where
-  once-length : (m : ℕ) (l : List C) → length (rolledOnce m l) ≡ length l
-  unfolding rolledOnce
+  once-length : (m : ℕ) (l : List C) → length (rolled_once m l) ≡ length l
+  unfolding rolled_once
   once-length m [] = refl
   once-length m (v ∷ l) = simp (length-append, length-take, length-drop) (fits (m - 1) (length l))
     where
@@ -54,10 +54,10 @@ module _ {C : Type 0} where
   roll-length : (m n : ℕ) (l : List C) → length (rolled m n l) ≡ length l
   unfolding rolled
   roll-length m zero l = refl
-  roll-length m (suc n) l = roll-length m n (rolledOnce m l) ∙ once-length m l
+  roll-length m (suc n) l = roll-length m n (rolled_once m l) ∙ once-length m l
 
-  swap-length : (l : List C) → length (swappedTop l) ≡ length l
-  unfolding swappedTop
+  swap-length : (l : List C) → length (swapped_top l) ≡ length l
+  unfolding swapped_top
   swap-length [] = refl
   swap-length (v ∷ []) = refl
   swap-length (v ∷ w ∷ l) = refl
@@ -87,7 +87,7 @@ module _ {T C : Type 0} (k : Kit T C) where
   unfolding moved grown
   moved-depth (pushes is) m = push-length is m.tuples m.columns
   moved-depth (pops is) m = pop-length is m.tuples m.columns
-  moved-depth (popsAll is) m = pop-length is m.tuples m.columns
+  moved-depth (pops_all is) m = pop-length is m.tuples m.columns
   moved-depth (flips is) m = flip-length is m.tuples m.columns
   moved-depth (rolls w n) m = roll-length w n m.columns
   moved-depth swaps m = swap-length m.columns
@@ -107,7 +107,7 @@ starved-depth : (a : Act) (m : State) → length (starved a m).columns ≡ left 
 unfolding starved stomped left
 starved-depth (pushes is) m = refl
 starved-depth (pops is) m = drained-length is m.tuples m.columns
-starved-depth (popsAll is) m = refl
+starved-depth (pops_all is) m = refl
 starved-depth (flips is) m = refl
 starved-depth (rolls w n) m = refl
 starved-depth swaps m = refl
@@ -116,10 +116,10 @@ starved-depth (orders back l) m = refl
 starved-depth (adapts mode back l) m = refl
 
 -- A step of the run, whatever it finds.
-pub acted-depth : (a : Act) (m : State) → length (acted a m).columns ≡ depthAfter a (length m.columns)
-unfolding acted actedIf depthAfter
-acted-depth a m = go (tooFew a (length m.columns))
+pub acted-depth : (a : Act) (m : State) → length (acted a m).columns ≡ depth_after a (length m.columns)
+unfolding acted acted_if depth_after
+acted-depth a m = go (too_few a (length m.columns))
   where
-    go : (b : Bool) → length (actedIf b a m).columns ≡ cond b (left a (length m.columns)) (grown a (length m.columns))
+    go : (b : Bool) → length (acted_if b a m).columns ≡ cond b (left a (length m.columns)) (grown a (length m.columns))
     go true = starved-depth a m
-    go false = moved-depth onNumbers a m
+    go false = moved-depth on_numbers a m

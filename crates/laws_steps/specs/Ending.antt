@@ -19,15 +19,15 @@ use Rattle.rules.specs.Text.Split.{split}
 use Rattle.rules.specs.Text.Parameters.{parameters}
 use Rattle.rules.specs.Proj.Translate.{translate}
 use Rattle.rules.specs.Text.Reader.{next}
-use Rattle.rules.specs.Pipeline.Prepare.{prepareIn, prepare, prepareAs, Prepares, PreparesAs}
-use Rattle.rules.specs.Pipeline.Record.{inReading, refusal18}
+use Rattle.rules.specs.Pipeline.Prepare.{prepare_in, prepare, prepare_as, Prepares, PreparesAs}
+use Rattle.rules.specs.Pipeline.Record.{in_reading, refusal18}
 use Rattle.rules.specs.Pipeline.Running.{Numbered, running}
 use Rattle.rules.specs.Pipeline.Columns.{after, depths, deepest}
 use Rattle.rules.specs.Pipeline.Tuples.{acted}
-use Rattle.rules.specs.Pipeline.Run.{Outcome, start, count, passes64, badList, storeAfter, refused, finished, unless16, unless15, unless18, runs, Runs}
+use Rattle.rules.specs.Pipeline.Run.{Outcome, start, count, passes64, bad_list, store_after, refused, finished, unless16, unless15, unless18, runs, Runs}
 use Rattle.rules.specs.Pipeline.Check.{Checks}
-use Rattle.rules.specs.Pipeline.Write.{tableWriting, writtenUnless18, write}
-use Rattle.rules.specs.Face.Demands.{OneOf, Ends, textRefusal, RunEnds, CheckEnds, NextEnds}
+use Rattle.rules.specs.Pipeline.Write.{table_writing, written_unless18, write}
+use Rattle.rules.specs.Face.Demands.{OneOf, Ends, text_refusal, RunEnds, CheckEnds, NextEnds}
 use Rattle.rules.specs.declared.Reading.{Reading}
 use Rattle.rules.specs.declared.Mode.{Mode}
 use Rattle.rules.specs.declared.Mode.TheVariants as mode-is
@@ -88,27 +88,27 @@ module _ {A R : Type 0} (in_words : Reply ℕ → R) (refusal : ℕ → ℕ → 
 
 module _ {text out : Bytes} {r : Written} {out' : Bytes} where
   text-ends : (l : List ℕ) → OneOf l 7 → (own : Bytes → Reply Bytes) → OneOf l 1 → OneOf l 2 → Refusing (By l) (own text) → Writes own text out r out'
-      → Ends written_is.Wrote textRefusal l out r out'
+      → Ends written_is.Wrote text_refusal l out r out'
   unfolding written
-  text-ends l seven own = ends written textRefusal (λ number place. refl) (λ place offset. refl) l seven own
+  text-ends l seven own = ends written text_refusal (λ number place. refl) (λ place offset. refl) l seven own
 
-  pub normalise-ends : Writes normalise text out r out' → Ends written_is.Wrote textRefusal (1 ∷ 2 ∷ 7 ∷ []) out r out'
+  pub normalise-ends : Writes normalise text out r out' → Ends written_is.Wrote text_refusal (1 ∷ 2 ∷ 7 ∷ []) out r out'
   unfolding any_of
   normalise-ends = text-ends (1 ∷ 2 ∷ 7 ∷ []) refl normalise refl refl (normalise-refuses (By (1 ∷ 2 ∷ 7 ∷ [])) text)
 
-  pub definition-ends : Writes define text out r out' → Ends written_is.Wrote textRefusal (1 ∷ 2 ∷ 7 ∷ []) out r out'
+  pub definition-ends : Writes define text out r out' → Ends written_is.Wrote text_refusal (1 ∷ 2 ∷ 7 ∷ []) out r out'
   unfolding any_of
   definition-ends = text-ends (1 ∷ 2 ∷ 7 ∷ []) refl define refl refl (define-refuses (By (1 ∷ 2 ∷ 7 ∷ [])) text)
 
-  pub split-ends : Writes split text out r out' → Ends written_is.Wrote textRefusal (1 ∷ 2 ∷ 6 ∷ 7 ∷ 8 ∷ []) out r out'
+  pub split-ends : Writes split text out r out' → Ends written_is.Wrote text_refusal (1 ∷ 2 ∷ 6 ∷ 7 ∷ 8 ∷ []) out r out'
   unfolding any_of
   split-ends = text-ends (1 ∷ 2 ∷ 6 ∷ 7 ∷ 8 ∷ []) refl split refl refl (split-refuses (By (1 ∷ 2 ∷ 6 ∷ 7 ∷ 8 ∷ [])) text (λ p l. refl) refl)
 
-  pub parameters-ends : Writes parameters text out r out' → Ends written_is.Wrote textRefusal (1 ∷ 2 ∷ 6 ∷ 7 ∷ 9 ∷ []) out r out'
+  pub parameters-ends : Writes parameters text out r out' → Ends written_is.Wrote text_refusal (1 ∷ 2 ∷ 6 ∷ 7 ∷ 9 ∷ []) out r out'
   unfolding any_of
   parameters-ends = text-ends (1 ∷ 2 ∷ 6 ∷ 7 ∷ 9 ∷ []) refl parameters refl refl (parameters-refuses (By (1 ∷ 2 ∷ 6 ∷ 7 ∷ 9 ∷ [])) text refl refl)
 
-  pub translate-ends : Writes translate text out r out' → Ends written_is.Wrote textRefusal (1 ∷ 2 ∷ 3 ∷ 4 ∷ 5 ∷ 7 ∷ []) out r out'
+  pub translate-ends : Writes translate text out r out' → Ends written_is.Wrote text_refusal (1 ∷ 2 ∷ 3 ∷ 4 ∷ 5 ∷ 7 ∷ []) out r out'
   unfolding any_of
   translate-ends =
       text-ends (1 ∷ 2 ∷ 3 ∷ 4 ∷ 5 ∷ 7 ∷ []) refl translate refl refl
@@ -118,7 +118,7 @@ module _ {text out : Bytes} {r : Written} {out' : Bytes} where
 abbrev preparing : List ℕ
 preparing = 1 ∷ 2 ∷ 6 ∷ 7 ∷ 8 ∷ 9 ∷ 10 ∷ 11 ∷ 12 ∷ 13 ∷ 14 ∷ []
 
-step-refuses : (m : Mode) (text : Bytes) → Refusing (By preparing) (prepareIn m text)
+step-refuses : (m : Mode) (text : Bytes) → Refusing (By preparing) (prepare_in m text)
 unfolding any_of
 step-refuses m text =
     let each : (k : ℕ) → OfAStep (By preparing) k = λ k.
@@ -136,17 +136,17 @@ prepare-ends {text} = prepared-ends prepare (unfold prepare in step-refuses mode
 
 pub prepare-as-ends : (how : Reading) (m : Mode) {text : Bytes} {table : List Step} {r : Prepared} {table' : List Step} → PreparesAs how m text table r table'
     → Ends prepared-is.Steps prepared-is.Refused preparing table r table'
-unfolding prepareAs Refusing
+unfolding prepare_as Refusing
 prepare-as-ends how m {text} =
-    prepared-ends (prepareAs how m) (then-refuses (By preparing) (prepareIn m text) (λ l. answers (map (inReading how) l)) (step-refuses m text) (λ l e. tt))
+    prepared-ends (prepare_as how m) (then-refuses (By preparing) (prepare_in m text) (λ l. answers (map (in_reading how) l)) (step-refuses m text) (λ l e. tt))
 
 pub write-ends : {out : Bytes} {r : Written} {out' : Bytes} (table : List Step) → Lends (write table) out r out'
-    → Ends written_is.Wrote textRefusal (7 ∷ 18 ∷ []) out r out'
-unfolding written any_of write writtenUnless18 Refusing
+    → Ends written_is.Wrote text_refusal (7 ∷ 18 ∷ []) out r out'
+unfolding written any_of write written_unless18 Refusing
 write-ends {out} {r} {out'} table p =
-    lent-ends written textRefusal (λ number place. refl) (λ place offset. refl) (7 ∷ 18 ∷ []) refl (write table) out r out' (go (refusal18 table)) p.exactly
+    lent-ends written text_refusal (λ number place. refl) (λ place offset. refl) (7 ∷ 18 ∷ []) refl (write table) out r out' (go (refusal18 table)) p.exactly
   where
-    go : (o : Option ℕ) → Refusing (By (7 ∷ 18 ∷ [])) (writtenUnless18 o (tableWriting table))
+    go : (o : Option ℕ) → Refusing (By (7 ∷ 18 ∷ [])) (written_unless18 o (table_writing table))
     go none = tt
     go (some k) = refl
 
@@ -182,16 +182,16 @@ unfolding runs unless18 refused any_of
 ok d t xs store = go (refusal18 t)
   where
     go : (o : Option ℕ) → Ok xs store (unless18 o d t xs store)
-    go none = ok-15 (running d t) xs store (badList xs)
+    go none = ok-15 (running d t) xs store (bad_list xs)
     go (some k) = not_done 18 k refl refl refl refl
 
 few : (l u s : ℕ) → u ≤ s → l + (u - l + (s - u)) ≡ s → l + (u - l) ≡ u
 few l u s h e = omega arith
 
 -- what lies past the part of the store that a run uses
-past : (used : ℕ) (columns : List (List Float)) (store : List Float) → used ≤ length store → length (storeAfter used columns store) ≡ length store
-    → drop used (storeAfter used columns store) ≡ drop used store
-unfolding storeAfter
+past : (used : ℕ) (columns : List (List Float)) (store : List Float) → used ≤ length store → length (store_after used columns store) ≡ length store
+    → drop used (store_after used columns store) ≡ drop used store
+unfolding store_after
 past used columns store h e =
     let left = flat_map (λ (v : List Float). v) (reverse columns) in
     let rest = replicate (used - length left) (fin false 0 (pos 0)) in

@@ -6,7 +6,7 @@ use Rattle.std.proofs.Common.{sym, ap, ◌∙◌, subst, append-nil, ltb-true, l
 use Rattle.std.proofs.Math.Option.{Option, none, some}
 use Rattle.rules.specs.Pipeline.Record.{refusal18}
 use Rattle.rules.specs.Pipeline.Running.{Numbered, running}
-use Rattle.rules.specs.Pipeline.Columns.{takes, tooFew, after}
+use Rattle.rules.specs.Pipeline.Columns.{takes, too_few, after}
 use Rattle.rules.specs.Pipeline.Tuples.{State, acted}
 use Rattle.rules.specs.Pipeline.Run.{start}
 use Rattle.rules.specs.Pipeline.Check.{only, checked, check}
@@ -81,7 +81,7 @@ after-well (TooMany k) s l m w t = later s w t
 after-well (Refused number k) s l m w t = t
 
 fault-tells : (l : List Numbered) (m : State) → Tells (fault l m) l m
-unfolding fault tooFew Tells
+unfolding fault too_few Tells
 fault-tells [] m = done
 fault-tells (s ∷ l) m = go (ltb (length m.columns) (takes s.does)) refl (ltb 64 (length (acted s.does m).columns)) refl (fault-tells l (acted s.does m))
   where
@@ -94,7 +94,7 @@ fault-tells (s ∷ l) m = go (ltb (length m.columns) (takes s.does)) refl (ltb 6
 
 -- and the other way round: well steps are passed over, and the first that is not decides
 past-well : (before l : List Numbered) (m : State) → AllWell before m → fault (before ++ l) m ≡ fault l (after acted before m)
-unfolding fault tooFew after
+unfolding fault too_few after
 past-well [] l m w = refl
 past-well (s ∷ before) l m (next w ws) = rw (le-ltb _ _ w.enough, le-ltb _ _ w.within) (past-well before l (acted s.does m) ws)
 
@@ -103,14 +103,14 @@ unfolding fault
 well-fault l m w = ap (λ (r : List Numbered). fault r m) (sym (append-nil l)) ∙ past-well l [] m w
 
 few-fault : {k : ℕ} {l : List Numbered} {m : State} → First FewAt k l m → fault l m ≡ TooFew k
-unfolding fault tooFew
+unfolding fault too_few
 few-fault {k} {l} {m} f = ap (λ (r : List Numbered). fault r m) f.whole ∙ past-well f.before (f.step ∷ f.rest) m f.well ∙ decides ∙ ap TooFew f.named
   where
     decides : fault (f.step ∷ f.rest) (after acted f.before m) ≡ TooFew f.step.place
     decides = rw (lt-ltb _ _ f.fault-is)
 
 many-fault : {k : ℕ} {l : List Numbered} {m : State} → First ManyAt k l m → fault l m ≡ TooMany k
-unfolding fault tooFew
+unfolding fault too_few
 many-fault {k} {l} {m} f = ap (λ (r : List Numbered). fault r m) f.whole ∙ past-well f.before (f.step ∷ f.rest) m f.well ∙ decides ∙ ap TooMany f.named
   where
     decides : fault (f.step ∷ f.rest) (after acted f.before m) ≡ TooMany f.step.place

@@ -11,10 +11,10 @@ use Rattle.rules.specs.Text.Split.{split}
 use Rattle.rules.specs.Text.Parameters.{parameters}
 use Rattle.rules.specs.Proj.Translate.{translate}
 use Rattle.rules.specs.Text.Reader.{next, define}
-use Rattle.rules.specs.Pipeline.Prepare.{prepare, prepareAs, Prepares, PreparesAs}
+use Rattle.rules.specs.Pipeline.Prepare.{prepare, prepare_as, Prepares, PreparesAs}
 use Rattle.rules.specs.Pipeline.Run.{Outcome, runs, Runs}
 use Rattle.rules.specs.Pipeline.Check.{check}
-use Rattle.rules.specs.Face.Plain.{plainWritten, plainFound, plainPrepared, recordCount, directionOf, plainVerdict, plainCheck, PlainChecks, plainRan, PlainOutcome, plainOutcome, PlainRuns}
+use Rattle.rules.specs.Face.Plain.{plain_written, plain_found, plain_prepared, record_count, direction_of, plain_verdict, plain_check, PlainChecks, plain_ran, PlainOutcome, plain_outcome, PlainRuns}
 use Rattle.rules.specs.Face.Demands.{OneOf, Ends, RunEnds, ExportsText}
 use Rattle.rules.specs.declared.Reading.{Reading}
 use Rattle.rules.specs.declared.Mode.{Mode}
@@ -74,9 +74,9 @@ module _ {A R : Type 0} (in_words : Reply ℕ → R) (plain : R → Answer) {ans
 behind-text : (own : Bytes → Reply Bytes) (numbers : List ℕ) (none : any_of (eqb 0) numbers ≡ false)
     → ((text out : Bytes) (w : Written) (out' : Bytes) → Writes own text out w out' → Ends written_is.Wrote (λ number place offset. written_is.Refused number place) numbers out w out')
     → ExportsText own
-unfolding plainWritten
+unfolding plain_written
 behind-text own numbers none ends text out r out' p =
-    behind-0 written plainWritten (λ n. refl) (λ number place offset. refl) own numbers none text out r out' (λ w h. ends text out w out' h) p
+    behind-0 written plain_written (λ n. refl) (λ number place offset. refl) own numbers none text out r out' (λ w h. ends text out w out' h) p
 
 pub behind-normalise : ExportsText normalise
 unfolding any_of
@@ -98,65 +98,65 @@ pub behind-translate : ExportsText translate
 unfolding any_of
 behind-translate = behind-text translate _ refl (λ text out w out' h. translate-ends h)
 
-pub behind-prepare : {text : Bytes} {table : List Step} {r : Answer} {table' : List Step} → Promised recordCount prepare text table r table'
-    → (w : Prepared) × Prepares text table w table' × (r ≡ plainPrepared w) × (r.number ≡ 0 → w ≡ prepared-is.Steps r.length)
-unfolding any_of plainPrepared
+pub behind-prepare : {text : Bytes} {table : List Step} {r : Answer} {table' : List Step} → Promised record_count prepare text table r table'
+    → (w : Prepared) × Prepares text table w table' × (r ≡ plain_prepared w) × (r.number ≡ 0 → w ≡ prepared-is.Steps r.length)
+unfolding any_of plain_prepared
 behind-prepare {text} {table} {r} {table'} p =
-    behind-0 prepared plainPrepared (λ n. refl) (λ number place offset. refl) prepare _ refl
+    behind-0 prepared plain_prepared (λ n. refl) (λ number place offset. refl) prepare _ refl
     text table r table' (λ w h. prepare-ends h) p
 
-pub behind-prepare-as : (how : Reading) (m : Mode) {text : Bytes} {table : List Step} {r : Answer} {table' : List Step} → Promised recordCount (prepareAs how m) text table r table'
-    → (w : Prepared) × PreparesAs how m text table w table' × (r ≡ plainPrepared w) × (r.number ≡ 0 → w ≡ prepared-is.Steps r.length)
-unfolding any_of plainPrepared
+pub behind-prepare-as : (how : Reading) (m : Mode) {text : Bytes} {table : List Step} {r : Answer} {table' : List Step} → Promised record_count (prepare_as how m) text table r table'
+    → (w : Prepared) × PreparesAs how m text table w table' × (r ≡ plain_prepared w) × (r.number ≡ 0 → w ≡ prepared-is.Steps r.length)
+unfolding any_of plain_prepared
 behind-prepare-as how m {text} {table} {r} {table'} p =
-    behind-0 prepared plainPrepared (λ n. refl) (λ number place offset. refl) (prepareAs how m) _ refl
+    behind-0 prepared plain_prepared (λ n. refl) (λ number place offset. refl) (prepare_as how m) _ refl
     text table r table' (λ w h. prepare-as-ends how m h) p
 
 -- ---- the reader
 
-no_part : (f : Found) → (plainFound f).found ≡ 0 → f ≡ found-is.End
-unfolding plainFound
+no_part : (f : Found) → (plain_found f).found ≡ 0 → f ≡ found-is.End
+unfolding plain_found
 no_part found-is.End e = refl
 no_part (found-is.Step from to then) e = absurd (no 0 (sym e))
 
-pub behind-next : (text : Bytes) (at : ℕ) (r : Part) → r ≡ plainFound (next text at)
-    → (f : Found) × (f ≡ next text at) × (r ≡ plainFound f) × (r.found ≡ 0 → f ≡ found-is.End)
+pub behind-next : (text : Bytes) (at : ℕ) (r : Part) → r ≡ plain_found (next text at)
+    → (f : Found) × (f ≡ next text at) × (r ≡ plain_found f) × (r.found ≡ 0 → f ≡ found-is.End)
 behind-next text at r e = (next text at, refl, e, λ z. no_part (next text at) (sym (ap (λ (x : Part). x.found) e) ∙ z))
 
 -- ---- the check
 
-passing : (v : Verdict) → ((number k : ℕ) → v ≡ verdict-is.Refused number k → number ≡ 18) → (plainVerdict v).number ≡ 0 → v ≡ verdict-is.Passes
-unfolding plainVerdict
+passing : (v : Verdict) → ((number k : ℕ) → v ≡ verdict-is.Refused number k → number ≡ 18) → (plain_verdict v).number ≡ 0 → v ≡ verdict-is.Passes
+unfolding plain_verdict
 passing verdict-is.Passes h e = refl
 passing (verdict-is.TooFew k) h e = absurd (no 0 (sym e))
 passing (verdict-is.TooMany k) h e = absurd (no 1 (sym e))
 passing (verdict-is.Refused number k) h e = absurd (no 17 (sym e ∙ h number k refl))
 
-pub behind-pass : (inverse : ℕ) (t : List Step) (r : Checked) → PlainChecks inverse t r → r.said.number ≡ 0 → (check (directionOf inverse) t).verdict ≡ verdict-is.Passes
-unfolding plainCheck
+pub behind-pass : (inverse : ℕ) (t : List Step) (r : Checked) → PlainChecks inverse t r → r.said.number ≡ 0 → (check (direction_of inverse) t).verdict ≡ verdict-is.Passes
+unfolding plain_check
 behind-pass inverse t r p e =
-    passing (check (directionOf inverse) t).verdict (λ number k h. (check-refused (directionOf inverse) t number k h).0)
+    passing (check (direction_of inverse) t).verdict (λ number k h. (check-refused (direction_of inverse) t number k h).0)
     (sym (ap (λ (x : Checked). x.said.number) p.exactly) ∙ e)
 
 -- ---- the run
 
 pub behind-run : {inverse : ℕ} {t : List Step} {xs store : List Float} {r : Done} {xs' store' : List Float} → PlainRuns inverse t xs store r xs' store'
-    → (w : Ran) × Runs (directionOf inverse) t xs store w xs' store' × (r ≡ plainRan w) × (r.number ≡ 0 → w ≡ ran-is.Done r.count r.left)
-unfolding plainOutcome plainRan any_of
+    → (w : Ran) × Runs (direction_of inverse) t xs store w xs' store' × (r ≡ plain_ran w) × (r.number ≡ 0 → w ≡ ran-is.Done r.count r.left)
+unfolding plain_outcome plain_ran any_of
 behind-run {inverse} {t} {xs} {store} {r} {xs'} {store'} p =
     (o.answer, record { exactly = λ i. record { answer = o.answer; list = (p.exactly i).list; store = (p.exactly i).store } }, A, λ z. go z (run_ends whole))
   where
     o : Outcome
-    o = runs (directionOf inverse) t xs store
+    o = runs (direction_of inverse) t xs store
 
-    whole : Runs (directionOf inverse) t xs store o.answer o.list o.store
+    whole : Runs (direction_of inverse) t xs store o.answer o.list o.store
     whole = record { exactly = refl }
 
-    A : r ≡ plainRan o.answer
+    A : r ≡ plain_ran o.answer
     A = ap (λ (x : PlainOutcome). x.answer) p.exactly
 
-    go : r.number ≡ 0 → RunEnds (15 ∷ 16 ∷ 17 ∷ 18 ∷ []) (used (directionOf inverse) t xs) xs store o.answer o.list o.store
+    go : r.number ≡ 0 → RunEnds (15 ∷ 16 ∷ 17 ∷ 18 ∷ []) (used (direction_of inverse) t xs) xs store o.answer o.list o.store
         → o.answer ≡ ran-is.Done r.count r.left
-    go z (RunEnds.answers c n e x y w) = let f = A ∙ ap plainRan e in e ∙ sym (λ i. ran-is.Done (f i).count (f i).left)
+    go z (RunEnds.answers c n e x y w) = let f = A ∙ ap plain_ran e in e ∙ sym (λ i. ran-is.Done (f i).count (f i).left)
     go z (RunEnds.refuses number place e h x y) =
-        absurd (not-0 (15 ∷ 16 ∷ 17 ∷ 18 ∷ []) refl h (sym (ap (λ (x : Done). x.number) (A ∙ ap plainRan e)) ∙ z))
+        absurd (not-0 (15 ∷ 16 ∷ 17 ∷ 18 ∷ []) refl h (sym (ap (λ (x : Done). x.number) (A ∙ ap plain_ran e)) ∙ z))

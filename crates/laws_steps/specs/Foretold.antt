@@ -8,10 +8,10 @@ use Rattle.rules.specs.Text.Lists.{any_of}
 use Rattle.rules.specs.Pipeline.Record.{refusal18}
 use Rattle.rules.specs.Operators.Numbers.{number, turn}
 use Rattle.rules.specs.Pipeline.Running.{Numbered, running}
-use Rattle.rules.specs.Pipeline.Columns.{moved, tooFew, after, depths, deepest}
+use Rattle.rules.specs.Pipeline.Columns.{moved, too_few, after, depths, deepest}
 use Rattle.rules.specs.Pipeline.Tuples.{State, tuples, acted}
 use Rattle.rules.specs.Pipeline.Run.{start, passes64}
-use Rattle.rules.specs.Pipeline.Check.{noPlace, Traced, onPlaces, begin, adapting, anyAdapt, verdict, only, foretold, answered, checked, check}
+use Rattle.rules.specs.Pipeline.Check.{no_place, Traced, on_places, begin, adapting, any_adapt, verdict, only, foretold, answered, checked, check}
 use Rattle.rules.specs.declared.Coord.{Coord}
 use Rattle.rules.specs.declared.Place.{Place}
 use Rattle.rules.specs.declared.Step.{Step}
@@ -31,24 +31,24 @@ unfolding told
 told-depth ts p = length-map p.columns _
 
 -- After a pass without `adapt`, the run leaves what the check's places tell of: its tuples and its columns.
-pub after-told : (ts : List Coord) (l : List Numbered) (p : Traced) → verdict l p ≡ Passes → anyAdapt l ≡ false
-    → after acted l (told ts p) ≡ told ts (after (moved onPlaces) l p)
-unfolding after anyAdapt any_of
+pub after-told : (ts : List Coord) (l : List Numbered) (p : Traced) → verdict l p ≡ Passes → any_adapt l ≡ false
+    → after acted l (told ts p) ≡ told ts (after (moved on_places) l p)
+unfolding after any_adapt any_of
 after-told ts [] p h e = refl
 after-told ts (s ∷ l) p h e =
     let f = first_of s l p h in
-    let here : acted s.does (told ts p) ≡ told ts (moved onPlaces s.does p) =
-    acted-moved s.does (told ts p) (ap (tooFew s.does) (told-depth ts p) ∙ f.enough) ∙ moved_told ts s.does p (or_left (adapting s.does) _ e) in
-    ap (after acted l) here ∙ after-told ts l (moved onPlaces s.does p) f.rest (or_right (adapting s.does) _ e)
+    let here : acted s.does (told ts p) ≡ told ts (moved on_places s.does p) =
+    acted-moved s.does (told ts p) (ap (too_few s.does) (told-depth ts p) ∙ f.enough) ∙ moved_told ts s.does p (or_left (adapting s.does) _ e) in
+    ap (after acted l) here ∙ after-told ts l (moved on_places s.does p) f.rest (or_right (adapting s.does) _ e)
 
 -- After a pass, the run ends as deep as the check,
 pub left-foretold : (l : List Numbered) (m : State) (p : Traced) → length m.columns ≡ length p.columns → verdict l p ≡ Passes
-    → length (after acted l m).columns ≡ length (after (moved onPlaces) l p).columns
+    → length (after acted l m).columns ≡ length (after (moved on_places) l p).columns
 unfolding after
 left-foretold [] m p e h = e
 left-foretold (s ∷ l) m p e h =
     let f = first_of s l p h in
-    left-foretold l (acted s.does m) (moved onPlaces s.does p) (depth_same s.does m p e (ap (tooFew s.does) e ∙ f.enough)) f.rest
+    left-foretold l (acted s.does m) (moved on_places s.does p) (depth_same s.does m p e (ap (too_few s.does) e ∙ f.enough)) f.rest
 
 -- and no refusal 16 is given.
 pub within_64 : (l : List Numbered) (m : State) (p : Traced) → length m.columns ≡ length p.columns → verdict l p ≡ Passes → passes64 l m ≡ none
@@ -56,8 +56,8 @@ unfolding passes64
 within_64 [] m p e h = refl
 within_64 (s ∷ l) m p e h =
     let f = first_of s l p h in
-    let d = depth_same s.does m p e (ap (tooFew s.does) e ∙ f.enough) in
-    rw (d, f.within) (within_64 l (acted s.does m) (moved onPlaces s.does p) d f.rest)
+    let d = depth_same s.does m p e (ap (too_few s.does) e ∙ f.enough) in
+    rw (d, f.within) (within_64 l (acted s.does m) (moved on_places s.does p) d f.rest)
 
 -- ---- at the start, each tuple shows its own four numbers
 
@@ -80,17 +80,17 @@ pub record Passed (d : Direction) (t : List Step) : Type 0 where
 
 pub passed : (d : Direction) (t : List Step) → (check d t).verdict ≡ Passes → Passed d t
 unfolding check checked answered only
-passed d t h = ofRecords (refusal18 t) refl h
+passed d t h = of_records (refusal18 t) refl h
   where
-    ofVerdict : (v : Verdict) → verdict (running d t) begin ≡ v → refusal18 t ≡ none → (answered v t (running d t)).verdict ≡ Passes → Passed d t
-    ofVerdict Passes e r h = record { records = r; passes = e; answer = rw (r, e) }
-    ofVerdict (TooFew k) e r h = absurd (never (cc h))
-    ofVerdict (TooMany k) e r h = absurd (never (cc h))
-    ofVerdict (Refused n k) e r h = absurd (never (cc h))
+    of_verdict : (v : Verdict) → verdict (running d t) begin ≡ v → refusal18 t ≡ none → (answered v t (running d t)).verdict ≡ Passes → Passed d t
+    of_verdict Passes e r h = record { records = r; passes = e; answer = rw (r, e) }
+    of_verdict (TooFew k) e r h = absurd (never (cc h))
+    of_verdict (TooMany k) e r h = absurd (never (cc h))
+    of_verdict (Refused n k) e r h = absurd (never (cc h))
 
-    ofRecords : (o : Option ℕ) → refusal18 t ≡ o → (checked o t (running d t)).verdict ≡ Passes → Passed d t
-    ofRecords (some k) e h = absurd (never (cc h))
-    ofRecords none e h = ofVerdict (verdict (running d t) begin) refl e h
+    of_records : (o : Option ℕ) → refusal18 t ≡ o → (checked o t (running d t)).verdict ≡ Passes → Passed d t
+    of_records (some k) e h = absurd (never (cc h))
+    of_records none e h = of_verdict (verdict (running d t) begin) refl e h
 
 answered-verdict : (v : Verdict) (t : List Step) (l : List Numbered) → (answered v t l).verdict ≡ v
 unfolding answered foretold only
@@ -117,7 +117,7 @@ check-refused d t n k h = go (refusal18 t) h
     go (some p) h = let e : p ≡ k = cc h in (cc h, ap some e)
 
 -- After a pass the places are told exactly where no `adapt` step runs.
-pub told-exactly : (d : Direction) (t : List Step) → (check d t).verdict ≡ Passes → (check d t).told ≡ not (anyAdapt (running d t))
+pub told-exactly : (d : Direction) (t : List Step) → (check d t).verdict ≡ Passes → (check d t).told ≡ not (any_adapt (running d t))
 unfolding foretold
 told-exactly d t h = ap (λ (f : Foretold). f.told) (passed d t h).answer
 
@@ -160,15 +160,15 @@ foretells d t xs h =
     ts = tuples xs
 
     ds : List ℕ
-    ds = depths (moved onPlaces) l begin
+    ds = depths (moved on_places) l begin
 
     same : depths acted l (start xs) ≡ ds
     same = depths-foretold l (start xs) begin refl p.passes
 
-    none_runs : (check d t).told ≡ true → anyAdapt l ≡ false
-    none_runs Told-here = not-true (anyAdapt l) (sym (ap (λ (f : Foretold). f.told) p.answer) ∙ Told-here)
+    none_runs : (check d t).told ≡ true → any_adapt l ≡ false
+    none_runs Told-here = not-true (any_adapt l) (sym (ap (λ (f : Foretold). f.told) p.answer) ∙ Told-here)
 
-    places : (check d t).told ≡ true → (check d t).places ≡ (after (moved onPlaces) l begin).tuples
+    places : (check d t).told ≡ true → (check d t).places ≡ (after (moved on_places) l begin).tuples
     places Told-here =
         ap (λ (f : Foretold). f.places) p.answer
-        ∙ ap (λ (b : Bool). cond (not b) (after (moved onPlaces) l begin).tuples (replicate 4 noPlace)) (none_runs Told-here)
+        ∙ ap (λ (b : Bool). cond (not b) (after (moved on_places) l begin).tuples (replicate 4 no_place)) (none_runs Told-here)

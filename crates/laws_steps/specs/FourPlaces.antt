@@ -1,7 +1,7 @@
 -- Four places by their number, as elements of a list of four.
 use Rattle.std.specs.Prelude.{◌≡◌, refl, ℕ, zero, suc, ◌<◌, List, [], ◌∷◌, length, get_or, set}
 use Rattle.std.proofs.Common.{arith}
-use Rattle.rules.specs.Pipeline.Check.{noPlace, place, putPlace}
+use Rattle.rules.specs.Pipeline.Check.{no_place, place, put_place}
 use Rattle.rules.specs.declared.Place.{Place}
 
 -- a list of four
@@ -21,17 +21,17 @@ below-four P a b c d (suc (suc zero)) h = c
 below-four P a b c d (suc (suc (suc zero))) h = d
 below-four P a b c d (suc (suc (suc (suc k)))) h = absurd (omega (arith, h))
 
-pub place_is : (l : List Place) (k : ℕ) → k < 4 → place (suc k) l ≡ get_or l k noPlace
+pub place_is : (l : List Place) (k : ℕ) → k < 4 → place (suc k) l ≡ get_or l k no_place
 unfolding place
-place_is l k h = below-four (λ (j : ℕ). place (suc j) l ≡ get_or l j noPlace) refl refl refl refl k h
+place_is l k h = below-four (λ (j : ℕ). place (suc j) l ≡ get_or l j no_place) refl refl refl refl k h
 
-pub put_is : (l : List Place) (p : Place) (k : ℕ) → length l ≡ 4 → k < 4 → putPlace (suc k) p l ≡ set l k p
-unfolding putPlace
+pub put_is : (l : List Place) (p : Place) (k : ℕ) → length l ≡ 4 → k < 4 → put_place (suc k) p l ≡ set l k p
+unfolding put_place
 put_is l p k e h =
-    below-four (λ (j : ℕ). putPlace (suc j) p l ≡ set l j p)
-    (of_four (λ (m : List Place). putPlace 1 p m ≡ set m 0 p) (λ a b c d. refl) l e)
-    (of_four (λ (m : List Place). putPlace 2 p m ≡ set m 1 p) (λ a b c d. refl) l e)
-    (of_four (λ (m : List Place). putPlace 3 p m ≡ set m 2 p) (λ a b c d. refl) l e)
-    (of_four (λ (m : List Place). putPlace 4 p m ≡ set m 3 p) (λ a b c d. refl) l e)
+    below-four (λ (j : ℕ). put_place (suc j) p l ≡ set l j p)
+    (of_four (λ (m : List Place). put_place 1 p m ≡ set m 0 p) (λ a b c d. refl) l e)
+    (of_four (λ (m : List Place). put_place 2 p m ≡ set m 1 p) (λ a b c d. refl) l e)
+    (of_four (λ (m : List Place). put_place 3 p m ≡ set m 2 p) (λ a b c d. refl) l e)
+    (of_four (λ (m : List Place). put_place 4 p m ≡ set m 3 p) (λ a b c d. refl) l e)
     k
     h

@@ -4,10 +4,10 @@ use Prim.Native.Nat.{ℕ, zero, suc, ◌-◌}
 use Rattle.std.specs.Prelude.{Bool, take, ℤ}
 use mathlib.Core.List.{List, [], ◌∷◌}
 use Rattle.std.proofs.Math.ListN.{drop}
-use Rattle.rules.specs.Operators.Acts.{Act, pushes, pops, popsAll, flips, rolls, swaps, drops, orders, adapts}
+use Rattle.rules.specs.Operators.Acts.{Act, pushes, pops, pops_all, flips, rolls, swaps, drops, orders, adapts}
 use Rattle.rules.specs.Pipeline.Running.{Numbered}
 use Rattle.rules.specs.declared.Mode.{Mode}
-use Rattle.rules.specs.Pipeline.Columns.{Machine, Kit, rolledOnce, rolled, swappedTop, pushed, popped, topped, flipped, moved, after}
+use Rattle.rules.specs.Pipeline.Columns.{Machine, Kit, rolled_once, rolled, swapped_top, pushed, popped, topped, flipped, moved, after}
 use Rattle.rules.specs.Pipeline.Tuples.{tuples, column}
 use Rattle.laws_lists.specs.Lists.{Every, every_append}
 
@@ -26,18 +26,18 @@ module _ {A : Type 0} (P : A → Type 0) where
   every_drop (suc n) [] h = tt
   every_drop (suc n) (x ∷ l) h = every_drop n l h.1
 
-  every-once : (m : ℕ) (l : List A) → Every P l → Every P (rolledOnce m l)
-  unfolding Every rolledOnce
+  every-once : (m : ℕ) (l : List A) → Every P l → Every P (rolled_once m l)
+  unfolding Every rolled_once
   every-once m [] h = tt
   every-once m (v ∷ l) h = every_append P (take (m - 1) l) (v ∷ drop (m - 1) l) (every_take (m - 1) l h.1) (h.0, every_drop (m - 1) l h.1)
 
   every-rolled : (m n : ℕ) (l : List A) → Every P l → Every P (rolled m n l)
   unfolding rolled
   every-rolled m zero l h = h
-  every-rolled m (suc n) l h = every-rolled m n (rolledOnce m l) (every-once m l h)
+  every-rolled m (suc n) l h = every-rolled m n (rolled_once m l) (every-once m l h)
 
-  every-swapped : (l : List A) → Every P l → Every P (swappedTop l)
-  unfolding Every swappedTop
+  every-swapped : (l : List A) → Every P l → Every P (swapped_top l)
+  unfolding Every swapped_top
   every-swapped [] h = h
   every-swapped (v ∷ []) h = h
   every-swapped (v ∷ w ∷ l) h = (h.1.0, (h.0, h.1.1))
@@ -80,7 +80,7 @@ module _ {T C : Type 0} {k : Kit T C} {P : T → Type 0} {Q : C → Type 0} (kee
   unfolding moved
   moved_keeps (pushes is) m h = record { tuples = h.tuples; columns = pushed-keeps is m.tuples m.columns h.tuples h.columns }
   moved_keeps (pops is) m h = popped-keeps is m.tuples m.columns h.tuples h.columns
-  moved_keeps (popsAll is) m h = popped-keeps is m.tuples m.columns h.tuples h.columns
+  moved_keeps (pops_all is) m h = popped-keeps is m.tuples m.columns h.tuples h.columns
   moved_keeps (flips is) m h = flipped-keeps is m.tuples m.columns h.tuples h.columns
   moved_keeps (rolls w n) m h = record { tuples = h.tuples; columns = every-rolled Q w n m.columns h.columns }
   moved_keeps swaps m h = record { tuples = h.tuples; columns = every-swapped Q m.columns h.columns }

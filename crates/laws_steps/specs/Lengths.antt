@@ -6,11 +6,11 @@ use Rattle.std.proofs.Math.Bool.{true, false}
 use mathlib.Core.List.{List, [], ◌∷◌, reverse, reverse_aux, flat_map}
 use Rattle.std.proofs.Math.ListN.{length-map}
 use Rattle.std.proofs.lemmas.List.{length-replicate, length-reverse}
-use Rattle.rules.specs.Operators.Acts.{Act, pushes, pops, popsAll, flips, rolls, swaps, drops, orders, adapts}
+use Rattle.rules.specs.Operators.Acts.{Act, pushes, pops, pops_all, flips, rolls, swaps, drops, orders, adapts}
 use Rattle.rules.specs.Pipeline.Running.{Numbered}
-use Rattle.rules.specs.Pipeline.Columns.{tooFew, after, depths, deepest}
-use Rattle.rules.specs.Pipeline.Tuples.{State, tuples, numbers, column, stored, onNumbers, drained, stomped, starved, actedIf, acted}
-use Rattle.rules.specs.Pipeline.Run.{start, storeAfter}
+use Rattle.rules.specs.Pipeline.Columns.{too_few, after, depths, deepest}
+use Rattle.rules.specs.Pipeline.Tuples.{State, tuples, numbers, column, stored, on_numbers, drained, stomped, starved, acted_if, acted}
+use Rattle.rules.specs.Pipeline.Run.{start, store_after}
 use Rattle.rules.specs.declared.Coord.{Coord}
 use Rattle.laws_lists.specs.Lists.{Every}
 use Rattle.laws_steps.specs.Keeps.{Holds, Keeps, moved_keeps, after-keeps}
@@ -65,7 +65,7 @@ module _ (n : ℕ) where
   abbrev pub Long : List Float → Type 0
   Long v = length v ≡ n
 
-  long-keeps : Keeps onNumbers Many Long
+  long-keeps : Keeps on_numbers Many Long
   unfolding column
   long-keeps =
       record {
@@ -89,7 +89,7 @@ module _ (n : ℕ) where
   unfolding starved
   starved-long (pushes is) m h = h
   starved-long (pops is) m h = drained-long is m.tuples m.columns h.tuples h.columns
-  starved-long (popsAll is) m h = stomped-long m h
+  starved-long (pops_all is) m h = stomped-long m h
   starved-long (flips is) m h = stomped-long m h
   starved-long (rolls w k) m h = stomped-long m h
   starved-long swaps m h = h
@@ -98,10 +98,10 @@ module _ (n : ℕ) where
   starved-long (adapts mode back l) m h = h
 
   pub acted-long : (a : Act) (m : State) → Holds Many Long m → Holds Many Long (acted a m)
-  unfolding acted actedIf
-  acted-long a m h = go (tooFew a (length m.columns))
+  unfolding acted acted_if
+  acted-long a m h = go (too_few a (length m.columns))
     where
-      go : (b : Bool) → Holds Many Long (actedIf b a m)
+      go : (b : Bool) → Holds Many Long (acted_if b a m)
       go true = starved-long a m h
       go false = moved_keeps long-keeps a m h
 
@@ -136,8 +136,8 @@ left-deepest [] m = omega arith
 left-deepest (s ∷ l) m = omega (arith, left-deepest l (acted s.does m))
 
 columns-store : (n used : ℕ) (columns : List (List Float)) (store : List Float) → Every (Long n) columns → length columns * n ≤ used → used ≤ length store
-    → length (storeAfter used columns store) ≡ length store
-unfolding storeAfter Every
+    → length (store_after used columns store) ≡ length store
+unfolding store_after Every
 columns-store n used columns store h k r =
     let left = flat_map (λ (v : List Float). v) (reverse columns) in
     let e : length left ≡ length columns * n = flat-length n (reverse columns) (every-reverse n columns [] h tt) ∙ ap (λ (x : ℕ). x * n) (length-reverse columns) in
@@ -145,7 +145,7 @@ columns-store n used columns store h k r =
 
 -- The store of a run that has room for the deepest stays as long as it was.
 pub store_length : (l : List Numbered) (xs store : List Float) → deepest (depths acted l (start xs)) * (length xs / 4) ≤ length store
-    → length (storeAfter (deepest (depths acted l (start xs)) * (length xs / 4)) (after acted l (start xs)).columns store) ≡ length store
+    → length (store_after (deepest (depths acted l (start xs)) * (length xs / 4)) (after acted l (start xs)).columns store) ≡ length store
 store_length l xs store h =
     let n = length xs / 4 in
     let few : length (after acted l (start xs)).columns ≤ deepest (depths acted l (start xs)) = omega (arith, left-deepest l (start xs)) in

@@ -2,7 +2,7 @@
 use Rattle.std.specs.Prelude.{◌≡◌, refl, ℕ, suc, ◌+◌, ◌≤◌, max, Bool, true, false, cond, List, [], ◌∷◌, length, ltb, Float}
 use Rattle.std.proofs.Math.Option.{none, some}
 use Rattle.std.proofs.Common.{arith, ltb-false}
-use Rattle.rules.specs.Pipeline.Running.{Numbered, act, omitted, ordered, runningFrom, running}
+use Rattle.rules.specs.Pipeline.Running.{Numbered, act, omitted, ordered, running_from, running}
 use Rattle.rules.specs.Pipeline.Columns.{after, depths, deepest}
 use Rattle.rules.specs.Pipeline.Tuples.{State, acted}
 use Rattle.rules.specs.Pipeline.Run.{start, passes64}
@@ -28,17 +28,17 @@ every-ordered P Inverse k l h r = every_append P l (k ∷ []) r (h, tt)
 abbrev UpTo : ℕ → Numbered → Type 0
 UpTo last s = s.place ≤ last
 
-running-within : (last place : ℕ) (d : Direction) (l : List Step) → place + length l ≤ suc last → Every (UpTo last) (runningFrom place d l)
-unfolding Every runningFrom
+running-within : (last place : ℕ) (d : Direction) (l : List Step) → place + length l ≤ suc last → Every (UpTo last) (running_from place d l)
+unfolding Every running_from
 running-within last place d [] h = tt
 running-within last place d (s ∷ l) h = go (omitted d s) (running-within last (suc place) d l (omega arith))
   where
     here : Numbered
     here = record { place = place; does = act d s }
 
-    go : (b : Bool) → Every (UpTo last) (runningFrom (suc place) d l) → Every (UpTo last) (cond b (runningFrom (suc place) d l) (ordered d here (runningFrom (suc place) d l)))
+    go : (b : Bool) → Every (UpTo last) (running_from (suc place) d l) → Every (UpTo last) (cond b (running_from (suc place) d l) (ordered d here (running_from (suc place) d l)))
     go true r = r
-    go false r = every-ordered (UpTo last) d here (runningFrom (suc place) d l) (omega arith) r
+    go false r = every-ordered (UpTo last) d here (running_from (suc place) d l) (omega arith) r
 
 module _ (d : Direction) (t : List Step) where
   first-within : {fault : List Numbered → Numbered → Type 0} {k : ℕ} {xs : List Float} → FirstAtFault fault k (running d t) xs → k ≤ length t

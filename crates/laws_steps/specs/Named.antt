@@ -3,10 +3,10 @@ use Rattle.std.specs.Prelude.{◌≡◌, refl, ℕ, suc, ◌≤◌, Bool, true, 
 use Rattle.std.proofs.Common.{lit≤}
 use Rattle.rules.specs.Text.Decimal.{minus}
 use Rattle.rules.specs.Operators.Arguments.{size}
-use Rattle.rules.specs.Operators.Axisswap.{swapFrom, unswapFrom, reordered}
+use Rattle.rules.specs.Operators.Axisswap.{swap_from, unswap_from, reordered}
 use Rattle.rules.specs.Pipeline.Running.{Numbered}
 use Rattle.rules.specs.Pipeline.Columns.{moved, after}
-use Rattle.rules.specs.Pipeline.Check.{four, nth, place, putPlace, turnPlace, onPlaces, begin}
+use Rattle.rules.specs.Pipeline.Check.{four, nth, place, put_place, turn_place, on_places, begin}
 use Rattle.rules.specs.declared.Place.{Place}
 use Rattle.laws_lists.specs.Lists.{Every}
 use Rattle.laws_steps.specs.Keeps.{Holds, Keeps, moved_keeps, after-keeps}
@@ -33,8 +33,8 @@ place-named i l h = go (eqb i 1) (eqb i 2) (eqb i 3)
     go false false true = h.third
     go false false false = h.fourth
 
-put-named : (i : ℕ) (p : Place) (l : List Place) → Named p → FourNamed l → FourNamed (putPlace i p l)
-unfolding putPlace
+put-named : (i : ℕ) (p : Place) (l : List Place) → Named p → FourNamed l → FourNamed (put_place i p l)
+unfolding put_place
 put-named i p l n h = go (eqb i 1) (eqb i 2) (eqb i 3)
   where
     go : (a b c : Bool)
@@ -45,26 +45,26 @@ put-named i p l n h = go (eqb i 1) (eqb i 2) (eqb i 3)
     go false false true = record { are-four = refl; first = h.first; second = h.second; third = n; fourth = h.fourth }
     go false false false = record { are-four = refl; first = h.first; second = h.second; third = h.third; fourth = n }
 
-turn-named : (b : Bool) (p : Place) → Named p → Named (turnPlace b p)
-unfolding turnPlace
+turn-named : (b : Bool) (p : Place) → Named p → Named (turn_place b p)
+unfolding turn_place
 turn-named b p h = record { least = h.least; most = h.most }
 
-swap-named : (i : ℕ) (o : List ℤ) (l out : List Place) → FourNamed l → FourNamed out → FourNamed (swapFrom place putPlace turnPlace i o l out)
-unfolding swapFrom
+swap-named : (i : ℕ) (o : List ℤ) (l out : List Place) → FourNamed l → FourNamed out → FourNamed (swap_from place put_place turn_place i o l out)
+unfolding swap_from
 swap-named i [] l out h k = k
 swap-named i (x ∷ o) l out h k = swap-named (suc i) o l _ h (put-named i _ out (turn-named (minus x) _ (place-named (size x) l h)) k)
 
-unswap-named : (i : ℕ) (o : List ℤ) (l out : List Place) → FourNamed l → FourNamed out → FourNamed (unswapFrom place putPlace turnPlace i o l out)
-unfolding unswapFrom
+unswap-named : (i : ℕ) (o : List ℤ) (l out : List Place) → FourNamed l → FourNamed out → FourNamed (unswap_from place put_place turn_place i o l out)
+unfolding unswap_from
 unswap-named i [] l out h k = k
 unswap-named i (x ∷ o) l out h k = unswap-named (suc i) o l _ h (put-named (size x) _ out (turn-named (minus x) _ (place-named i l h)) k)
 
-order-named : (back : Bool) (o : List ℤ) (l : List Place) → FourNamed l → FourNamed (reordered place putPlace turnPlace back o l)
+order-named : (back : Bool) (o : List ℤ) (l : List Place) → FourNamed l → FourNamed (reordered place put_place turn_place back o l)
 unfolding reordered
 order-named false o l h = swap-named 1 o l l h h
 order-named true o l h = unswap-named 1 o l l h h
 
-named-keeps : Keeps onPlaces FourNamed Named
+named-keeps : Keeps on_places FourNamed Named
 named-keeps = record { column = place-named; store = put-named; order = order-named; adapt = λ mode back l t h. h }
 
 named-begin : Holds FourNamed Named begin
@@ -84,5 +84,5 @@ named-begin =
     }
 
 -- After any steps, each of the four places and of the columns is from 1 to 4.
-pub named-after : (l : List Numbered) → Holds FourNamed Named (after (moved onPlaces) l begin)
-named-after l = after-keeps (moved onPlaces) (Holds FourNamed Named) (moved_keeps named-keeps) l begin named-begin
+pub named-after : (l : List Numbered) → Holds FourNamed Named (after (moved on_places) l begin)
+named-after l = after-keeps (moved on_places) (Holds FourNamed Named) (moved_keeps named-keeps) l begin named-begin

@@ -10,7 +10,7 @@ use Rattle.rules.specs.Operators.Numbers.{number, turn}
 use Rattle.rules.specs.Pipeline.Running.{running}
 use Rattle.rules.specs.Pipeline.Tuples.{tuples, numbers}
 use Rattle.rules.specs.Pipeline.Run.{runs}
-use Rattle.rules.specs.Pipeline.Check.{place, anyAdapt, check}
+use Rattle.rules.specs.Pipeline.Check.{place, any_adapt, check}
 use Rattle.rules.specs.Face.Demands.{number_at}
 use Rattle.rules.specs.declared.Coord.{Coord}
 use Rattle.rules.specs.declared.Step.{Step}
@@ -72,7 +72,7 @@ module _ (xs : List Float) (whole : length xs % 4 ≡ 0) (i : ℕ) (h : i < leng
 
 -- ---- of a check that passes
 
-module _ (d : Direction) (t : List Step) (passes : (check d t).verdict ≡ Passes) (no-adapt : anyAdapt (running d t) ≡ false) where
+module _ (d : Direction) (t : List Step) (passes : (check d t).verdict ≡ Passes) (no-adapt : any_adapt (running d t) ≡ false) where
   told : (check d t).told ≡ true
   told = told-exactly d t passes ∙ ap not no-adapt
 

@@ -7,12 +7,12 @@ use mathlib.Core.List.{List, [], ◌∷◌, ◌++◌, append_assoc}
 use native.Mathlib.Omega.{arith}
 use Rattle.std.proofs.Math.ListN.{length, take, drop, take-append-drop, length-append, length-drop}
 use Rattle.std.proofs.Math.Seq.{length-take-le, take_at, drop_at, drop-length}
-use Rattle.rules.specs.Pipeline.Columns.{rolledOnce, rolled}
+use Rattle.rules.specs.Pipeline.Columns.{rolled_once, rolled}
 
 module _ {A : Type 0} where
   -- the first go behind the next, and those below stay
   roll-parts : (w : ℕ) (X Y B : List A) → length X + length Y ≡ w → rolled w (length X) (X ++ (Y ++ B)) ≡ Y ++ (X ++ B)
-  unfolding rolled rolledOnce
+  unfolding rolled rolled_once
   roll-parts w [] Y B h = refl
   roll-parts w (x ∷ X) Y B h =
       let e : length (X ++ Y) ≡ w - 1 = length-append X Y ∙ omega arith in
@@ -27,15 +27,15 @@ module _ {A : Type 0} where
       ∙ append_assoc Y (x ∷ []) (X ++ B)
 
   -- the top w after a roll
-  unfoldable pub turnedTop : ℕ → ℕ → List A → List A
-  turnedTop w r l = drop r (take w l) ++ take r l
+  unfoldable pub turned_top : ℕ → ℕ → List A → List A
+  turned_top w r l = drop r (take w l) ++ take r l
 
-  pub top-length : (w r : ℕ) (l : List A) → r ≤ w → w ≤ length l → length (turnedTop w r l) ≡ w
-  unfolding turnedTop
+  pub top-length : (w r : ℕ) (l : List A) → r ≤ w → w ≤ length l → length (turned_top w r l) ≡ w
+  unfolding turned_top
   top-length w r l h b = length-append (drop r (take w l)) (take r l) ∙ omega (arith, length-drop r (take w l), length-take-le w l b, length-take-le r l (omega arith))
 
-  pub rolled-is : (w r : ℕ) (l : List A) → r ≤ w → w ≤ length l → rolled w r l ≡ turnedTop w r l ++ drop w l
-  unfolding turnedTop
+  pub rolled-is : (w r : ℕ) (l : List A) → r ≤ w → w ≤ length l → rolled w r l ≡ turned_top w r l ++ drop w l
+  unfolding turned_top
   rolled-is w r l h b =
       let X = take r l in
       let Y = drop r (take w l) in
@@ -54,11 +54,11 @@ module _ {A : Type 0} where
   pub rolled-more : (w q r : ℕ) (l : List A) → rolled w (q + r) l ≡ rolled w r (rolled w q l)
   unfolding rolled
   rolled-more w zero r l = ap (λ (n : ℕ). rolled w n l) (zero-add r)
-  rolled-more w (suc q) r l = ap (λ (n : ℕ). rolled w n l) (suc-add q r) ∙ rolled-more w q r (rolledOnce w l)
+  rolled-more w (suc q) r l = ap (λ (n : ℕ). rolled w n l) (suc-add q r) ∙ rolled-more w q r (rolled_once w l)
 
   -- a whole turn
   rolled-whole : (w : ℕ) (l : List A) → w ≤ length l → rolled w w l ≡ l
-  unfolding turnedTop
+  unfolding turned_top
   rolled-whole w l b =
       rolled-is w w l (omega arith) b
       ∙ ap (λ (z : List A). (z ++ take w l) ++ drop w l) (none (take w l) (length-take-le w l b))

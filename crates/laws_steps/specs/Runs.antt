@@ -9,7 +9,7 @@ use Rattle.rules.specs.Pipeline.Record.{refusal18}
 use Rattle.rules.specs.Pipeline.Running.{Numbered, running}
 use Rattle.rules.specs.Pipeline.Columns.{after, depths, deepest}
 use Rattle.rules.specs.Pipeline.Tuples.{State, tuples, numbers, acted}
-use Rattle.rules.specs.Pipeline.Run.{Outcome, start, count, passes64, badList, storeAfter, refused, finished, unless16, unless15, unless18, runs}
+use Rattle.rules.specs.Pipeline.Run.{Outcome, start, count, passes64, bad_list, store_after, refused, finished, unless16, unless15, unless18, runs}
 use Rattle.rules.specs.Pipeline.Check.{check}
 use Rattle.rules.specs.declared.Coord.{Coord}
 use Rattle.rules.specs.declared.Step.{Step}
@@ -34,13 +34,13 @@ used d t xs = deepest (depths acted (running d t) (start xs)) * (length xs / 4)
 -- A run that answers, in full: that no refusal applies, what it answers, and what it leaves.
 pub record Answered (d : Direction) (t : List Step) (xs store : List Float) (c n : ℕ) : Type 0 where
   pub made : refusal18 t ≡ none
-  pub fourfold : badList xs ≡ false
+  pub fourfold : bad_list xs ≡ false
   pub within : passes64 (running d t) (start xs) ≡ none
   pub room : ltb (length store) (used d t xs) ≡ false
   pub counted : c ≡ count (running d t) (start xs)
   pub columns-left : n ≡ length (end d t xs).columns
   pub list-after : (runs d t xs store).list ≡ numbers (end d t xs).tuples
-  pub store-after : (runs d t xs store).store ≡ storeAfter (used d t xs) (end d t xs).columns store
+  pub store-after : (runs d t xs store).store ≡ store_after (used d t xs) (end d t xs).columns store
 
 module _ (d : Direction) (t : List Step) (xs store : List Float) (c n : ℕ) where
   not-18 : (o : Option ℕ) → (unless18 o d t xs store).answer ≡ Done c n → o ≡ none
@@ -67,8 +67,8 @@ module _ (d : Direction) (t : List Step) (xs store : List Float) (c n : ℕ) whe
   unfolding runs unless18 unless15 unless16 finished
   answered h =
       let e = not-18 (refusal18 t) h in
-      let h15 : (unless15 (badList xs) (running d t) xs store).answer ≡ Done c n = rw e at h in
-      let f = not-15 (badList xs) h15 in
+      let h15 : (unless15 (bad_list xs) (running d t) xs store).answer ≡ Done c n = rw e at h in
+      let f = not-15 (bad_list xs) h15 in
       let h16 : (unless16 (passes64 (running d t) (start xs)) (running d t) xs store).answer ≡ Done c n = rw f at h15 in
       let g = not_16 (passes64 (running d t) (start xs)) h16 in
       let h17 : (finished (running d t) xs store (used d t xs)).answer ≡ Done c n = rw g at h16 in
@@ -113,7 +113,7 @@ unfolding runs unless18 refused is18
 run-refused d t xs store k h = go (refusal18 t) h
   where
     go : (o : Option ℕ) → (unless18 o d t xs store).answer ≡ Refused 18 k → o ≡ some k
-    go none h = absurd (false≢true (sym (none-15 (running d t) xs store (badList xs)) ∙ ap is18 h))
+    go none h = absurd (false≢true (sym (none-15 (running d t) xs store (bad_list xs)) ∙ ap is18 h))
     go (some p) h = let e : p ≡ k = cc h in ap some e
 
 -- ---- after a pass
@@ -135,8 +135,8 @@ as-foretold d t xs store c n passes done =
     }
 
 -- Such a run is given for every list of whole tuples, 65,536 at most, with room in the store for the deepest.
-short : (xs : List Float) → length xs % 4 ≡ 0 → length xs / 4 ≤ 65536 → badList xs ≡ false
-unfolding badList
+short : (xs : List Float) → length xs % 4 ≡ 0 → length xs / 4 ≤ 65536 → bad_list xs ≡ false
+unfolding bad_list
 short xs h k = rw (h, le-ltb 65536 (length xs / 4) k)
 
 pub accepts : (d : Direction) (t : List Step) (xs store : List Float) → (check d t).verdict ≡ Passes → length xs % 4 ≡ 0 → length xs / 4 ≤ 65536
@@ -153,8 +153,8 @@ accepts d t xs store h four few room =
 
 -- ---- how many numbers a run leaves
 
-pub fourfold : (xs : List Float) → badList xs ≡ false → length xs % 4 ≡ 0
-unfolding badList
+pub fourfold : (xs : List Float) → bad_list xs ≡ false → length xs % 4 ≡ 0
+unfolding bad_list
 fourfold xs h = eqb-true (length xs % 4) 0 (not-false (eqb (length xs % 4) 0) (or_left (not (eqb (length xs % 4) 0)) _ h))
 
 -- as many as before, four for each tuple

@@ -4,9 +4,9 @@ use Rattle.std.specs.Prelude.{◌≡◌, refl, ℕ, zero, suc, ◌-◌, List, []
 use Rattle.std.proofs.Common.{sym, ap, ◌∙◌}
 use Rattle.std.proofs.Math.Option.{Option, none, some}
 use Rattle.rules.specs.Text.Bytes.{Bytes}
-use Rattle.rules.specs.Pipeline.Record.{noSpan, spanEnd, blank, refusal18}
+use Rattle.rules.specs.Pipeline.Record.{no_span, span_end, blank, refusal18}
 use Rattle.rules.specs.Pipeline.Running.{Numbered, running}
-use Rattle.rules.specs.Pipeline.Check.{begin, verdict, only, foretold, spanAt, answered, checked, check}
+use Rattle.rules.specs.Pipeline.Check.{begin, verdict, only, foretold, span_at, answered, checked, check}
 use Rattle.rules.specs.Face.Demands.{bytes_at}
 use Rattle.rules.specs.declared.Span.{Span}
 use Rattle.rules.specs.declared.Step.{Step}
@@ -16,10 +16,10 @@ use Rattle.rules.specs.declared.Verdict.TheVariants.{Passes, TooFew, TooMany, Re
 
 -- the span that belongs to a verdict
 abbrev pub span_of : Verdict → List Step → Span
-span_of Passes t = noSpan
-span_of (TooFew k) t = spanAt k t
-span_of (TooMany k) t = spanAt k t
-span_of (Refused number k) t = noSpan
+span_of Passes t = no_span
+span_of (TooFew k) t = span_at k t
+span_of (TooMany k) t = span_at k t
+span_of (Refused number k) t = no_span
 
 answered-span : (v : Verdict) (t : List Step) (l : List Numbered) → (answered v t l).span ≡ span_of (answered v t l).verdict t
 unfolding answered foretold only
@@ -47,6 +47,6 @@ said_at said (s ∷ t) zero = refl
 said_at said (s ∷ t) (suc k) = said_at said t k
 
 -- of a table whose records stand at the steps' texts: the bytes at the span of place k are the text of step k
-pub bytes-at : (text : Bytes) (texts : List Bytes) (t : List Step) → map (λ (s : Step). bytes_at text s.span) t ≡ texts → (k : ℕ) → bytes_at text (spanAt k t) ≡ get_or texts (k - 1) []
-unfolding spanAt blank spanEnd
+pub bytes-at : (text : Bytes) (texts : List Bytes) (t : List Step) → map (λ (s : Step). bytes_at text s.span) t ≡ texts → (k : ℕ) → bytes_at text (span_at k t) ≡ get_or texts (k - 1) []
+unfolding span_at blank span_end
 bytes-at text texts t e k = sym (said_at (λ (s : Step). bytes_at text s.span) t (k - 1)) ∙ ap (λ (l : List Bytes). get_or l (k - 1) []) e

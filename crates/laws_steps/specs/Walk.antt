@@ -7,12 +7,12 @@ use native.Mathlib.Omega.{arith}
 use Rattle.std.proofs.Math.ListN.{length}
 use Rattle.rules.specs.Text.Decimal.{minus}
 use Rattle.rules.specs.Operators.Arguments.{size}
-use Rattle.rules.specs.Operators.Axisswap.{swapFrom, unswapFrom}
+use Rattle.rules.specs.Operators.Axisswap.{swap_from, unswap_from}
 use Rattle.rules.specs.Operators.Acts.{Act}
-use Rattle.rules.specs.Pipeline.Running.{act, Numbered, omitted, ordered, runningFrom}
+use Rattle.rules.specs.Pipeline.Running.{act, Numbered, omitted, ordered, running_from}
 use Rattle.rules.specs.Pipeline.Columns.{Machine, Kit, pushed, popped, topped, flipped, after, depths, deepest}
 use Rattle.rules.specs.Pipeline.Tuples.{State, acted, counts}
-use Rattle.rules.specs.Pipeline.Run.{countFrom}
+use Rattle.rules.specs.Pipeline.Run.{count_from}
 use Rattle.rules.specs.declared.Step.{Step}
 use Rattle.rules.specs.declared.Direction.TheVariants.{Forward, Inverse}
 
@@ -20,9 +20,9 @@ use Rattle.rules.specs.declared.Direction.TheVariants.{Forward, Inverse}
 
 -- forward: the first of the steps that are left
 pub running-first : (k : ℕ) (s : Step) (l : List Step)
-    → runningFrom k Forward (s ∷ l)
-    ≡ cond (omitted Forward s) (runningFrom (suc k) Forward l) (record { place = k; does = act Forward s } ∷ runningFrom (suc k) Forward l)
-unfolding runningFrom ordered
+    → running_from k Forward (s ∷ l)
+    ≡ cond (omitted Forward s) (running_from (suc k) Forward l) (record { place = k; does = act Forward s } ∷ running_from (suc k) Forward l)
+unfolding running_from ordered
 running-first k s l = refl
 
 shift : (i n : ℕ) → suc i + n ≡ i + suc n
@@ -30,9 +30,9 @@ shift i n = omega arith
 
 -- inverse: the last of the steps that are left
 pub running-last : (k : ℕ) (l : List Step) (s : Step)
-    → runningFrom k Inverse (l ++ (s ∷ []))
-    ≡ cond (omitted Inverse s) (runningFrom k Inverse l) (record { place = k + length l; does = act Inverse s } ∷ runningFrom k Inverse l)
-unfolding runningFrom ordered
+    → running_from k Inverse (l ++ (s ∷ []))
+    ≡ cond (omitted Inverse s) (running_from k Inverse l) (record { place = k + length l; does = act Inverse s } ∷ running_from k Inverse l)
+unfolding running_from ordered
 running-last k [] s = rw (add-zero k)
 running-last k (x ∷ l) s = rw (running-last (suc k) l s, shift k (length l)) (go (omitted Inverse x) (omitted Inverse s))
   where
@@ -43,7 +43,7 @@ running-last k (x ∷ l) s = rw (running-last (suc k) l s, shift k (length l)) (
     new = record { place = k + suc (length l); does = act Inverse s }
 
     r : List Numbered
-    r = runningFrom (suc k) Inverse l
+    r = running_from (suc k) Inverse l
 
     go : (a b : Bool) → cond a (cond b r (new ∷ r)) (cond b r (new ∷ r) ++ (own ∷ [])) ≡ cond b (cond a r (r ++ (own ∷ []))) (new ∷ cond a r (r ++ (own ∷ [])))
     go true true = refl
@@ -69,8 +69,8 @@ unfolding deepest
 deepest-more [] m = omega arith
 deepest-more (d ∷ l) m = omega (arith, deepest-more l m)
 
-pub count-more : (c : ℕ) (l m : List Numbered) (x : State) → countFrom c (l ++ m) x ≡ countFrom (countFrom c l x) m (after acted l x)
-unfolding countFrom after
+pub count-more : (c : ℕ) (l m : List Numbered) (x : State) → count_from c (l ++ m) x ≡ count_from (count_from c l x) m (after acted l x)
+unfolding count_from after
 count-more c [] m x = refl
 count-more c (s ∷ l) m x = count-more (min c (counts s.does x)) l m (acted s.does x)
 
@@ -106,14 +106,14 @@ module _ {T C : Type 0} (k : Kit T C) where
 
 module _ {T X : Type 0} (at : ℕ → T → X) (with : ℕ → X → T → T) (turns : Bool → X → X) where
   pub swap-more : (i : ℕ) (l : List ℤ) (x : ℤ) (c out : T)
-      → swapFrom at with turns i (l ++ (x ∷ [])) c out ≡ with (i + length l) (turns (minus x) (at (size x) c)) (swapFrom at with turns i l c out)
-  unfolding swapFrom
+      → swap_from at with turns i (l ++ (x ∷ [])) c out ≡ with (i + length l) (turns (minus x) (at (size x) c)) (swap_from at with turns i l c out)
+  unfolding swap_from
   swap-more i [] x c out = rw (add-zero i)
   swap-more i (y ∷ l) x c out = rw (← shift i (length l)) (swap-more (suc i) l x c (with i (turns (minus y) (at (size y) c)) out))
 
   pub unswap-more : (i : ℕ) (l : List ℤ) (x : ℤ) (c out : T)
-      → unswapFrom at with turns i (l ++ (x ∷ [])) c out ≡ with (size x) (turns (minus x) (at (i + length l) c)) (unswapFrom at with turns i l c out)
-  unfolding unswapFrom
+      → unswap_from at with turns i (l ++ (x ∷ [])) c out ≡ with (size x) (turns (minus x) (at (i + length l) c)) (unswap_from at with turns i l c out)
+  unfolding unswap_from
   unswap-more i [] x c out = rw (add-zero i)
   unswap-more i (y ∷ l) x c out = rw (← shift i (length l)) (unswap-more (suc i) l x c (with (size y) (turns (minus y) (at i c)) out))
 
@@ -125,10 +125,10 @@ module _ {T X : Type 0} (at : ℕ → T → X) (with : ℕ → X → T → T) (t
     more : take (i + 1) l ≡ take i l ++ (get_or l i d ∷ [])
     more = rw (add-one i) (take-suc l i d h)
 
-    pub swap-turn : out ≡ swapFrom at with turns 1 (take i l) c c → out' ≡ with (i + 1) (turns (minus (get_or l i d)) (at (size (get_or l i d)) c)) out
-        → out' ≡ swapFrom at with turns 1 (take (i + 1) l) c c
+    pub swap-turn : out ≡ swap_from at with turns 1 (take i l) c c → out' ≡ with (i + 1) (turns (minus (get_or l i d)) (at (size (get_or l i d)) c)) out
+        → out' ≡ swap_from at with turns 1 (take (i + 1) l) c c
     swap-turn inv made = rw (more, swap-more 1 (take i l) (get_or l i d) c c, place, ← inv) made
 
-    pub unswap-turn : out ≡ unswapFrom at with turns 1 (take i l) c c → out' ≡ with (size (get_or l i d)) (turns (minus (get_or l i d)) (at (i + 1) c)) out
-        → out' ≡ unswapFrom at with turns 1 (take (i + 1) l) c c
+    pub unswap-turn : out ≡ unswap_from at with turns 1 (take i l) c c → out' ≡ with (size (get_or l i d)) (turns (minus (get_or l i d)) (at (i + 1) c)) out
+        → out' ≡ unswap_from at with turns 1 (take (i + 1) l) c c
     unswap-turn inv made = rw (more, unswap-more 1 (take i l) (get_or l i d) c c, place, ← inv) made

@@ -7,8 +7,8 @@ use Rattle.std.proofs.Math.Logic.{inl}
 use Rattle.std.proofs.Math.Bool.{true, false}
 use Rattle.std.proofs.lemmas.Bool.{false≢true}
 use mathlib.Core.List.{List, [], ◌∷◌, ◌++◌, append_assoc}
-use Rattle.rules.specs.Text.Lists.{any_of, kept, nonEmpty}
-use Rattle.rules.specs.Text.Bytes.{Bytes, Words, white, cut, words, afterEach, joinedBy, joined}
+use Rattle.rules.specs.Text.Lists.{any_of, kept, non_empty}
+use Rattle.rules.specs.Text.Bytes.{Bytes, Words, white, cut, words, after_each, joined_by, joined}
 use Rattle.laws_lists.specs.Tests.{never}
 use Rattle.laws_text.specs.Passes.{in_word, grow, words-cons}
 
@@ -86,14 +86,14 @@ Begins [] = Unit {0}
 Begins (w ∷ ws) = Apart false [] [] false true (joined (w ∷ ws))
 
 grown : (x : ℕ) (b : Bool) (ws : Words) → white x ≡ false → Begins ws → Begins (grow x b ws)
-unfolding Begins Apart grow joined joinedBy afterEach any_of fits
+unfolding Begins Apart grow joined joined_by after_each any_of fits
 grown x true [] e h = rw e (refl, refl)
 grown x true (w ∷ ws) e h = rw e (refl, anywhere false [] [] false true (joined (w ∷ ws)) h)
 grown x false [] e h = rw e (refl, refl)
 grown x false (w ∷ ws) e h = rw (e, space-white 32 refl) (refl, (refl, h))
 
 words-begin : (t : Bytes) → Begins (words t)
-words-begin [] = unfold words kept nonEmpty cut Begins in tt
+words-begin [] = unfold words kept non_empty cut Begins in tt
 words-begin (x ∷ t) = rw (words-cons x t) (go (white x) refl (words-begin t))
   where
     go : (b : Bool) → white x ≡ b → Begins (words t) → Begins (cond b (words t) (grow x (in_word t) (words t)))
@@ -104,7 +104,7 @@ pub words-apart : (t : Bytes) → Apart false [] [] true false (joined (words t)
 words-apart t = go (words t) (words-begin t)
   where
     go : (ws : Words) → Begins ws → Apart false [] [] true false (joined ws)
-    go [] h = unfold joined joinedBy Apart in refl
+    go [] h = unfold joined joined_by Apart in refl
     go (w ∷ ws) h = behind-space false [] [] false true (joined (w ∷ ws)) (unfold Begins in h)
 
 -- ---- what a squeeze leaves of such a text
@@ -114,12 +114,12 @@ abbrev pub Squeezes : Bool → Bytes → Type 0
 Squeezes loose t = (joined (words t) ≡ t) ⊎ ((loose ≡ true) × (joined (words t) ++ (32 ∷ []) ≡ t))
 
 joined-next : (x : ℕ) (ws : Words) → joined (grow x true ws) ≡ x ∷ joined ws
-unfolding joined joinedBy afterEach grow
+unfolding joined joined_by after_each grow
 joined-next x [] = refl
 joined-next x (w ∷ ws) = refl
 
 joined-gap : (x y : ℕ) (b : Bool) (ws : Words) → joined (grow x false (grow y b ws)) ≡ x ∷ 32 ∷ joined (grow y b ws)
-unfolding joined joinedBy afterEach grow
+unfolding joined joined_by after_each grow
 joined-gap x y true [] = refl
 joined-gap x y true (w ∷ ws) = refl
 joined-gap x y false ws = refl
@@ -140,11 +140,11 @@ squeeze-space x y z t e f g =
 
 squeeze-one : (x : ℕ) → white x ≡ false → joined (words (x ∷ [])) ≡ x ∷ []
 unfolding in_word
-squeeze-one x e = rw (words-cons x [], e) (unfold words kept nonEmpty cut grow joined joinedBy afterEach in refl)
+squeeze-one x e = rw (words-cons x [], e) (unfold words kept non_empty cut grow joined joined_by after_each in refl)
 
 squeeze-last : (x y : ℕ) → white x ≡ false → eqb y 32 ≡ true → joined (words (x ∷ y ∷ [])) ≡ x ∷ []
 unfolding in_word
-squeeze-last x y e f = rw (eqb-true y 32 f, words-cons x (32 ∷ []), e) (unfold words kept nonEmpty cut grow joined joinedBy afterEach white in refl)
+squeeze-last x y e f = rw (eqb-true y 32 f, words-cons x (32 ∷ []), e) (unfold words kept non_empty cut grow joined joined_by after_each white in refl)
 
 -- behind a space comes a byte of a word, and such a byte may come anywhere
 word_next : (gap : Bool) (x : ℕ) → fits [] false gap x ≡ true → gap ≡ true → white x ≡ false
@@ -160,7 +160,7 @@ word_fits gap x e = rw e refl
 
 pub squeezes : (loose : Bool) (t : Bytes) → Apart loose [] [] false true t → Squeezes loose t
 unfolding Apart any_of
-squeezes loose [] h = unfold words kept nonEmpty cut joined joinedBy in inl refl
+squeezes loose [] h = unfold words kept non_empty cut joined joined_by in inl refl
 squeezes loose (x ∷ []) h = inl (squeeze-one x (word_next true x h.0 refl))
 squeezes loose (x ∷ y ∷ t) h = go (white y) refl (squeezes loose (y ∷ t)) (squeezes loose t)
   where

@@ -7,10 +7,10 @@ use Rattle.std.proofs.Math.Bool.{true, false}
 use mathlib.Core.List.{[], ◌∷◌}
 use Rattle.rules.specs.Text.Ascii.{is}
 use Rattle.rules.specs.Text.Lists.{all_of}
-use Rattle.rules.specs.Text.Bytes.{Bytes, white, trimStart, trimEnd, trimmed}
+use Rattle.rules.specs.Text.Bytes.{Bytes, white, trim_start, trim_end, trimmed}
 use Rattle.rules.specs.Text.Normal.{normal}
 use Rattle.laws_lists.specs.Tests.{and_left, and_right}
-use Rattle.laws_text.specs.Sizes.{weightOf, weight, length-weight, normal-weight, start-shorter}
+use Rattle.laws_text.specs.Sizes.{weight_of, weight, length-weight, normal-weight, start-shorter}
 
 -- is the byte an arrow?
 unfoldable pub arrow : ℕ → Bool
@@ -47,33 +47,33 @@ module _ (test : ℕ → Bool) (inverse : test 62 ≡ false) (forward : test 60 
   none-arrows [] e = unfold arrows in refl
   none-arrows (x ∷ t) e = arrows-none x t (spares x (and_left (test x) (all_of test t) e)) ∙ none-arrows t (and_right (test x) (all_of test t) e)
 
-  start-arrows : (t : Bytes) → arrows (trimStart test t) ≡ arrows t
-  unfolding trimStart
+  start-arrows : (t : Bytes) → arrows (trim_start test t) ≡ arrows t
+  unfolding trim_start
   start-arrows [] = refl
   start-arrows (x ∷ t) = go (test x) refl (start-arrows t)
     where
-      go : (b : Bool) → test x ≡ b → arrows (trimStart test t) ≡ arrows t → arrows (cond b (trimStart test t) (x ∷ t)) ≡ arrows (x ∷ t)
+      go : (b : Bool) → test x ≡ b → arrows (trim_start test t) ≡ arrows t → arrows (cond b (trim_start test t) (x ∷ t)) ≡ arrows (x ∷ t)
       go true e h = h ∙ sym (arrows-none x t (spares x e))
       go false e h = refl
 
-  end-arrows : (t : Bytes) → arrows (trimEnd test t) ≡ arrows t
-  unfolding trimEnd arrows
+  end-arrows : (t : Bytes) → arrows (trim_end test t) ≡ arrows t
+  unfolding trim_end arrows
   end-arrows [] = refl
   end-arrows (x ∷ t) = go (all_of test (x ∷ t)) refl (end-arrows t)
     where
-      go : (b : Bool) → all_of test (x ∷ t) ≡ b → arrows (trimEnd test t) ≡ arrows t → arrows (cond b [] (x ∷ trimEnd test t)) ≡ arrows (x ∷ t)
+      go : (b : Bool) → all_of test (x ∷ t) ≡ b → arrows (trim_end test t) ≡ arrows t → arrows (cond b [] (x ∷ trim_end test t)) ≡ arrows (x ∷ t)
       go true e h = sym (none-arrows (x ∷ t) e)
       go false e h = rw h
 
   pub trimmed-arrows : (t : Bytes) → arrows (trimmed test t) ≡ arrows t
   unfolding trimmed
-  trimmed-arrows t = end-arrows (trimStart test t) ∙ start-arrows t
+  trimmed-arrows t = end-arrows (trim_start test t) ∙ start-arrows t
 
 -- ---- how long a normal form is
 
 -- an arrow weighs nine more than another byte
 pub arrows-weight : (t : Bytes) → weight t ≡ length t + 9 * arrows t
-unfolding weight weightOf arrows arrow
+unfolding weight weight_of arrows arrow
 arrows-weight [] = refl
 arrows-weight (x ∷ t) = go (is ">" x || is "<" x) (arrows-weight t)
   where
@@ -81,11 +81,11 @@ arrows-weight (x ∷ t) = go (is ">" x || is "<" x) (arrows-weight t)
     go true h = omega (arith, h)
     go false h = omega (arith, h)
 
-white-front : (t : Bytes) → arrows (trimStart white t) ≡ arrows t
+white-front : (t : Bytes) → arrows (trim_start white t) ≡ arrows t
 unfolding white
 white-front t = start-arrows white refl refl t
 
 pub normal-arrows : (t : Bytes) → length (normal t) ≤ length t + 9 * arrows t
 normal-arrows t =
-    let s = trimStart white t in
+    let s = trim_start white t in
     omega (arith, length-weight (normal t), normal-weight t, arrows-weight s, white-front t, start-shorter white t)

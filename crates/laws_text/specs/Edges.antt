@@ -5,7 +5,7 @@ use Rattle.std.proofs.Common.{sym, ap, ◌∙◌, inl, inr, eqb-true}
 use Rattle.std.proofs.lemmas.Bool.{false≢true}
 use mathlib.Core.List.{List, [], ◌∷◌, ◌++◌, append-nil}
 use Rattle.rules.specs.Text.Ascii.{ascii, is}
-use Rattle.rules.specs.Text.Lists.{any_of, all_of, kept, nonEmpty}
+use Rattle.rules.specs.Text.Lists.{any_of, all_of, kept, non_empty}
 use Rattle.rules.specs.Text.Bytes.{Bytes, white, onto, cut, words, joined}
 use Rattle.rules.specs.Text.Normal.{squeezed, normal}
 use Rattle.rules.specs.Text.Split.{modifier}
@@ -50,7 +50,7 @@ spread-loose edge gap (x ∷ t) h = spoken-loose edge gap x (spread t) h.0 (spre
 
 -- a space at the end is no word, and no tight text has one
 pub words-end : (t : Bytes) → (words (t ++ (32 ∷ [])) ≡ words t) × (in_word (t ++ (32 ∷ [])) ≡ in_word t)
-words-end [] = unfold words kept nonEmpty cut in_word white in (refl, refl)
+words-end [] = unfold words kept non_empty cut in_word white in (refl, refl)
 words-end (x ∷ t) = let i = words-end t in (words-cons x (t ++ (32 ∷ [])) ∙ rw (i.0, i.1) (sym (words-cons x t)), unfold in_word in refl)
 
 never-last : (gap : Bool) (t : Bytes) → Tight gap (t ++ (32 ∷ [])) → ⊥

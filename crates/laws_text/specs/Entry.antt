@@ -5,7 +5,7 @@ use Rattle.std.specs.Prelude.{ℕ, ◌≤◌, ◌<◌, Bool, not, List, ◌++◌
 use Rattle.std.proofs.Math.Bool.{true, false, cond}
 use borrow.Author.Tests.{lt-ltb, le-ltb, ltb-false, ltb-true}
 use Rattle.std.proofs.Math.Dec.{ltb}
-use Rattle.rules.specs.Text.Bytes.{Bytes, inDomain}
+use Rattle.rules.specs.Text.Bytes.{Bytes, in_domain}
 use Rattle.rules.specs.Text.Refusal.{Reply, answers, refuses, refuses12, tested, lent, outcome, Promised, written, Writes, Lends}
 use Rattle.rules.specs.declared.Written.{Written}
 use Rattle.rules.specs.declared.Written.TheVariants as variant
@@ -14,25 +14,25 @@ use Rattle.laws_lists.specs.Tests.{never}
 -- ---- for the call itself
 
 module _ {A R : Type 0} {in_words : Reply ℕ → R} {own : Bytes → Reply (List A)} {t : Bytes} {out : List A} where
-  pub too_long : 4096 < length t → Promised in_words own t out (in_words (refuses 1 0)) out
+  pub too-long : 4096 < length t → Promised in_words own t out (in_words (refuses 1 0)) out
   unfolding outcome lent tested
-  too_long h = record { exactly = rw (lt-ltb 4096 (length t) h) }
+  too-long h = record { exactly = rw (lt-ltb 4096 (length t) h) }
 
-  pub not-text : length t ≤ 4096 → inDomain t ≡ false → Promised in_words own t out (in_words (refuses 2 0)) out
+  pub not-text : length t ≤ 4096 → in_domain t ≡ false → Promised in_words own t out (in_words (refuses 2 0)) out
   unfolding outcome lent tested
   not-text h d = record { exactly = rw (le-ltb 4096 (length t) h, d) }
 
-  pub refused : {number place : ℕ} → length t ≤ 4096 → inDomain t ≡ true → own t ≡ refuses number place
+  pub refused : {number place : ℕ} → length t ≤ 4096 → in_domain t ≡ true → own t ≡ refuses number place
       → Promised in_words own t out (in_words (refuses number place)) out
   unfolding outcome lent tested
   refused h d o = record { exactly = rw (le-ltb 4096 (length t) h, d, o) }
 
-  pub no_room : {xs : List A} → length t ≤ 4096 → inDomain t ≡ true → own t ≡ answers xs → length out < length xs
+  pub no_room : {xs : List A} → length t ≤ 4096 → in_domain t ≡ true → own t ≡ answers xs → length out < length xs
       → Promised in_words own t out (in_words (refuses 7 0)) out
   unfolding outcome lent tested
   no_room {xs} h d o l = record { exactly = rw (le-ltb 4096 (length t) h, d, o, lt-ltb (length out) (length xs) l) }
 
-  pub answered : {xs out' : List A} {r : ℕ} → length t ≤ 4096 → inDomain t ≡ true → own t ≡ answers xs → length xs ≤ length out
+  pub answered : {xs out' : List A} {r : ℕ} → length t ≤ 4096 → in_domain t ≡ true → own t ≡ answers xs → length xs ≤ length out
       → r ≡ length xs → out' ≡ xs ++ drop r out → Promised in_words own t out (in_words (answers r)) out'
   unfolding outcome lent tested
   answered {xs} h d o l c w = record { exactly = rw (w, c, le-ltb 4096 (length t) h, d, o, le-ltb (length out) (length xs) l) }
@@ -75,7 +75,7 @@ module _ {reply : Reply Bytes} {out : Bytes} where
   unfolding lent written
   lends-text {text} e l c w = record { exactly = rw (w, c, e, le-ltb (length out) (length text) l) }
 
-pub lends-so : {own : Bytes → Reply Bytes} {t out out' : Bytes} {r : Written} {reply : Reply Bytes} → length t ≤ 4096 → inDomain t ≡ true → own t ≡ reply
+pub lends-so : {own : Bytes → Reply Bytes} {t out out' : Bytes} {r : Written} {reply : Reply Bytes} → length t ≤ 4096 → in_domain t ≡ true → own t ≡ reply
     → Lends reply out r out' → Writes own t out r out'
 unfolding outcome tested
 lends-so {own} {t} {out} h d e w = record { exactly = w.exactly ∙ sym (rw (le-ltb 4096 (length t) h, d, e)) }
@@ -83,23 +83,23 @@ lends-so {own} {t} {out} h d e w = record { exactly = w.exactly ∙ sym (rw (le-
 -- ---- "Text calls test 1, 2, then their own."
 
 -- the number of the first of the two that a text is refused with, or 0
-unfoldable pub firstRefusal : Bytes → ℕ
-firstRefusal t = cond (ltb 4096 (length t)) 1 (cond (not (inDomain t)) 2 0)
+unfoldable pub first_refusal : Bytes → ℕ
+first_refusal t = cond (ltb 4096 (length t)) 1 (cond (not (in_domain t)) 2 0)
 
 pub record RefusedFirst (t : Bytes) (number : ℕ) : Type 0 where
-  pub exactly : number ≡ firstRefusal t
+  pub exactly : number ≡ first_refusal t
 
 -- a text that is neither too long nor outside the domain
 record Passed (t : Bytes) : Type 0 where
   short : length t ≤ 4096
-  domain : inDomain t ≡ true
+  domain : in_domain t ≡ true
 
 module _ {t : Bytes} {number : ℕ} (r : RefusedFirst t number) where
   passed : number ≡ 0 → Passed t
-  unfolding firstRefusal
-  passed z = go (ltb 4096 (length t)) refl (inDomain t) refl (sym z ∙ r.exactly)
+  unfolding first_refusal
+  passed z = go (ltb 4096 (length t)) refl (in_domain t) refl (sym z ∙ r.exactly)
     where
-      go : (long : Bool) → ltb 4096 (length t) ≡ long → (fine : Bool) → inDomain t ≡ fine → ◌≡◌ {A = ℕ} 0 (cond long 1 (cond (not fine) 2 0)) → Passed t
+      go : (long : Bool) → ltb 4096 (length t) ≡ long → (fine : Bool) → in_domain t ≡ fine → ◌≡◌ {A = ℕ} 0 (cond long 1 (cond (not fine) 2 0)) → Passed t
       go true l fine d f = absurd (never f)
       go false l true d f = record { short = ltb-false 4096 (length t) l; domain = d }
       go false l false d f = absurd (never (omega (arith, f)))
@@ -107,16 +107,16 @@ module _ {t : Bytes} {number : ℕ} (r : RefusedFirst t number) where
   pub passed-short : number ≡ 0 → length t ≤ 4096
   passed-short z = (passed z).short
 
-  pub passed-domain : number ≡ 0 → inDomain t ≡ true
+  pub passed-domain : number ≡ 0 → in_domain t ≡ true
   passed-domain z = (passed z).domain
 
   pub writes-first : {own : Bytes → Reply Bytes} {out : Bytes} → (number ≡ 0 → ⊥) → Writes own t out (variant.Refused number 0) out
-  unfolding firstRefusal written
-  writes-first {own} {out} n = go (ltb 4096 (length t)) refl (inDomain t) refl r.exactly
+  unfolding first_refusal written
+  writes-first {own} {out} n = go (ltb 4096 (length t)) refl (in_domain t) refl r.exactly
     where
-      go : (long : Bool) → ltb 4096 (length t) ≡ long → (fine : Bool) → inDomain t ≡ fine → number ≡ cond long 1 (cond (not fine) 2 0)
+      go : (long : Bool) → ltb 4096 (length t) ≡ long → (fine : Bool) → in_domain t ≡ fine → number ≡ cond long 1 (cond (not fine) 2 0)
           → Writes own t out (variant.Refused number 0) out
-      go true l fine d f = rw f (too_long (ltb-true 4096 (length t) l))
+      go true l fine d f = rw f (too-long (ltb-true 4096 (length t) l))
       go false l true d f = absurd (n f)
       go false l false d f = rw f (not-text (ltb-false 4096 (length t) l) d)
 
@@ -125,7 +125,7 @@ module _ {t : Bytes} {number : ℕ} (r : RefusedFirst t number) where
 -- where the call answers, the answer stands at the buffer's front, and the rest is as it was
 pub record Answers (own : Bytes → Reply Bytes) (t out : Bytes) (r : ℕ) (out' : Bytes) : Type 0 where
   pub short : length t ≤ 4096
-  pub domain : inDomain t ≡ true
+  pub domain : in_domain t ≡ true
   pub answer : own t ≡ answers (take r out')
   pub fits : r ≤ length out'
   pub rest : drop r out' ≡ drop r out
@@ -170,7 +170,7 @@ picked false true (answers text) out r out' e = go (ltb (length out) (length tex
     }
 
 picked-answers : (own : Bytes → Reply Bytes) (t out : Bytes) (r : ℕ) (out' : Bytes)
-    → Picked (ltb 4096 (length t)) (inDomain t) (own t) out r out' → Answers own t out r out'
+    → Picked (ltb 4096 (length t)) (in_domain t) (own t) out r out' → Answers own t out r out'
 picked-answers own t out r out' q =
     let f : take r out' ≡ q.text = rw q.whole (take_at q.text (drop (length q.text) out) r (sym q.count)) in
     record {
@@ -185,4 +185,4 @@ pub answers-so : {own : Bytes → Reply Bytes} {t out : Bytes} {r : ℕ} {out' :
     → Writes own t out (variant.Wrote r) out' → Answers own t out r out'
 unfolding outcome tested
 answers-so {own} {t} {out} {r} {out'} p =
-    picked-answers own t out r out' (picked (ltb 4096 (length t)) (inDomain t) (own t) out r out' p.exactly)
+    picked-answers own t out r out' (picked (ltb 4096 (length t)) (in_domain t) (own t) out r out' p.exactly)

@@ -10,14 +10,14 @@ use mathlib.Core.List.{List, [], ◌∷◌, ◌++◌, flat_map, append_assoc}
 use Rattle.std.proofs.Math.Dec.{leb}
 use Rattle.std.proofs.Math.ListN.{length, length-append}
 use Rattle.rules.specs.Text.Ascii.{ascii, is}
-use Rattle.rules.specs.Text.Lists.{any_of, nonEmpty, is_none}
-use Rattle.rules.specs.Text.Bytes.{Bytes, Words, same, before, behind, onto, cut, afterEach, joinedBy, joined}
+use Rattle.rules.specs.Text.Lists.{any_of, non_empty, is_none}
+use Rattle.rules.specs.Text.Bytes.{Bytes, Words, same, before, behind, onto, cut, after_each, joined_by, joined}
 use Rattle.rules.specs.Text.Split.{turned}
-use Rattle.rules.specs.Text.Decimal.{decimal, pieces, numberThen, allNumbers, series, is_number, brokenFrom}
-use Rattle.rules.specs.Text.Parameters.{Placed, parameter, name, valueIn, placedWord, placedName, placedWords, placedElements, placedTable, enteredAllBy}
-use Rattle.rules.specs.Operators.Keys.{kindIn, worded}
-use Rattle.rules.specs.Pipeline.Keys.{everyKey, kind_of, misspelt}
-use Rattle.rules.specs.Pipeline.Offsets.{faultIn, isFault, faultAt, faults, earliest}
+use Rattle.rules.specs.Text.Decimal.{decimal, pieces, number_then, all_numbers, series, is_number, broken_from}
+use Rattle.rules.specs.Text.Parameters.{Placed, parameter, name, value_in, placed_word, placed_name, placed_words, placed_elements, placed_table, entered_all_by}
+use Rattle.rules.specs.Operators.Keys.{kind_in, worded}
+use Rattle.rules.specs.Pipeline.Keys.{every_key, kind_of, misspelt}
+use Rattle.rules.specs.Pipeline.Offsets.{fault_in, is_fault, fault_at, faults, earliest}
 use Rattle.rules.specs.Face.Demands.{taken, Gives, Breaks, FaultAt, StandsAt}
 use Rattle.rules.specs.declared.Decimal.{Decimal}
 use Rattle.rules.specs.declared.Kind.{Kind}
@@ -55,14 +55,14 @@ record Bad (ps : List Bytes) : Type 0 where
   rest : List Bytes
   in_order : ps ≡ front ++ (piece ∷ rest)
   breaks : decimal piece ≡ Not
-  begins : brokenFrom ps ≡ taken (ascii ",") front
+  begins : broken_from ps ≡ taken (ascii ",") front
 
-first-bad : (ps : List Bytes) → is_none (allNumbers ps) ≡ true → Bad ps
-unfolding allNumbers brokenFrom is_none is_number numberThen
+first-bad : (ps : List Bytes) → is_none (all_numbers ps) ≡ true → Bad ps
+unfolding all_numbers broken_from is_none is_number number_then
 first-bad [] h = absurd (false≢true h)
-first-bad (p ∷ ps) h = go (decimal p) refl (allNumbers ps) refl h (first-bad ps)
+first-bad (p ∷ ps) h = go (decimal p) refl (all_numbers ps) refl h (first-bad ps)
   where
-    go : (d : Number) → decimal p ≡ d → (o : Option (List Decimal)) → allNumbers ps ≡ o → is_none (numberThen d o) ≡ true → (is_none (allNumbers ps) ≡ true → Bad ps) → Bad (p ∷ ps)
+    go : (d : Number) → decimal p ≡ d → (o : Option (List Decimal)) → all_numbers ps ≡ o → is_none (number_then d o) ≡ true → (is_none (all_numbers ps) ≡ true → Bad ps) → Bad (p ∷ ps)
     go Not e o f h next = record { front = []; piece = p; rest = ps; in_order = refl; breaks = e; begins = rw e (sym (taken_none (ascii ","))) }
     go (Is d) e none f h next =
         let b = next (rw f refl) in
@@ -77,22 +77,22 @@ first-bad (p ∷ ps) h = go (decimal p) refl (allNumbers ps) refl h (first-bad p
     go (Is d) e (some l) f h next = absurd (false≢true h)
 
 -- no piece that does stands before it, and where there is one, the series is none
-none_before : (front : List Bytes) (piece : Bytes) (rest : List Bytes) → decimal piece ≡ Not → brokenFrom (front ++ (piece ∷ rest)) ≤ taken (ascii ",") front
-unfolding brokenFrom is_number
+none_before : (front : List Bytes) (piece : Bytes) (rest : List Bytes) → decimal piece ≡ Not → broken_from (front ++ (piece ∷ rest)) ≤ taken (ascii ",") front
+unfolding broken_from is_number
 none_before [] piece rest e = rw e (omega arith)
 none_before (p ∷ front) piece rest e = go (is_number (decimal p)) (none_before front piece rest e)
   where
-    go : (b : Bool) → brokenFrom (front ++ (piece ∷ rest)) ≤ taken (ascii ",") front
-        → cond b (length p + 1 + brokenFrom (front ++ (piece ∷ rest))) 0 ≤ taken (ascii ",") (p ∷ front)
+    go : (b : Bool) → broken_from (front ++ (piece ∷ rest)) ≤ taken (ascii ",") front
+        → cond b (length p + 1 + broken_from (front ++ (piece ∷ rest))) 0 ≤ taken (ascii ",") (p ∷ front)
     go true h = omega (arith, h, taken-front (ascii ",") p front, one_byte)
     go false h = omega arith
 
-bad-series : (front : List Bytes) (piece : Bytes) (rest : List Bytes) → decimal piece ≡ Not → is_none (allNumbers (front ++ (piece ∷ rest))) ≡ true
-unfolding allNumbers numberThen is_none
+bad-series : (front : List Bytes) (piece : Bytes) (rest : List Bytes) → decimal piece ≡ Not → is_none (all_numbers (front ++ (piece ∷ rest))) ≡ true
+unfolding all_numbers number_then is_none
 bad-series [] piece rest e = rw e refl
-bad-series (p ∷ front) piece rest e = go (decimal p) (allNumbers (front ++ (piece ∷ rest))) (bad-series front piece rest e)
+bad-series (p ∷ front) piece rest e = go (decimal p) (all_numbers (front ++ (piece ∷ rest))) (bad-series front piece rest e)
   where
-    go : (d : Number) (o : Option (List Decimal)) → is_none o ≡ true → is_none (numberThen d o) ≡ true
+    go : (d : Number) (o : Option (List Decimal)) → is_none o ≡ true → is_none (number_then d o) ≡ true
     go Not o h = refl
     go (Is d) none h = refl
     go (Is d) (some l) h = h
@@ -102,26 +102,26 @@ bad-series (p ∷ front) piece rest e = go (decimal p) (allNumbers (front ++ (pi
 -- what refusal 12 is for is what breaks the rule, in the first such place of the word
 record Broken (kind : Kind) (word : Bytes) : Type 0 where
   bad : Bytes
-  breaks : Breaks kind word bad (valueIn word + faultIn kind (parameter word).value)
+  breaks : Breaks kind word bad (value_in word + fault_in kind (parameter word).value)
 
 broken : (kind : Kind) (word : Bytes) → misspelt kind (parameter word).value ≡ true → Broken kind word
-unfolding misspelt faultIn series
+unfolding misspelt fault_in series
 broken Flag word h = record {
   bad = (parameter word).value;
   breaks = Breaks.flag refl refl (λ e. false≢true (sym (not_so h) ∙ ap (λ (v : Bytes). same v (ascii "true")) e ∙ same_self (ascii "true"))) (omega arith);
 }
 broken Series word h =
     let b = first-bad (pieces (parameter word).value) h in
-    record { bad = b.piece; breaks = Breaks.element refl b.front b.rest b.in_order b.breaks (ap (λ (k : ℕ). valueIn word + k) b.begins) }
+    record { bad = b.piece; breaks = Breaks.element refl b.front b.rest b.in_order b.breaks (ap (λ (k : ℕ). value_in word + k) b.begins) }
 broken Word word h = absurd (false≢true h)
 broken Lacking word h = absurd (false≢true h)
 
 record Refused (kind : Kind) (word : Bytes) (at : ℕ) : Type 0 where
   misspelt-so : misspelt kind (parameter word).value ≡ true
-  not-later : valueIn word + faultIn kind (parameter word).value ≤ at
+  not-later : value_in word + fault_in kind (parameter word).value ≤ at
 
 refused : (kind : Kind) (word bad : Bytes) (at : ℕ) → Breaks kind word bad at → Refused kind word at
-unfolding misspelt faultIn series
+unfolding misspelt fault_in series
 refused kind word bad at (Breaks.flag k v other e) =
     rw (k, e) (record { misspelt-so = go (same (parameter word).value (ascii "true")) refl; not-later = omega arith })
   where
@@ -145,41 +145,41 @@ begin front = taken (ascii " ") front
 begin-behind : (front : Words) (w : Bytes) → begin (front ++ (w ∷ [])) ≡ begin front + length w + 1
 begin-behind front w = omega (arith, taken-behind (ascii " ") front w, one-space)
 
-placed-keys : (k : Bytes) (at : ℕ) (ws : Words) → any_of (λ (q : Placed). same k (key_of q)) (placedWords at ws) ≡ any_of (λ (w : Bytes). same k (parameter w).key) ws
-unfolding any_of placedWords placedWord
+placed-keys : (k : Bytes) (at : ℕ) (ws : Words) → any_of (λ (q : Placed). same k (key_of q)) (placed_words at ws) ≡ any_of (λ (w : Bytes). same k (parameter w).key) ws
+unfolding any_of placed_words placed_word
 placed-keys k at [] = refl
 placed-keys k at (w ∷ ws) = ap (λ (b : Bool). same k (parameter w).key || b) (placed-keys k (at + length w + 1) ws)
 
 -- a name is never at fault
 pub name-fine : (n : Name) (w : Bytes) → misspelt (kind_of n (name w)) w ≡ false
-unfolding name kind_of everyKey kindIn worded misspelt
+unfolding name kind_of every_key kind_in worded misspelt
 name-fine n w = rw (same_self (ascii "_name")) refl
 
-some_more : (front : Words) (w : Bytes) → nonEmpty (front ++ (w ∷ [])) ≡ true
-unfolding nonEmpty
+some_more : (front : Words) (w : Bytes) → non_empty (front ++ (w ∷ [])) ≡ true
+unfolding non_empty
 some_more [] w = refl
 some_more (v ∷ front) w = refl
 
 module _ (n : Name) (ws : Words) where
   -- a parameter that refusal 12 is for is at fault among these words
   abbrev AtFault : Placed → Type 0
-  AtFault q = isFault n q ≡ true → FaultAt n ws (faultAt n q)
+  AtFault q = is_fault n q ≡ true → FaultAt n ws (fault_at n q)
 
-  word-at-fault : (front : Words) (w : Bytes) (rest : Words) → ws ≡ front ++ (w ∷ rest) → nonEmpty front || any_of (is "=") w ≡ true → (at : ℕ)
-      → Lacks (key_of (placedWord (begin front) w)) (placedWords at rest) → AtFault (placedWord (begin front) w)
-  unfolding isFault faultAt placedWord
+  word-at-fault : (front : Words) (w : Bytes) (rest : Words) → ws ≡ front ++ (w ∷ rest) → non_empty front || any_of (is "=") w ≡ true → (at : ℕ)
+      → Lacks (key_of (placed_word (begin front) w)) (placed_words at rest) → AtFault (placed_word (begin front) w)
+  unfolding is_fault fault_at placed_word
   word-at-fault front w rest e m at l h = record {
     word = w;
     bad = (broken (kind_of n (parameter w)) w h).bad;
     from = begin front;
-    at = valueIn w + faultIn (kind_of n (parameter w)) (parameter w).value;
+    at = value_in w + fault_in (kind_of n (parameter w)) (parameter w).value;
     gives = record { front = front; rest = rest; in_order = e; begins = refl; not-name = m; last = sym (placed-keys (parameter w).key at rest) ∙ l };
     breaks = (broken (kind_of n (parameter w)) w h).breaks;
     offset-is = omega arith;
   }
 
-  words_last : (front rest : Words) → ws ≡ front ++ rest → nonEmpty front ≡ true → EachLast AtFault (placedWords (begin front) rest)
-  unfolding EachLast placedWords
+  words_last : (front rest : Words) → ws ≡ front ++ rest → non_empty front ≡ true → EachLast AtFault (placed_words (begin front) rest)
+  unfolding EachLast placed_words
   words_last front [] e m = tt
   words_last front (w ∷ rest) e m = (
     word-at-fault front w rest e (rw m) (begin front + length w + 1),
@@ -187,25 +187,25 @@ module _ (n : Name) (ws : Words) where
   )
 
 name-at-fault : (n : Name) (w : Bytes) (rest : Words) → AtFault n (w ∷ rest) (record { given = name w; at = 0 })
-unfolding isFault name
+unfolding is_fault name
 name-at-fault n w rest h = absurd (false≢true (sym (name-fine n w) ∙ h))
 
-first-at-fault : (n : Name) (w : Bytes) (rest : Words) (at : ℕ) → Lacks (key_of (placedName 0 w)) (placedWords at rest) → AtFault n (w ∷ rest) (placedName 0 w)
-unfolding placedName flat_map nonEmpty
+first-at-fault : (n : Name) (w : Bytes) (rest : Words) (at : ℕ) → Lacks (key_of (placed_name 0 w)) (placed_words at rest) → AtFault n (w ∷ rest) (placed_name 0 w)
+unfolding placed_name flat_map non_empty
 first-at-fault n w rest at = go (any_of (is "=") w) refl
   where
-    go : (b : Bool) → any_of (is "=") w ≡ b → Lacks (key_of (cond b (placedWord 0 w) (record { given = name w; at = 0 }))) (placedWords at rest)
-        → AtFault n (w ∷ rest) (cond b (placedWord 0 w) (record { given = name w; at = 0 }))
+    go : (b : Bool) → any_of (is "=") w ≡ b → Lacks (key_of (cond b (placed_word 0 w) (record { given = name w; at = 0 }))) (placed_words at rest)
+        → AtFault n (w ∷ rest) (cond b (placed_word 0 w) (record { given = name w; at = 0 }))
     go true e l = word-at-fault n (w ∷ rest) [] w rest refl (rw e refl) at l
     go false e l = name-at-fault n w rest
 
-elements-last : (n : Name) (ws : Words) → EachLast (AtFault n ws) (placedElements ws)
-unfolding EachLast placedElements
+elements-last : (n : Name) (ws : Words) → EachLast (AtFault n ws) (placed_elements ws)
+unfolding EachLast placed_elements
 elements-last n [] = tt
 elements-last n (w ∷ ws) = (
   first-at-fault n w ws (length w + 1),
   let at : begin (w ∷ []) ≡ length w + 1 = omega (arith, begin-behind [] w, taken_none (ascii " ")) in
-      rw (← at) (words_last n (w ∷ ws) (w ∷ []) ws refl (unfold nonEmpty in refl)),
+      rw (← at) (words_last n (w ∷ ws) (w ∷ []) ws refl (unfold non_empty in refl)),
 )
 
 -- ---- the earliest
@@ -217,8 +217,8 @@ min-is Q x y h k = go (leb x y) refl
     go true e = let l = leb-true x y e in let m : min x y ≡ x = omega arith in rw m h
     go false e = let l = leb-false x y e in let m : min x y ≡ y = omega arith in rw m k
 
-earliest-so : (Q : ℕ → Type 0) (l : List ℕ) → nonEmpty l ≡ true → Every Q l → Q (earliest l)
-unfolding nonEmpty earliest Every
+earliest-so : (Q : ℕ → Type 0) (l : List ℕ) → non_empty l ≡ true → Every Q l → Q (earliest l)
+unfolding non_empty earliest Every
 earliest-so Q [] e h = absurd (false≢true e)
 earliest-so Q (x ∷ []) e h = h.0
 earliest-so Q (x ∷ y ∷ l) e h = min-is Q x (earliest (y ∷ l)) h.0 (earliest-so Q (y ∷ l) refl h.1)
@@ -239,36 +239,36 @@ earliest-below o (x ∷ y ∷ l) h = go (leb x o) refl h (earliest-below o (y �
     go false e h r = let k = r h in omega arith
 
 module _ (n : Name) where
-  faults-there : (qs : List Placed) → any_of (isFault n) qs ≡ true → nonEmpty (faults n qs) ≡ true
-  unfolding any_of faults nonEmpty
+  faults-there : (qs : List Placed) → any_of (is_fault n) qs ≡ true → non_empty (faults n qs) ≡ true
+  unfolding any_of faults non_empty
   faults-there [] h = h
-  faults-there (q ∷ qs) h = go (isFault n q) h (faults-there qs)
+  faults-there (q ∷ qs) h = go (is_fault n q) h (faults-there qs)
     where
-      go : (b : Bool) → b || any_of (isFault n) qs ≡ true → (any_of (isFault n) qs ≡ true → nonEmpty (faults n qs) ≡ true)
-          → nonEmpty (cond b (faultAt n q ∷ faults n qs) (faults n qs)) ≡ true
+      go : (b : Bool) → b || any_of (is_fault n) qs ≡ true → (any_of (is_fault n) qs ≡ true → non_empty (faults n qs) ≡ true)
+          → non_empty (cond b (fault_at n q ∷ faults n qs) (faults n qs)) ≡ true
       go true h r = refl
       go false h r = r h
 
-  faults-so : (Q : ℕ → Type 0) (qs : List Placed) → Every (λ (q : Placed). isFault n q ≡ true → Q (faultAt n q)) qs → Every Q (faults n qs)
+  faults-so : (Q : ℕ → Type 0) (qs : List Placed) → Every (λ (q : Placed). is_fault n q ≡ true → Q (fault_at n q)) qs → Every Q (faults n qs)
   unfolding faults Every
   faults-so Q [] h = tt
-  faults-so Q (q ∷ qs) h = go (isFault n q) refl (faults-so Q qs h.1)
+  faults-so Q (q ∷ qs) h = go (is_fault n q) refl (faults-so Q qs h.1)
     where
-      go : (b : Bool) → isFault n q ≡ b → Every Q (faults n qs) → Every Q (cond b (faultAt n q ∷ faults n qs) (faults n qs))
+      go : (b : Bool) → is_fault n q ≡ b → Every Q (faults n qs) → Every Q (cond b (fault_at n q ∷ faults n qs) (faults n qs))
       go true e r = (h.0 e, r)
       go false e r = r
 
   -- one that is not behind a byte, among the faults
   abbrev early : ℕ → Placed → Bool
-  early o q = isFault n q && leb (faultAt n q) o
+  early o q = is_fault n q && leb (fault_at n q) o
 
   faults-early : (o : ℕ) (qs : List Placed) → any_of (early o) qs ≡ true → any_of (λ (x : ℕ). leb x o) (faults n qs) ≡ true
   unfolding any_of faults
   faults-early o [] h = h
-  faults-early o (q ∷ qs) h = go (isFault n q) (leb (faultAt n q) o) refl h (faults-early o qs)
+  faults-early o (q ∷ qs) h = go (is_fault n q) (leb (fault_at n q) o) refl h (faults-early o qs)
     where
-      go : (b c : Bool) → leb (faultAt n q) o ≡ c → (b && c) || any_of (early o) qs ≡ true → (any_of (early o) qs ≡ true → any_of (λ (x : ℕ). leb x o) (faults n qs) ≡ true)
-          → any_of (λ (x : ℕ). leb x o) (cond b (faultAt n q ∷ faults n qs) (faults n qs)) ≡ true
+      go : (b c : Bool) → leb (fault_at n q) o ≡ c → (b && c) || any_of (early o) qs ≡ true → (any_of (early o) qs ≡ true → any_of (λ (x : ℕ). leb x o) (faults n qs) ≡ true)
+          → any_of (λ (x : ℕ). leb x o) (cond b (fault_at n q ∷ faults n qs) (faults n qs)) ≡ true
       go true true e h r = rw e
       go true false e h r = rw (e, r h)
       go false c e h r = r h
@@ -276,35 +276,35 @@ module _ (n : Name) where
 -- ---- a word that gives a key its value is in the table
 
 split-words : (at : ℕ) (front : Words) (w : Bytes) (rest : Words)
-    → placedWords at (front ++ (w ∷ rest)) ≡ placedWords at front ++ (placedWord (at + begin front) w ∷ placedWords (at + begin front + length w + 1) rest)
-unfolding placedWords
+    → placed_words at (front ++ (w ∷ rest)) ≡ placed_words at front ++ (placed_word (at + begin front) w ∷ placed_words (at + begin front + length w + 1) rest)
+unfolding placed_words
 split-words at [] w rest = let e : at + begin [] ≡ at = omega (arith, taken_none (ascii " ")) in rw e refl
 split-words at (v ∷ front) w rest =
     let e : at + begin (v ∷ front) ≡ at + length v + 1 + begin front = omega (arith, taken-front (ascii " ") v front, one-space) in
-    rw e (ap (λ (l : List Placed). placedWord at v ∷ l) (split-words (at + length v + 1) front w rest))
+    rw e (ap (λ (l : List Placed). placed_word at v ∷ l) (split-words (at + length v + 1) front w rest))
 
 -- the elements before it, and the byte behind it
 record Among (ws : Words) (word : Bytes) (from : ℕ) (rest : Words) : Type 0 where
   front : List Placed
   at : ℕ
-  in_order : placedElements ws ≡ front ++ (placedWord from word ∷ placedWords at rest)
+  in_order : placed_elements ws ≡ front ++ (placed_word from word ∷ placed_words at rest)
 
-among : (front : Words) (w : Bytes) (rest : Words) → nonEmpty front || any_of (is "=") w ≡ true → Among (front ++ (w ∷ rest)) w (begin front) rest
-unfolding placedElements placedName nonEmpty
+among : (front : Words) (w : Bytes) (rest : Words) → non_empty front || any_of (is "=") w ≡ true → Among (front ++ (w ∷ rest)) w (begin front) rest
+unfolding placed_elements placed_name non_empty
 among [] w rest m = record {
   front = [];
   at = length w + 1;
-  in_order = ap (λ (q : Placed). q ∷ placedWords (length w + 1) rest) (go (any_of (is "=") w) m);
+  in_order = ap (λ (q : Placed). q ∷ placed_words (length w + 1) rest) (go (any_of (is "=") w) m);
 }
   where
-    go : (b : Bool) → b ≡ true → cond b (placedWord 0 w) (record { given = name w; at = 0 }) ≡ placedWord (begin []) w
+    go : (b : Bool) → b ≡ true → cond b (placed_word 0 w) (record { given = name w; at = 0 }) ≡ placed_word (begin []) w
     go b m = rw (m, taken_none (ascii " ")) refl
 among (v ∷ front) w rest m =
     let e : begin (v ∷ front) ≡ length v + 1 + begin front = omega (arith, taken-front (ascii " ") v front, one-space) in
     record {
-      front = placedName 0 v ∷ placedWords (length v + 1) front;
+      front = placed_name 0 v ∷ placed_words (length v + 1) front;
       at = length v + 1 + begin front + length w + 1;
-      in_order = rw e (ap (λ (l : List Placed). placedName 0 v ∷ l) (split-words (length v + 1) front w rest));
+      in_order = rw e (ap (λ (l : List Placed). placed_name 0 v ∷ l) (split-words (length v + 1) front w rest));
     }
 
 any_left : (f g : Placed → Bool) (l : List Placed) → any_of (λ (q : Placed). f q && g q) l ≡ true → any_of f l ≡ true
@@ -318,42 +318,42 @@ any_left f g (q ∷ l) h = go (f q) (g q) h (any_left f g l)
 
 -- the table of these words, which are turned already
 abbrev table : Words → List Placed
-table ws = enteredAllBy key_of (placedElements ws) []
+table ws = entered_all_by key_of (placed_elements ws) []
 
 last-early : (n : Name) (o : ℕ) (front : List Placed) (q : Placed) (rest : List Placed) → early n o q ≡ true → Lacks (key_of q) rest
-    → any_of (early n o) (enteredAllBy key_of (front ++ (q ∷ rest)) []) ≡ true
+    → any_of (early n o) (entered_all_by key_of (front ++ (q ∷ rest)) []) ≡ true
 last-early n o front q rest e l =
-    any_left (early n o) (λ (x : Placed). same (key_of q) (key_of x)) (enteredAllBy key_of (front ++ (q ∷ rest)) [])
+    any_left (early n o) (λ (x : Placed). same (key_of q) (key_of x)) (entered_all_by key_of (front ++ (q ∷ rest)) [])
     (last-there (λ (x : Placed). early n o x && same (key_of q) (key_of x)) front q rest [] (λ r t. same-is (key_of q) (key_of r) (and_right (early n o r) (same (key_of q) (key_of r)) t))
     l (rw (e, same_self (key_of q)) refl))
 
 word-early : (n : Name) (from o : ℕ) (w : Bytes) → misspelt (kind_of n (parameter w)) (parameter w).value ≡ true
-    → from + (valueIn w + faultIn (kind_of n (parameter w)) (parameter w).value) ≤ o → early n o (placedWord from w) ≡ true
-unfolding isFault faultAt placedWord
-word-early n from o w m h = rw m (le-leb (from + valueIn w + faultIn (kind_of n (parameter w)) (parameter w).value) o (omega (arith, h)))
+    → from + (value_in w + fault_in (kind_of n (parameter w)) (parameter w).value) ≤ o → early n o (placed_word from w) ≡ true
+unfolding is_fault fault_at placed_word
+word-early n from o w m h = rw m (le-leb (from + value_in w + fault_in (kind_of n (parameter w)) (parameter w).value) o (omega (arith, h)))
 
 fault-early : (n : Name) (ws : Words) (o : ℕ) → FaultAt n ws o → any_of (early n o) (table ws) ≡ true
 fault-early n ws o f =
     let g = f.gives in
     let a = among g.front f.word g.rest g.not-name in
     let r = refused (kind_of n (parameter f.word)) f.word f.bad f.at f.breaks in
-    let q = placedWord (begin g.front) f.word in
+    let q = placed_word (begin g.front) f.word in
     let e = word-early n (begin g.front) o f.word r.misspelt-so (omega (arith, r.not-later, f.offset-is, g.begins)) in
-    let l : Lacks (key_of q) (placedWords a.at g.rest) = unfold placedWord in placed-keys (parameter f.word).key a.at g.rest ∙ g.last in
+    let l : Lacks (key_of q) (placed_words a.at g.rest) = unfold placed_word in placed-keys (parameter f.word).key a.at g.rest ∙ g.last in
     ap (λ (us : Words). any_of (early n o) (table us)) g.in_order
-    ∙ ap (λ (qs : List Placed). any_of (early n o) (enteredAllBy key_of qs [])) a.in_order
-    ∙ last-early n o a.front q (placedWords a.at g.rest) e l
+    ∙ ap (λ (qs : List Placed). any_of (early n o) (entered_all_by key_of qs [])) a.in_order
+    ∙ last-early n o a.front q (placed_words a.at g.rest) e l
 
 -- ---- the first fault of a step's words
 
-pub earliest-fault : (n : Name) (ws : Words) → any_of (isFault n) (placedTable ws) ≡ true → FaultAt n (turned ws) (earliest (faults n (placedTable ws)))
-unfolding placedTable
+pub earliest-fault : (n : Name) (ws : Words) → any_of (is_fault n) (placed_table ws) ≡ true → FaultAt n (turned ws) (earliest (faults n (placed_table ws)))
+unfolding placed_table
 earliest-fault n ws h =
     earliest-so (FaultAt n (turned ws)) (faults n (table (turned ws))) (faults-there n (table (turned ws)) h)
-    (faults-so n (FaultAt n (turned ws)) (table (turned ws)) (table-last-only (AtFault n (turned ws)) (placedElements (turned ws)) (elements-last n (turned ws))))
+    (faults-so n (FaultAt n (turned ws)) (table (turned ws)) (table-last-only (AtFault n (turned ws)) (placed_elements (turned ws)) (elements-last n (turned ws))))
 
-pub no-earlier-fault : (n : Name) (ws : Words) (o : ℕ) → FaultAt n (turned ws) o → earliest (faults n (placedTable ws)) ≤ o
-unfolding placedTable
+pub no-earlier-fault : (n : Name) (ws : Words) (o : ℕ) → FaultAt n (turned ws) o → earliest (faults n (placed_table ws)) ≤ o
+unfolding placed_table
 no-earlier-fault n ws o f = earliest-below o (faults n (table (turned ws))) (faults-early n o (table (turned ws)) (fault-early n (turned ws) o f))
 
 -- ---- what stands at a fault, in the words' text
@@ -368,15 +368,15 @@ within {t} {p} {q} a b = record {
 }
 
 module _ (sep : Bytes) where
-  after-joined : (front : List Bytes) (t : Bytes) (rest : List Bytes) → afterEach sep (front ++ (t ∷ rest)) ≡ sep ++ joinedBy sep (front ++ (t ∷ rest))
-  unfolding joinedBy afterEach
+  after-joined : (front : List Bytes) (t : Bytes) (rest : List Bytes) → after_each sep (front ++ (t ∷ rest)) ≡ sep ++ joined_by sep (front ++ (t ∷ rest))
+  unfolding joined_by after_each
   after-joined [] t rest = refl
   after-joined (u ∷ front) t rest = refl
 
   -- a text among others, with a `sep` between
-  among-texts : (front : List Bytes) (t : Bytes) (rest : List Bytes) → StandsAt (joinedBy sep (front ++ (t ∷ rest))) (taken sep front) t
-  unfolding joinedBy
-  among-texts [] t rest = record { front = []; rest = afterEach sep rest; in_order = refl; begins = taken_none sep }
+  among-texts : (front : List Bytes) (t : Bytes) (rest : List Bytes) → StandsAt (joined_by sep (front ++ (t ∷ rest))) (taken sep front) t
+  unfolding joined_by
+  among-texts [] t rest = record { front = []; rest = after_each sep rest; in_order = refl; begins = taken_none sep }
   among-texts (u ∷ front) t rest =
       let s = among-texts front t rest in
       record {
@@ -387,22 +387,22 @@ module _ (sep : Bytes) where
       }
 
 -- the pieces of a text, joined again
-cut-some : (v : Bytes) → nonEmpty (pieces v) ≡ true
-unfolding pieces cut onto nonEmpty
+cut-some : (v : Bytes) → non_empty (pieces v) ≡ true
+unfolding pieces cut onto non_empty
 cut-some [] = refl
 cut-some (y ∷ v) = go (is "," y) (cut (is ",") v)
   where
-    go : (b : Bool) (ps : List Bytes) → nonEmpty (cond b ([] ∷ ps) (onto y ps)) ≡ true
+    go : (b : Bool) (ps : List Bytes) → non_empty (cond b ([] ∷ ps) (onto y ps)) ≡ true
     go true ps = refl
     go false [] = refl
     go false (p ∷ ps) = refl
 
-joined-cut : (v : Bytes) → joinedBy (ascii ",") (pieces v) ≡ v
-unfolding pieces cut onto joinedBy afterEach ascii nonEmpty
+joined-cut : (v : Bytes) → joined_by (ascii ",") (pieces v) ≡ v
+unfolding pieces cut onto joined_by after_each ascii non_empty
 joined-cut [] = refl
 joined-cut (x ∷ v) = go (is "," x) refl (cut (is ",") v) (cut-some v) (joined-cut v)
   where
-    go : (b : Bool) → is "," x ≡ b → (ps : List Bytes) → nonEmpty ps ≡ true → joinedBy (ascii ",") ps ≡ v → joinedBy (ascii ",") (cond b ([] ∷ ps) (onto x ps)) ≡ x ∷ v
+    go : (b : Bool) → is "," x ≡ b → (ps : List Bytes) → non_empty ps ≡ true → joined_by (ascii ",") ps ≡ v → joined_by (ascii ",") (cond b ([] ∷ ps) (onto x ps)) ≡ x ∷ v
     go b e [] m h = absurd (false≢true m)
     go true e (p ∷ ps) m h = let y : x ≡ 44 = eqb-true x 44 e in rw y (ap (λ (t : Bytes). 44 ∷ t) h)
     go false e (p ∷ ps) m h = ap (λ (t : Bytes). x ∷ t) h
@@ -410,7 +410,7 @@ joined-cut (x ∷ v) = go (is "," x) refl (cut (is ",") v) (cut-some v) (joined-
 piece-stands : (v : Bytes) (front : List Bytes) (piece : Bytes) (rest : List Bytes) → pieces v ≡ front ++ (piece ∷ rest) → StandsAt v (taken (ascii ",") front) piece
 piece-stands v front piece rest e =
     let s = among-texts (ascii ",") front piece rest in
-    record { front = s.front; rest = s.rest; in_order = sym (joined-cut v) ∙ ap (joinedBy (ascii ",")) e ∙ s.in_order; begins = s.begins }
+    record { front = s.front; rest = s.rest; in_order = sym (joined-cut v) ∙ ap (joined_by (ascii ",")) e ∙ s.in_order; begins = s.begins }
 
 -- the value in its word
 at_sign : (w : Bytes) → any_of (is "=") w ≡ true → w ≡ before (is "=") w ++ (61 ∷ behind (is "=") w)
@@ -432,8 +432,8 @@ up-to-sign (x ∷ w) = go (is "=" x) (up-to-sign w)
     go true r = (x ∷ w, refl)
     go false r = (r.0, ap (λ (t : Bytes). x ∷ t) r.1)
 
-value-stands : (w : Bytes) → any_of (is "=") w ≡ true → StandsAt w (valueIn w) (parameter w).value
-unfolding valueIn parameter
+value-stands : (w : Bytes) → any_of (is "=") w ≡ true → StandsAt w (value_in w) (parameter w).value
+unfolding value_in parameter
 value-stands w h =
     let r = up-to-sign (behind (is "=") w) in
     rw h (record {
@@ -450,7 +450,7 @@ word_stands {ws} {word} {from} g = rw (g.in_order, g.begins) (among-texts (ascii
 pub bad-stands : {n : Name} {ws : Words} {o : ℕ} (f : FaultAt n ws o) → any_of (is "=") f.word ≡ true → StandsAt (joined ws) o f.bad
 bad-stands {n} {ws} {o} f h = rw f.offset-is (within (word_stands f.gives) (go f.bad f.at f.breaks))
   where
-    value : StandsAt f.word (valueIn f.word) (parameter f.word).value
+    value : StandsAt f.word (value_in f.word) (parameter f.word).value
     value = value-stands f.word h
 
     go : (bad : Bytes) (at : ℕ) → Breaks (kind_of n (parameter f.word)) f.word bad at → StandsAt f.word at bad
@@ -462,8 +462,8 @@ bare-value : (w : Bytes) → any_of (is "=") w ≡ false → (parameter w).value
 unfolding parameter
 bare-value w h = rw h refl
 
-bare-at : (w : Bytes) → any_of (is "=") w ≡ false → valueIn w ≡ length w
-unfolding valueIn
+bare-at : (w : Bytes) → any_of (is "=") w ≡ false → value_in w ≡ length w
+unfolding value_in
 bare-at w h = rw h refl
 
 first_piece : (front : List Bytes) (bad : Bytes) (rest : List Bytes) → pieces (ascii "true") ≡ front ++ (bad ∷ rest) → taken (ascii ",") front ≡ 0

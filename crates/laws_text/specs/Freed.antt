@@ -9,9 +9,9 @@ use Rattle.std.proofs.lemmas.Bool.{false≢true}
 use mathlib.Core.List.{List, [], ◌∷◌, ◌++◌}
 use Rattle.std.proofs.Math.Dec.{eqb}
 use Rattle.rules.specs.Text.Ascii.{ascii}
-use Rattle.rules.specs.Text.Lists.{any_of, all_of, nonEmpty}
-use Rattle.rules.specs.Text.Bytes.{Bytes, white, starts, replaceFrom, replace}
-use Rattle.rules.specs.Text.Normal.{Replacement, run, becomes, subscriptBecomes, replacements}
+use Rattle.rules.specs.Text.Lists.{any_of, all_of, non_empty}
+use Rattle.rules.specs.Text.Bytes.{Bytes, white, starts, replace_from, replace}
+use Rattle.rules.specs.Text.Normal.{Replacement, run, becomes, subscript_becomes, replacements}
 use Rattle.laws_lists.specs.Tests.{never, and_left, and_right}
 use Rattle.laws_text.specs.Apart.{among, fits, fits-white, fits_word, space-white, and-true, Apart, behind-space, anywhere}
 
@@ -30,21 +30,21 @@ unfolding fits any_of
 fits-bar bars c edge gap x e h = rw e h
 
 module _ (loose : Bool) (shut bars : List ℕ) (c : ℕ) (word : white c ≡ false) where
-  is_word : (x : ℕ) → eqb x c ≡ true → white x ≡ false
-  is_word x h = ap white (eqb-true x c h) ∙ word
+  is-word : (x : ℕ) → eqb x c ≡ true → white x ≡ false
+  is-word x h = ap white (eqb-true x c h) ∙ word
 
   -- "c " becomes "c": no space is left behind a c. `at` says that a c stands before the text, which does then not go on with a space.
   abbrev Behind : Bytes → Type 0
   Behind t = (at edge gap : Bool) → (at ≡ true → starts (32 ∷ []) t ≡ false) → Apart loose shut bars edge gap t
-      → Apart loose (c ∷ shut) bars (at || edge) gap (replaceFrom 0 (c ∷ 32 ∷ []) (c ∷ []) t)
+      → Apart loose (c ∷ shut) bars (at || edge) gap (replace_from 0 (c ∷ 32 ∷ []) (c ∷ []) t)
 
   -- the same where the space is passed over
   abbrev PastSpace : Bytes → Type 0
   PastSpace t = (edge gap : Bool) → starts (32 ∷ []) t ≡ true → Apart loose shut bars edge gap t
-      → Apart loose (c ∷ shut) bars true false (replaceFrom 1 (c ∷ 32 ∷ []) (c ∷ []) t)
+      → Apart loose (c ∷ shut) bars true false (replace_from 1 (c ∷ 32 ∷ []) (c ∷ []) t)
 
   no-space-behind : (t : Bytes) → Behind t × PastSpace t
-  unfolding Apart replaceFrom starts any_of
+  unfolding Apart replace_from starts any_of
   no-space-behind [] = (λ at edge gap n h. h, λ edge gap n h. absurd (false≢true n))
   no-space-behind (x ∷ t) = (λ at edge gap n h. go at edge gap n h (eqb x c && starts (32 ∷ []) t) refl (no-space-behind t), λ edge gap n h. past edge gap n h (no-space-behind t).0)
     where
@@ -54,7 +54,7 @@ module _ (loose : Bool) (shut bars : List ℕ) (c : ℕ) (word : white c ≡ fal
       fit true edge gap n h false e = fits-edge bars edge true gap x e h
 
       go : (at edge gap : Bool) → (at ≡ true → eqb x 32 && true ≡ false) → Apart loose shut bars edge gap (x ∷ t) → (b : Bool) → eqb x c && starts (32 ∷ []) t ≡ b → Behind t × PastSpace t
-          → Apart loose (c ∷ shut) bars (at || edge) gap (cond b (c ∷ replaceFrom 1 (c ∷ 32 ∷ []) (c ∷ []) t) (x ∷ replaceFrom 0 (c ∷ 32 ∷ []) (c ∷ []) t))
+          → Apart loose (c ∷ shut) bars (at || edge) gap (cond b (c ∷ replace_from 1 (c ∷ 32 ∷ []) (c ∷ []) t) (x ∷ replace_from 0 (c ∷ 32 ∷ []) (c ∷ []) t))
       go at edge gap n h true e i =
           let f = and_left (eqb x c) (starts (32 ∷ []) t) e in (
             rw (← eqb-true x c f) (fit at edge gap n h.0 (white x) refl),
@@ -63,23 +63,23 @@ module _ (loose : Bool) (shut bars : List ℕ) (c : ℕ) (word : white c ≡ fal
       go at edge gap n h false e i =
           (fit at edge gap n h.0 (white x) refl, i.0 (eqb x c) (among shut x) (white x) (λ f. rw f at e) h.1)
 
-      past : (edge gap : Bool) → eqb x 32 && true ≡ true → Apart loose shut bars edge gap (x ∷ t) → Behind t → Apart loose (c ∷ shut) bars true false (replaceFrom 0 (c ∷ 32 ∷ []) (c ∷ []) t)
+      past : (edge gap : Bool) → eqb x 32 && true ≡ true → Apart loose shut bars edge gap (x ∷ t) → Behind t → Apart loose (c ∷ shut) bars true false (replace_from 0 (c ∷ 32 ∷ []) (c ∷ []) t)
       past edge gap n h i =
           let w = space-white x (and_left (eqb x 32) true n) in
-          behind-space loose (c ∷ shut) bars (among shut x) true (replaceFrom 0 (c ∷ 32 ∷ []) (c ∷ []) t) (i false (among shut x) true (λ f. absurd (false≢true f)) (rw w at h.1))
+          behind-space loose (c ∷ shut) bars (among shut x) true (replace_from 0 (c ∷ 32 ∷ []) (c ∷ []) t) (i false (among shut x) true (λ f. absurd (false≢true f)) (rw w at h.1))
 
   -- " c" becomes "c": no space is left before a c. Behind a space the text does not go on with a c.
   abbrev Before : Bytes → Type 0
   Before t = (edge gap : Bool) → (gap ≡ true → starts (c ∷ []) t ≡ false) → Apart loose shut bars edge gap t
-      → Apart loose shut (c ∷ bars) edge gap (replaceFrom 0 (32 ∷ c ∷ []) (c ∷ []) t)
+      → Apart loose shut (c ∷ bars) edge gap (replace_from 0 (32 ∷ c ∷ []) (c ∷ []) t)
 
   -- the same where the c is passed over
   abbrev PastByte : Bytes → Type 0
   PastByte t = (edge gap : Bool) → starts (c ∷ []) t ≡ true → Apart loose shut bars edge gap t
-      → Apart loose shut (c ∷ bars) (among shut c) false (replaceFrom 1 (32 ∷ c ∷ []) (c ∷ []) t)
+      → Apart loose shut (c ∷ bars) (among shut c) false (replace_from 1 (32 ∷ c ∷ []) (c ∷ []) t)
 
   no-space-before : (t : Bytes) → Before t × PastByte t
-  unfolding Apart replaceFrom starts any_of
+  unfolding Apart replace_from starts any_of
   no-space-before [] = (λ edge gap n h. h, λ edge gap n h. absurd (false≢true n))
   no-space-before (x ∷ t) = (λ edge gap n h. go edge gap n h (eqb x 32 && starts (c ∷ []) t) refl (no-space-before t), λ edge gap n h. past edge gap n h (no-space-before t).0)
     where
@@ -89,7 +89,7 @@ module _ (loose : Bool) (shut bars : List ℕ) (c : ℕ) (word : white c ≡ fal
       fit edge true n h false e = fits-bar bars c edge true x (sym (and-true (eqb x c)) ∙ n refl) h
 
       go : (edge gap : Bool) → (gap ≡ true → eqb x c && true ≡ false) → Apart loose shut bars edge gap (x ∷ t) → (b : Bool) → eqb x 32 && starts (c ∷ []) t ≡ b → Before t × PastByte t
-          → Apart loose shut (c ∷ bars) edge gap (cond b (c ∷ replaceFrom 1 (32 ∷ c ∷ []) (c ∷ []) t) (x ∷ replaceFrom 0 (32 ∷ c ∷ []) (c ∷ []) t))
+          → Apart loose shut (c ∷ bars) edge gap (cond b (c ∷ replace_from 1 (32 ∷ c ∷ []) (c ∷ []) t) (x ∷ replace_from 0 (32 ∷ c ∷ []) (c ∷ []) t))
       go edge gap n h true e i =
           let w = space-white x (and_left (eqb x 32) (starts (c ∷ []) t) e) in
           let f = fits-white bars edge gap x w h.0 in (
@@ -100,12 +100,12 @@ module _ (loose : Bool) (shut bars : List ℕ) (c : ℕ) (word : white c ≡ fal
           (fit edge gap n h.0 (white x) refl, i.0 (among shut x) (white x) (λ w. rw (fits-white bars edge gap x w h.0).0 at e) h.1)
 
       past : (edge gap : Bool) → eqb x c && true ≡ true → Apart loose shut bars edge gap (x ∷ t) → Before t
-          → Apart loose shut (c ∷ bars) (among shut c) false (replaceFrom 0 (32 ∷ c ∷ []) (c ∷ []) t)
+          → Apart loose shut (c ∷ bars) (among shut c) false (replace_from 0 (32 ∷ c ∷ []) (c ∷ []) t)
       past edge gap n h i =
           let f = and_left (eqb x c) true n in
-          let w = is_word x f in
-          let k : Apart loose shut (c ∷ bars) (among shut x) false (replaceFrom 0 (32 ∷ c ∷ []) (c ∷ []) t) = i (among shut x) false (λ g. absurd (false≢true g)) (rw w at h.1) in
-          subst (λ (y : ℕ). Apart loose shut (c ∷ bars) (among shut y) false (replaceFrom 0 (32 ∷ c ∷ []) (c ∷ []) t)) (eqb-true x c f) k
+          let w = is-word x f in
+          let k : Apart loose shut (c ∷ bars) (among shut x) false (replace_from 0 (32 ∷ c ∷ []) (c ∷ []) t) = i (among shut x) false (λ g. absurd (false≢true g)) (rw w at h.1) in
+          subst (λ (y : ℕ). Apart loose shut (c ∷ bars) (among shut y) false (replace_from 0 (32 ∷ c ∷ []) (c ∷ []) t)) (eqb-true x c f) k
 
   -- so of a whole text
   pub freed-behind : (t : Bytes) → Apart loose shut bars true false t → Apart loose (c ∷ shut) bars true false (replace (c ∷ 32 ∷ []) (c ∷ []) t)
@@ -147,26 +147,26 @@ module _ (loose : Bool) (shut bars : List ℕ) where
 module _ (loose : Bool) (shut bars : List ℕ) (old : Bytes) (n : ℕ) (new : Bytes) (p : all_of (plain shut bars) (n ∷ new) ≡ true) where
   -- some plain bytes for whatever else; and behind what is replaced
   abbrev Replaced : Bytes → Type 0
-  Replaced t = (edge gap : Bool) → Apart loose shut bars edge gap t → Apart loose shut bars edge gap (replaceFrom 0 old (n ∷ new) t)
+  Replaced t = (edge gap : Bool) → Apart loose shut bars edge gap t → Apart loose shut bars edge gap (replace_from 0 old (n ∷ new) t)
 
   abbrev PastOld : Bytes → Type 0
-  PastOld t = (k : ℕ) (edge gap : Bool) → Apart loose shut bars edge gap t → Apart loose shut bars false false (replaceFrom k old (n ∷ new) t)
+  PastOld t = (k : ℕ) (edge gap : Bool) → Apart loose shut bars edge gap t → Apart loose shut bars false false (replace_from k old (n ∷ new) t)
 
   plain-replaced : (t : Bytes) → Replaced t × PastOld t
-  unfolding Apart replaceFrom all_of
+  unfolding Apart replace_from all_of
   plain-replaced [] = (λ edge gap h. h, λ k edge gap h. refl)
   plain-replaced (x ∷ t) = (λ edge gap h. go edge gap h (starts old (x ∷ t)) (plain-replaced t), λ k edge gap h. past k edge gap h (plain-replaced t))
     where
       go : (edge gap : Bool) → Apart loose shut bars edge gap (x ∷ t) → (b : Bool) → Replaced t × PastOld t
-          → Apart loose shut bars edge gap (cond b (n ∷ (new ++ replaceFrom (length old - 1) old (n ∷ new) t)) (x ∷ replaceFrom 0 old (n ∷ new) t))
+          → Apart loose shut bars edge gap (cond b (n ∷ (new ++ replace_from (length old - 1) old (n ∷ new) t)) (x ∷ replace_from 0 old (n ∷ new) t))
       go edge gap h true i =
-          let r = replaceFrom (length old - 1) old (n ∷ new) t in
+          let r = replace_from (length old - 1) old (n ∷ new) t in
           plain-next loose shut bars edge gap n (new ++ r) (and_left (plain shut bars n) (all_of (plain shut bars) new) p)
           (plain-front loose shut bars new r (and_right (plain shut bars n) (all_of (plain shut bars) new) p) (i.1 (length old - 1) (among shut x) (white x) h.1))
       go edge gap h false i = (h.0, i.0 (among shut x) (white x) h.1)
 
-      past : (k : ℕ) (edge gap : Bool) → Apart loose shut bars edge gap (x ∷ t) → Replaced t × PastOld t → Apart loose shut bars false false (replaceFrom k old (n ∷ new) (x ∷ t))
-      past zero edge gap h i = anywhere loose shut bars edge gap (replaceFrom 0 old (n ∷ new) (x ∷ t)) (go edge gap h (starts old (x ∷ t)) i)
+      past : (k : ℕ) (edge gap : Bool) → Apart loose shut bars edge gap (x ∷ t) → Replaced t × PastOld t → Apart loose shut bars false false (replace_from k old (n ∷ new) (x ∷ t))
+      past zero edge gap h i = anywhere loose shut bars edge gap (replace_from 0 old (n ∷ new) (x ∷ t)) (go edge gap h (starts old (x ∷ t)) i)
       past (suc k) edge gap h i = i.1 k (among shut x) (white x) h.1
 
   pub replaced-plainly : (edge gap : Bool) (t : Bytes) → Apart loose shut bars edge gap t → Apart loose shut bars edge gap (replace old (n ∷ new) t)
@@ -181,23 +181,23 @@ separators = 60 ∷ 62 ∷ 124 ∷ []
 
 -- a replacement by some plain bytes
 plainly : List ℕ → List ℕ → Replacement → Bool
-plainly shut bars r = nonEmpty r.new && all_of (plain shut bars) r.new
+plainly shut bars r = non_empty r.new && all_of (plain shut bars) r.new
 
 plain-run : (shut bars : List ℕ) (rs : List Replacement) (t : Bytes) → all_of (plainly shut bars) rs ≡ true
     → Apart false shut bars true false t → Apart false shut bars true false (run rs t)
-unfolding run all_of nonEmpty plainly
+unfolding run all_of non_empty plainly
 plain-run shut bars [] t p h = h
 plain-run shut bars (r ∷ rs) t p h =
     plain-run shut bars rs (replace r.old r.new t) (and_right (plainly shut bars r) (all_of (plainly shut bars) rs) p)
     (go r.new (and_left (plainly shut bars r) (all_of (plainly shut bars) rs) p))
   where
-    go : (new : Bytes) → nonEmpty new && all_of (plain shut bars) new ≡ true → Apart false shut bars true false (replace r.old new t)
+    go : (new : Bytes) → non_empty new && all_of (plain shut bars) new ≡ true → Apart false shut bars true false (replace r.old new t)
     go [] q = absurd (false≢true q)
     go (n ∷ new) q = replaced-plainly false shut bars r.old n new q true false t h
 
 -- Behind the first squeeze words are one space apart; behind the first twelve replacements no space stands beside a separator.
 pub twelve : (t : Bytes) → Apart false [] [] true false t → Apart false separators separators true false (run (take 12 replacements) t)
-unfolding run replacements becomes subscriptBecomes ascii all_of nonEmpty any_of plainly plain white
+unfolding run replacements becomes subscript_becomes ascii all_of non_empty any_of plainly plain white
 twelve t h =
     let at : ℕ → Bytes = λ n. run (take n replacements) t in
     let three = plain-run [] [] (take 3 replacements) t refl h in
@@ -211,5 +211,5 @@ twelve t h =
 
 -- so it stays with those behind `>` and `<`
 pub rest-apart : (t : Bytes) → Apart false separators separators true false t → Apart false separators separators true false (run (drop 14 replacements) t)
-unfolding replacements becomes subscriptBecomes ascii all_of nonEmpty any_of plainly plain white
+unfolding replacements becomes subscript_becomes ascii all_of non_empty any_of plainly plain white
 rest-apart t h = plain-run separators separators (drop 14 replacements) t refl h

@@ -8,7 +8,7 @@ use Rattle.std.proofs.lemmas.Bool.{false≢true}
 use mathlib.Core.List.{List, [], ◌∷◌, ◌++◌, map}
 use Rattle.rules.specs.Text.Lists.{any_of}
 use Rattle.rules.specs.Text.Bytes.{Bytes, same}
-use Rattle.rules.specs.Text.Parameters.{Parameter, Placed, precedes, enteredBy, enteredAllBy}
+use Rattle.rules.specs.Text.Parameters.{Parameter, Placed, precedes, entered_by, entered_all_by}
 use Rattle.laws_lists.specs.Tests.{same_self, same-is, and_left, and_right, or_left, or_right}
 use Rattle.laws_lists.specs.Lists.{Every}
 use Rattle.laws_text.specs.Table.{given, entered-map, ordered, entered-ordered}
@@ -66,7 +66,7 @@ key_of q = q.given.key
 abbrev Sorted : List Placed → Type 0
 Sorted l = ordered (map given l) ≡ true
 
-entered-sorted : (p : Placed) (l : List Placed) → Sorted l → Sorted (enteredBy key_of p l)
+entered-sorted : (p : Placed) (l : List Placed) → Sorted l → Sorted (entered_by key_of p l)
 entered-sorted p l s = rw (entered-map (λ (q : Parameter). q.key) given p l) (entered-ordered (given p) (map given l) s)
 
 sorted_rest : (q : Placed) (l : List Placed) → Sorted (q ∷ l) → Sorted l
@@ -97,13 +97,13 @@ module _ (P Q : Placed → Type 0) (p : Placed) (new : Q p) (old : (q : Placed) 
   above-every [] a h = tt
   above-every (q ∷ l) a h = (old q (other_key (key_of p) (key_of q) a.0) h.0, above-every l a.1 h.1)
 
-  entered-every : (l : List Placed) → Sorted l → Every P l → Every Q (enteredBy key_of p l)
-  unfolding enteredBy Every
+  entered-every : (l : List Placed) → Sorted l → Every P l → Every Q (entered_by key_of p l)
+  unfolding entered_by Every
   entered-every [] s h = (new, tt)
   entered-every (q ∷ l) s h = go (same (key_of p) (key_of q)) (precedes (key_of p) (key_of q)) refl refl (entered-every l (sorted_rest q l s) h.1)
     where
-      go : (c d : Bool) → same (key_of p) (key_of q) ≡ c → precedes (key_of p) (key_of q) ≡ d → Every Q (enteredBy key_of p l)
-          → Every Q (cond c (p ∷ l) (cond d (p ∷ (q ∷ l)) (q ∷ enteredBy key_of p l)))
+      go : (c d : Bool) → same (key_of p) (key_of q) ≡ c → precedes (key_of p) (key_of q) ≡ d → Every Q (entered_by key_of p l)
+          → Every Q (cond c (p ∷ l) (cond d (p ∷ (q ∷ l)) (q ∷ entered_by key_of p l)))
       go true d e f r = (new, above-every l (rw (same-is (key_of p) (key_of q) e) (sorted-above q l s)) h.1)
       go false true e f r = (new, (old q (other_key (key_of p) (key_of q) f) h.0, above-every l (above_on (key_of p) (key_of q) l f (sorted-above q l s)) h.1))
       go false false e f r = (old q (same_not (key_of p) (key_of q) e) h.0, r)
@@ -130,26 +130,26 @@ every-so P Q f [] h = tt
 every-so P Q f (q ∷ l) h = (f q h.0, every-so P Q f l h.1)
 
 from_last : (P : Placed → Type 0) (qs l : List Placed) → Sorted l → EachLast P qs → Every (λ (q : Placed). Lacks (key_of q) qs → P q) l
-    → Every P (enteredAllBy key_of qs l)
-unfolding enteredAllBy EachLast
+    → Every P (entered_all_by key_of qs l)
+unfolding entered_all_by EachLast
 from_last P [] l s e h = every-so (λ (q : Placed). Lacks (key_of q) [] → P q) P (λ q f. f (unfold any_of in refl)) l h
 from_last P (q ∷ qs) l s e h =
-    from_last P qs (enteredBy key_of q l) (entered-sorted q l s) e.1
+    from_last P qs (entered_by key_of q l) (entered-sorted q l s) e.1
     (entered-every (λ (r : Placed). Lacks (key_of r) (q ∷ qs) → P r) (λ (r : Placed). Lacks (key_of r) qs → P r) q e.0
     (λ r d f k. f (lacks_both (key_of r) q qs d k)) l s h)
 
-pub table-last-only : (P : Placed → Type 0) (qs : List Placed) → EachLast P qs → Every P (enteredAllBy key_of qs [])
+pub table-last-only : (P : Placed → Type 0) (qs : List Placed) → EachLast P qs → Every P (entered_all_by key_of qs [])
 table-last-only P qs e = from_last P qs [] (unfold ordered in refl) e (unfold Every in tt)
 
 -- And each of them is there: what is so of one with this key stays so of some one.
 module _ (test : Placed → Bool) (k : Bytes) (only : (q : Placed) → test q ≡ true → k ≡ key_of q) where
-  entered-stays : (p : Placed) (l : List Placed) → same k (key_of p) ≡ false → any_of test l ≡ true → any_of test (enteredBy key_of p l) ≡ true
-  unfolding enteredBy any_of
+  entered-stays : (p : Placed) (l : List Placed) → same k (key_of p) ≡ false → any_of test l ≡ true → any_of test (entered_by key_of p l) ≡ true
+  unfolding entered_by any_of
   entered-stays p [] e h = absurd (false≢true h)
   entered-stays p (q ∷ l) e h = go (same (key_of p) (key_of q)) (precedes (key_of p) (key_of q)) (test q) refl refl h (entered-stays p l e)
     where
-      go : (c d b : Bool) → same (key_of p) (key_of q) ≡ c → test q ≡ b → b || any_of test l ≡ true → (any_of test l ≡ true → any_of test (enteredBy key_of p l) ≡ true)
-          → any_of test (cond c (p ∷ l) (cond d (p ∷ (q ∷ l)) (q ∷ enteredBy key_of p l))) ≡ true
+      go : (c d b : Bool) → same (key_of p) (key_of q) ≡ c → test q ≡ b → b || any_of test l ≡ true → (any_of test l ≡ true → any_of test (entered_by key_of p l) ≡ true)
+          → any_of test (cond c (p ∷ l) (cond d (p ∷ (q ∷ l)) (q ∷ entered_by key_of p l))) ≡ true
       go true d true f t h r =
           absurd (false≢true (sym e ∙ ap (λ (j : Bytes). same j (key_of p)) (only q t ∙ sym (same-is (key_of p) (key_of q) f)) ∙ same_self (key_of p)))
       go true d false f t h r = rw h (or-true (test p))
@@ -157,25 +157,25 @@ module _ (test : Placed → Bool) (k : Bytes) (only : (q : Placed) → test q �
       go false false true f t h r = rw t
       go false false false f t h r = rw (t, r h)
 
-  entered-all-stays : (qs l : List Placed) → Lacks k qs → any_of test l ≡ true → any_of test (enteredAllBy key_of qs l) ≡ true
-  unfolding enteredAllBy any_of
+  entered-all-stays : (qs l : List Placed) → Lacks k qs → any_of test l ≡ true → any_of test (entered_all_by key_of qs l) ≡ true
+  unfolding entered_all_by any_of
   entered-all-stays [] l e h = h
   entered-all-stays (q ∷ qs) l e h =
-      entered-all-stays qs (enteredBy key_of q l) (or_right (same k (key_of q)) (any_of (λ (r : Placed). same k (key_of r)) qs) e)
+      entered-all-stays qs (entered_by key_of q l) (or_right (same k (key_of q)) (any_of (λ (r : Placed). same k (key_of r)) qs) e)
       (entered-stays q l (or_left (same k (key_of q)) (any_of (λ (r : Placed). same k (key_of r)) qs) e) h)
 
-entered-there : (test : Placed → Bool) (p : Placed) (l : List Placed) → test p ≡ true → any_of test (enteredBy key_of p l) ≡ true
-unfolding enteredBy any_of
+entered-there : (test : Placed → Bool) (p : Placed) (l : List Placed) → test p ≡ true → any_of test (entered_by key_of p l) ≡ true
+unfolding entered_by any_of
 entered-there test p [] h = rw h
 entered-there test p (q ∷ l) h = go (same (key_of p) (key_of q)) (precedes (key_of p) (key_of q)) (entered-there test p l h)
   where
-    go : (c d : Bool) → any_of test (enteredBy key_of p l) ≡ true → any_of test (cond c (p ∷ l) (cond d (p ∷ (q ∷ l)) (q ∷ enteredBy key_of p l))) ≡ true
+    go : (c d : Bool) → any_of test (entered_by key_of p l) ≡ true → any_of test (cond c (p ∷ l) (cond d (p ∷ (q ∷ l)) (q ∷ entered_by key_of p l))) ≡ true
     go true d r = rw h
     go false true r = rw h
     go false false r = rw r (or-true (test q))
 
 pub last-there : (test : Placed → Bool) (front : List Placed) (q : Placed) (rest l : List Placed) → ((r : Placed) → test r ≡ true → key_of q ≡ key_of r)
-    → Lacks (key_of q) rest → test q ≡ true → any_of test (enteredAllBy key_of (front ++ (q ∷ rest)) l) ≡ true
-unfolding enteredAllBy
-last-there test [] q rest l only e h = entered-all-stays test (key_of q) only rest (enteredBy key_of q l) e (entered-there test q l h)
-last-there test (p ∷ front) q rest l only e h = last-there test front q rest (enteredBy key_of p l) only e h
+    → Lacks (key_of q) rest → test q ≡ true → any_of test (entered_all_by key_of (front ++ (q ∷ rest)) l) ≡ true
+unfolding entered_all_by
+last-there test [] q rest l only e h = entered-all-stays test (key_of q) only rest (entered_by key_of q l) e (entered-there test q l h)
+last-there test (p ∷ front) q rest l only e h = last-there test front q rest (entered_by key_of p l) only e h

@@ -10,18 +10,18 @@ use mathlib.Core.List.{List, [], ◌∷◌, ◌++◌, map}
 use Rattle.std.proofs.Math.ListN.{drop}
 use Rattle.rules.specs.Text.Ascii.{ascii, is}
 use Rattle.rules.specs.Text.Lists.{any_of, place_of}
-use Rattle.rules.specs.Text.Bytes.{Bytes, Steps, inDomain, words}
+use Rattle.rules.specs.Text.Bytes.{Bytes, Steps, in_domain, words}
 use Rattle.rules.specs.Text.Refusal.{Reply, answers, refuses, refuses12, and_then, tested, lent, outcome, Promised, prepared}
 use Rattle.rules.specs.Text.Normal.{normal}
-use Rattle.rules.specs.Text.Split.{onlyModifiers, turned, stepText, steps, splitSteps}
-use Rattle.rules.specs.Text.Parameters.{Parameter, Placed, name, table_of, stepTable, textTable, parametersOf, placedTable}
+use Rattle.rules.specs.Text.Split.{only_modifiers, turned, step_text, steps, split_steps}
+use Rattle.rules.specs.Text.Parameters.{Parameter, Placed, name, table_of, step_table, text_table, parameters_of, placed_table}
 use Rattle.rules.specs.Operators.Arguments.{value_of}
-use Rattle.rules.specs.Pipeline.Keys.{kind_of, unknown, misspelt, tooLong}
-use Rattle.rules.specs.Pipeline.Offsets.{cutText, isFault, offsetBy}
+use Rattle.rules.specs.Pipeline.Keys.{kind_of, unknown, misspelt, too_long}
+use Rattle.rules.specs.Pipeline.Offsets.{cut_text, is_fault, offset_by}
 use Rattle.rules.specs.Text.Reader.{spans}
-use Rattle.rules.specs.Pipeline.Record.{inReading, withSpans}
-use Rattle.rules.specs.Pipeline.Prepare.{ownRule, judged14, judged11, named, judged10, judged, offset_of, offsetIn, atStep, prepareStep, prepareSteps, prepareSplit, prepareIn}
-use Rattle.rules.specs.Pipeline.Prepare.{prepare, prepareAs, Prepares, PreparesAs}
+use Rattle.rules.specs.Pipeline.Record.{in_reading, with_spans}
+use Rattle.rules.specs.Pipeline.Prepare.{own_rule, judged14, judged11, named, judged10, judged, offset_of, offset_in, at_step, prepare_step, prepare_steps, prepare_split, prepare_in}
+use Rattle.rules.specs.Pipeline.Prepare.{prepare, prepare_as, Prepares, PreparesAs}
 use Rattle.rules.specs.Face.Demands.{FaultAt, FirstFault}
 use Rattle.rules.specs.declared.Mode.{Mode}
 use Rattle.rules.specs.declared.Mode.TheVariants as mode-is
@@ -53,15 +53,15 @@ other-then (answers x) next h k = k x
 other-then (refuses number place) next h k = h
 other-then (refuses12 place offset) next h k = tt
 
-splits-other : (ss : Steps) → Other (splitSteps ss)
-unfolding splitSteps Other
-splits-other ss = other-if (any_of onlyModifiers ss) _ _ (λ e. never (omega (arith, e))) (other-if (ltb 64 (length ss)) _ _ (λ e. never (omega (arith, e))) tt)
+splits-other : (ss : Steps) → Other (split_steps ss)
+unfolding split_steps Other
+splits-other ss = other-if (any_of only_modifiers ss) _ _ (λ e. never (omega (arith, e))) (other-if (ltb 64 (length ss)) _ _ (λ e. never (omega (arith, e))) tt)
 
-table-other : (t : Bytes) → Other (parametersOf t)
-unfolding parametersOf textTable stepTable Other
+table-other : (t : Bytes) → Other (parameters_of t)
+unfolding parameters_of text_table step_table Other
 table-other t =
     other-if (any_of (is "|") (normal t)) _ _ tt
-    (other-if (onlyModifiers (words (normal t))) _ _ (λ e. never (omega (arith, e)))
+    (other-if (only_modifiers (words (normal t))) _ _ (λ e. never (omega (arith, e)))
     (other-if (ltb 32 (length (table_of (words (normal t))))) _ _ (λ e. never (omega (arith, e))) tt))
 
 module _ (m : Mode) where
@@ -78,36 +78,36 @@ module _ (m : Mode) where
       by10 (Is n) =
           other-if (any_of (unknown n) ps) _ _ (λ e. never (omega (arith, e)))
           (other-if (any_of (λ (p : Parameter). misspelt (kind_of n p) p.value) ps) _ _ tt
-          (other-if (any_of (λ (p : Parameter). tooLong (kind_of n p) p.value) ps) _ _ (λ e. never (omega (arith, e)))
-          (by14 (ownRule m n ps))))
+          (other-if (any_of (λ (p : Parameter). too_long (kind_of n p) p.value) ps) _ _ (λ e. never (omega (arith, e)))
+          (by14 (own_rule m n ps))))
 
-  at_other : (place offset : ℕ) (r : Reply Step) → Other r → Other (atStep place offset r)
-  unfolding atStep Other
+  at_other : (place offset : ℕ) (r : Reply Step) → Other r → Other (at_step place offset r)
+  unfolding at_step Other
   at_other place offset (answers s) h = tt
   at_other place offset (refuses number nowhere) h = h
   at_other place offset (refuses12 nowhere unknown) h = tt
 
-  step_other : (place : ℕ) (t : Bytes) → Other (prepareStep m place t)
-  unfolding prepareStep Other
+  step_other : (place : ℕ) (t : Bytes) → Other (prepare_step m place t)
+  unfolding prepare_step Other
   step_other place t =
-      at_other place (offsetIn t) _ (other-if (ltb 4096 (length t)) _ _ (λ e. never (omega (arith, e))) (other-then (parametersOf t) (judged m) (table-other t) judged-other))
+      at_other place (offset_in t) _ (other-if (ltb 4096 (length t)) _ _ (λ e. never (omega (arith, e))) (other-then (parameters_of t) (judged m) (table-other t) judged-other))
 
-  steps-other : (place : ℕ) (ts : List Bytes) → Other (prepareSteps m place ts)
-  unfolding prepareSteps Other
+  steps-other : (place : ℕ) (ts : List Bytes) → Other (prepare_steps m place ts)
+  unfolding prepare_steps Other
   steps-other place [] = tt
-  steps-other place (t ∷ ts) = other-then (prepareStep m place t) _ (step_other place t) (λ s. other-then (prepareSteps m (suc place) ts) _ (steps-other (suc place) ts) (λ l. tt))
+  steps-other place (t ∷ ts) = other-then (prepare_step m place t) _ (step_other place t) (λ s. other-then (prepare_steps m (suc place) ts) _ (steps-other (suc place) ts) (λ l. tt))
 
-  split-other : (t : Bytes) → Other (prepareSplit m t)
-  unfolding prepareSplit
-  split-other t = other-then (splitSteps (steps t)) (prepareSteps m 1) (splits-other (steps t)) (steps-other 1)
+  split-other : (t : Bytes) → Other (prepare_split m t)
+  unfolding prepare_split
+  split-other t = other-then (split_steps (steps t)) (prepare_steps m 1) (splits-other (steps t)) (steps-other 1)
 
-  prepare-other : (t : Bytes) → Other (prepareIn m t)
-  unfolding prepareIn Other
-  prepare-other t = other-then (prepareSplit m t) (λ l. answers (withSpans (spans t) l)) (split-other t) (λ l. tt)
+  prepare-other : (t : Bytes) → Other (prepare_in m t)
+  unfolding prepare_in Other
+  prepare-other t = other-then (prepare_split m t) (λ l. answers (with_spans (spans t) l)) (split-other t) (λ l. tt)
 
-  prepare-as-other : (how : Reading) (t : Bytes) → Other (prepareAs how m t)
-  unfolding prepareAs Other
-  prepare-as-other how t = other-then (prepareIn m t) (λ l. answers (map (inReading how) l)) (prepare-other t) (λ l. tt)
+  prepare-as-other : (how : Reading) (t : Bytes) → Other (prepare_as how m t)
+  unfolding prepare_as Other
+  prepare-as-other how t = other-then (prepare_in m t) (λ l. answers (map (in_reading how) l)) (prepare-other t) (λ l. tt)
 
 -- ---- one step
 
@@ -131,12 +131,12 @@ any-given test (q ∷ qs) = rw (any-given test qs) refl
 
 -- the words of a step whose table is refused 12
 words-fault : (n : Name) (t : Bytes) → named (value_of (ascii "_name") (table_of (words (normal t)))) ≡ Is n
-    → any_of (λ (p : Parameter). misspelt (kind_of n p) p.value) (table_of (words (normal t))) ≡ true → StepFault t (offsetIn t)
-unfolding offsetIn offset_of offsetBy isFault
+    → any_of (λ (p : Parameter). misspelt (kind_of n p) p.value) (table_of (words (normal t))) ≡ true → StepFault t (offset_in t)
+unfolding offset_in offset_of offset_by is_fault
 words-fault n t e h =
     let ws = words (normal t) in
-    let there : any_of (isFault n) (placedTable ws) ≡ true =
-    sym (any-given (λ (p : Parameter). misspelt (kind_of n p) p.value) (placedTable ws))
+    let there : any_of (is_fault n) (placed_table ws) ≡ true =
+    sym (any-given (λ (p : Parameter). misspelt (kind_of n p) p.value) (placed_table ws))
     ∙ ap (any_of (λ (p : Parameter). misspelt (kind_of n p) p.value)) (given-table ws) ∙ h in
     record {
       operator = n;
@@ -160,16 +160,16 @@ judged-12 m ps h = by10 (named (value_of (ascii "_name") ps)) refl h
     by14 (some s) h = h
 
     by11 : (n : Name) → named (value_of (ascii "_name") ps) ≡ Is n → (a b c : Bool) → any_of (λ (p : Parameter). misspelt (kind_of n p) p.value) ps ≡ b
-        → Twelve (cond a (refuses 11 0) (cond b (refuses12 0 0) (cond c (refuses 13 0) (judged14 (ownRule m n ps))))) → Judged ps
+        → Twelve (cond a (refuses 11 0) (cond b (refuses12 0 0) (cond c (refuses 13 0) (judged14 (own_rule m n ps))))) → Judged ps
     by11 n e true b c f h = absurd h
     by11 n e false true c f h = record { operator = n; has-name = e; bad = f }
     by11 n e false false true f h = absurd h
-    by11 n e false false false f h = absurd (by14 (ownRule m n ps) h)
+    by11 n e false false false f h = absurd (by14 (own_rule m n ps) h)
 
     by10 : (o : Named) → named (value_of (ascii "_name") ps) ≡ o → Twelve (judged10 m o ps) → Judged ps
     by10 Not e h = absurd h
     by10 (Is n) e h =
-        by11 n e (any_of (unknown n) ps) (any_of (λ (p : Parameter). misspelt (kind_of n p) p.value) ps) (any_of (λ (p : Parameter). tooLong (kind_of n p) p.value) ps) refl h
+        by11 n e (any_of (unknown n) ps) (any_of (λ (p : Parameter). misspelt (kind_of n p) p.value) ps) (any_of (λ (p : Parameter). too_long (kind_of n p) p.value) ps) refl h
 
 -- a name alone is no such table
 not-name : (t : Bytes) → Judged (name t ∷ []) → ⊥
@@ -179,14 +179,14 @@ not-name t j = false≢true (sym fine ∙ j.bad)
     fine : misspelt (kind_of j.operator (name t)) (name t).value || false ≡ false
     fine = unfold name in rw (name-fine j.operator t) refl
 
-text-fault : (m : Mode) (t : Bytes) → Twelve (and_then (parametersOf t) (judged m)) → StepFault t (offsetIn t)
-unfolding parametersOf textTable stepTable and_then Twelve
+text-fault : (m : Mode) (t : Bytes) → Twelve (and_then (parameters_of t) (judged m)) → StepFault t (offset_in t)
+unfolding parameters_of text_table step_table and_then Twelve
 text-fault m t h =
-    go (any_of (is "|") (normal t)) (onlyModifiers (words (normal t))) (ltb 32 (length (table_of (words (normal t))))) h
+    go (any_of (is "|") (normal t)) (only_modifiers (words (normal t))) (ltb 32 (length (table_of (words (normal t))))) h
   where
     go : (a b c : Bool)
         → Twelve (and_then (cond a (answers (name (normal t) ∷ [])) (cond b (refuses 6 0) (cond c (refuses 9 0) (answers (table_of (words (normal t))))))) (judged m))
-        → StepFault t (offsetIn t)
+        → StepFault t (offset_in t)
     go true b c h = absurd (not-name (normal t) (judged-12 m (name (normal t) ∷ []) h))
     go false true c h = absurd h
     go false false true h = absurd h
@@ -199,21 +199,21 @@ record At (step : Bytes) (place p o : ℕ) : Type 0 where
   fault : StepFault step o
   at_place : p ≡ place
 
-step-fault : (m : Mode) (place : ℕ) (t : Bytes) (p o : ℕ) → prepareStep m place t ≡ refuses12 p o → At t place p o
-unfolding prepareStep atStep Twelve
+step-fault : (m : Mode) (place : ℕ) (t : Bytes) (p o : ℕ) → prepare_step m place t ≡ refuses12 p o → At t place p o
+unfolding prepare_step at_step Twelve
 step-fault m place t p o h = go (ltb 4096 (length t)) h
   where
-    at : (r : Reply Step) → atStep place (offsetIn t) r ≡ refuses12 p o → (Twelve r → StepFault t (offsetIn t)) → At t place p o
+    at : (r : Reply Step) → at_step place (offset_in t) r ≡ refuses12 p o → (Twelve r → StepFault t (offset_in t)) → At t place p o
     at (answers s) e f = absurd (never (cc e))
     at (refuses n k) e f = absurd (never (cc e))
     at (refuses12 k l) e f =
         let same_place : place ≡ p = cc e in
-        let same-offset : offsetIn t ≡ o = cc e in
+        let same-offset : offset_in t ≡ o = cc e in
         record { fault = rw (← same-offset) (f tt); at_place = sym same_place }
 
-    go : (b : Bool) → atStep place (offsetIn t) (cond b (refuses 1 0) (and_then (parametersOf t) (judged m))) ≡ refuses12 p o → At t place p o
+    go : (b : Bool) → at_step place (offset_in t) (cond b (refuses 1 0) (and_then (parameters_of t) (judged m))) ≡ refuses12 p o → At t place p o
     go true e = absurd (never (cc e))
-    go false e = at (and_then (parametersOf t) (judged m)) e (text-fault m t)
+    go false e = at (and_then (parameters_of t) (judged m)) e (text-fault m t)
 
 -- ---- all steps
 
@@ -233,10 +233,10 @@ then-12 (answers x) f p o h = absurd (never (cc h))
 then-12 (refuses n k) f p o h = absurd (never (cc h))
 then-12 (refuses12 k l) f p o h = let e : k ≡ p = cc h in let g : l ≡ o = cc h in rw (e, g)
 
-steps-stop : (m : Mode) (first : ℕ) (ts : List Bytes) (p o : ℕ) → prepareSteps m first ts ≡ refuses12 p o → Stop ts first p o
-unfolding prepareSteps and_then
+steps-stop : (m : Mode) (first : ℕ) (ts : List Bytes) (p o : ℕ) → prepare_steps m first ts ≡ refuses12 p o → Stop ts first p o
+unfolding prepare_steps and_then
 steps-stop m first [] p o h = absurd (never (cc h))
-steps-stop m first (t ∷ ts) p o h = go (prepareStep m first t) refl h (steps-stop m (suc first) ts p o)
+steps-stop m first (t ∷ ts) p o h = go (prepare_step m first t) refl h (steps-stop m (suc first) ts p o)
   where
     here : At t first p o → Stop (t ∷ ts) first p o
     here a = record { before = []; step = t; rest = ts; in_order = refl; at_place = omega (arith, a.at_place); fault = a.fault }
@@ -251,20 +251,20 @@ steps-stop m first (t ∷ ts) p o h = go (prepareStep m first t) refl h (steps-s
       fault = s.fault;
     }
 
-    go : (r : Reply Step) → prepareStep m first t ≡ r → and_then r (λ s. and_then (prepareSteps m (suc first) ts) (λ l. answers (s ∷ l))) ≡ refuses12 p o
-        → (prepareSteps m (suc first) ts ≡ refuses12 p o → Stop ts (suc first) p o) → Stop (t ∷ ts) first p o
-    go (answers s) e h next = later (next (then-12 (prepareSteps m (suc first) ts) (λ (l : List Step). s ∷ l) p o h))
+    go : (r : Reply Step) → prepare_step m first t ≡ r → and_then r (λ s. and_then (prepare_steps m (suc first) ts) (λ l. answers (s ∷ l))) ≡ refuses12 p o
+        → (prepare_steps m (suc first) ts ≡ refuses12 p o → Stop ts (suc first) p o) → Stop (t ∷ ts) first p o
+    go (answers s) e h next = later (next (then-12 (prepare_steps m (suc first) ts) (λ (l : List Step). s ∷ l) p o h))
     go (refuses n k) e h next = absurd (never (cc h))
     go (refuses12 k l) e h next =
         let same_place : k ≡ p = cc h in
         let same-offset : l ≡ o = cc h in
         here (step-fault m first t p o (rw (← same_place, ← same-offset) e))
 
-split-fault : (m : Mode) (t : Bytes) (p o : ℕ) → prepareSplit m t ≡ refuses12 p o → FirstFault t p o
-unfolding prepareSplit splitSteps and_then
-split-fault m t p o h = go (any_of onlyModifiers (steps t)) (ltb 64 (length (steps t))) h
+split-fault : (m : Mode) (t : Bytes) (p o : ℕ) → prepare_split m t ≡ refuses12 p o → FirstFault t p o
+unfolding prepare_split split_steps and_then
+split-fault m t p o h = go (any_of only_modifiers (steps t)) (ltb 64 (length (steps t))) h
   where
-    whole : Stop (map stepText (steps t)) 1 p o → FirstFault t p o
+    whole : Stop (map step_text (steps t)) 1 p o → FirstFault t p o
     whole s = record {
       before = s.before;
       step = s.step;
@@ -275,23 +275,23 @@ split-fault m t p o h = go (any_of onlyModifiers (steps t)) (ltb 64 (length (ste
       has-name = s.fault.has-name;
       at-fault = s.fault.at-fault;
       none_before = s.fault.none_before;
-      stands = unfold cutText stepText in bad-stands s.fault.at-fault;
-      missing = unfold cutText stepText in missing-stands s.fault.at-fault;
+      stands = unfold cut_text step_text in bad-stands s.fault.at-fault;
+      missing = unfold cut_text step_text in missing-stands s.fault.at-fault;
     }
 
-    go : (a b : Bool) → and_then (cond a (refuses 6 (place_of onlyModifiers (steps t))) (cond b (refuses 8 0) (answers (map stepText (steps t))))) (prepareSteps m 1) ≡ refuses12 p o
+    go : (a b : Bool) → and_then (cond a (refuses 6 (place_of only_modifiers (steps t))) (cond b (refuses 8 0) (answers (map step_text (steps t))))) (prepare_steps m 1) ≡ refuses12 p o
         → FirstFault t p o
     go true b h = absurd (never (cc h))
     go false true h = absurd (never (cc h))
-    go false false h = whole (steps-stop m 1 (map stepText (steps t)) p o h)
+    go false false h = whole (steps-stop m 1 (map step_text (steps t)) p o h)
 
-pub prepare-fault : (m : Mode) (t : Bytes) (p o : ℕ) → prepareIn m t ≡ refuses12 p o → FirstFault t p o
-unfolding prepareIn
-prepare-fault m t p o h = split-fault m t p o (then-12 (prepareSplit m t) (withSpans (spans t)) p o h)
+pub prepare-fault : (m : Mode) (t : Bytes) (p o : ℕ) → prepare_in m t ≡ refuses12 p o → FirstFault t p o
+unfolding prepare_in
+prepare-fault m t p o h = split-fault m t p o (then-12 (prepare_split m t) (with_spans (spans t)) p o h)
 
-pub prepare-as-fault : (how : Reading) (m : Mode) (t : Bytes) (p o : ℕ) → prepareAs how m t ≡ refuses12 p o → FirstFault t p o
-unfolding prepareAs
-prepare-as-fault how m t p o h = prepare-fault m t p o (then-12 (prepareIn m t) (map (inReading how)) p o h)
+pub prepare-as-fault : (how : Reading) (m : Mode) (t : Bytes) (p o : ℕ) → prepare_as how m t ≡ refuses12 p o → FirstFault t p o
+unfolding prepare_as
+prepare-as-fault how m t p o h = prepare-fault m t p o (then-12 (prepare_in m t) (map (in_reading how)) p o h)
 
 -- ---- what preparing answers
 
@@ -328,7 +328,7 @@ module _ (table table' : List Step) where
 
 tested-12 : (own : Bytes → Reply (List Step)) (t : Bytes) (p o : ℕ) → tested own t ≡ refuses12 p o → own t ≡ refuses12 p o
 unfolding tested
-tested-12 own t p o h = go (ltb 4096 (length t)) (not (inDomain t)) h
+tested-12 own t p o h = go (ltb 4096 (length t)) (not (in_domain t)) h
   where
     go : (a b : Bool) → cond a (refuses 1 0) (cond b (refuses 2 0) (own t)) ≡ refuses12 p o → own t ≡ refuses12 p o
     go true b h = absurd (never (cc h))
@@ -338,7 +338,7 @@ tested-12 own t p o h = go (ltb 4096 (length t)) (not (inDomain t)) h
 tested-other : (own : Bytes → Reply (List Step)) (t : Bytes) → Other (own t) → Other (tested own t)
 unfolding tested Other
 tested-other own t h =
-    other-if (ltb 4096 (length t)) _ _ (λ e. never (omega (arith, e))) (other-if (not (inDomain t)) _ _ (λ e. never (omega (arith, e))) h)
+    other-if (ltb 4096 (length t)) _ _ (λ e. never (omega (arith, e))) (other-if (not (in_domain t)) _ _ (λ e. never (omega (arith, e))) h)
 
 module _ (own : Bytes → Reply (List Step)) {text : Bytes} {table table' : List Step} where
   promised-12 : ((t : Bytes) → Other (own t)) → ((t : Bytes) (p o : ℕ) → own t ≡ refuses12 p o → FirstFault t p o) → {place offset : ℕ}
@@ -358,7 +358,7 @@ module _ {text : Bytes} {table table' : List Step} where
   offset-of-12 = promised-12 prepare (prepare-other mode-is.Crate) (prepare-fault mode-is.Crate)
 
   pub offset-of-12-as : (how : Reading) (m : Mode) {place offset : ℕ} → PreparesAs how m text table (prepared-is.Refused 12 place offset) table' → FirstFault text place offset
-  offset-of-12-as how m = promised-12 (prepareAs how m) (prepare-as-other m how) (prepare-as-fault how m)
+  offset-of-12-as how m = promised-12 (prepare_as how m) (prepare-as-other m how) (prepare-as-fault how m)
 
   -- no other refusal has one
   pub no-other-offset : {number place offset : ℕ} → Prepares text table (prepared-is.Refused number place offset) table' → (number ≡ 12 → ⊥) → offset ≡ 0
@@ -366,16 +366,16 @@ module _ {text : Bytes} {table table' : List Step} where
 
   pub no-other-offset-as : (how : Reading) (m : Mode) {number place offset : ℕ} → PreparesAs how m text table (prepared-is.Refused number place offset) table'
       → (number ≡ 12 → ⊥) → offset ≡ 0
-  no-other-offset-as how m = promised-other (prepareAs how m)
+  no-other-offset-as how m = promised-other (prepare_as how m)
 
 -- ---- the same of what a call on a text replies, before it is brought into a table
 
-pub tested-fault : (how : Reading) (m : Mode) (t : Bytes) (place offset : ℕ) → tested (prepareAs how m) t ≡ refuses12 place offset → FirstFault t place offset
-tested-fault how m t place offset h = prepare-as-fault how m t place offset (tested-12 (prepareAs how m) t place offset h)
+pub tested-fault : (how : Reading) (m : Mode) (t : Bytes) (place offset : ℕ) → tested (prepare_as how m) t ≡ refuses12 place offset → FirstFault t place offset
+tested-fault how m t place offset h = prepare-as-fault how m t place offset (tested-12 (prepare_as how m) t place offset h)
 
 -- `refuses` is never said of 12
-pub never-12 : (how : Reading) (m : Mode) (t : Bytes) (number place : ℕ) → tested (prepareAs how m) t ≡ refuses number place → number ≡ 12 → ⊥
-never-12 how m t number place h = go (tested (prepareAs how m) t) h (tested-other (prepareAs how m) t (prepare-as-other m how t))
+pub never-12 : (how : Reading) (m : Mode) (t : Bytes) (number place : ℕ) → tested (prepare_as how m) t ≡ refuses number place → number ≡ 12 → ⊥
+never-12 how m t number place h = go (tested (prepare_as how m) t) h (tested-other (prepare_as how m) t (prepare-as-other m how t))
   where
     go : (r : Reply (List Step)) → r ≡ refuses number place → Other r → number ≡ 12 → ⊥
     go r h k = unfold Other in rw h at k

@@ -7,7 +7,7 @@ use Rattle.std.proofs.Math.Logic.{inr}
 use Rattle.std.proofs.Math.Bool.{true, false}
 use mathlib.Core.List.{List, [], ◌∷◌, ◌++◌, append-nil}
 use Rattle.rules.specs.Text.Ascii.{ascii, is}
-use Rattle.rules.specs.Text.Lists.{any_of, all_of, kept, nonEmpty}
+use Rattle.rules.specs.Text.Lists.{any_of, all_of, kept, non_empty}
 use Rattle.rules.specs.Text.Bytes.{Bytes, white, same, onto, cut, words}
 use Rattle.rules.specs.Text.Split.{modifier}
 use Rattle.laws_lists.specs.Tests.{not_so}
@@ -94,13 +94,13 @@ module _ (loose gap : Bool) (q : Bytes) (h : Apart loose [] [] false true q) whe
   forward-apart = (refl, (refl, (refl, (refl, (refl, (refl, (refl, (refl, (refl, h)))))))))
 
 all-modifiers : (all_of modifier (words (ascii "omit_inv ")) ≡ true) × (all_of modifier (words (ascii "omit_fwd ")) ≡ true)
-unfolding all_of modifier same ascii words kept nonEmpty onto cut white
+unfolding all_of modifier same ascii words kept non_empty onto cut white
 all-modifiers = (refl, refl)
 
 -- what a byte becomes, and the pieces behind it
 spoken-pieces : (edge gap : Bool) (x : ℕ) (u : Bytes) → fits separators edge gap x ≡ true → Pieces (among separators x) (white x) (cut (is "|") u)
     → Pieces edge gap (cut (is "|") (spoken x ++ u))
-unfolding spoken cut ascii any_of white prefixed all_of words kept nonEmpty
+unfolding spoken cut ascii any_of white prefixed all_of words kept non_empty
 spoken-pieces edge gap x u f h = go (eqb x 62) refl (eqb x 60) refl (eqb x 124) refl
   where
     go : (a : Bool) → eqb x 62 ≡ a → (b : Bool) → eqb x 60 ≡ b → (c : Bool) → eqb x 124 ≡ c → Pieces edge gap (cut (is "|") (cond a inverse (cond b forward (x ∷ [])) ++ u))
@@ -132,7 +132,7 @@ pieces-edged (q ∷ qs) h = (go h.0, h.1)
   where
     go : Tight true q ⊎ (q ≡ []) → Edged q
     go (inl k) = inl k
-    go (inr e) = inr (rw e (unfold words kept nonEmpty cut all_of in refl))
+    go (inr e) = inr (rw e (unfold words kept non_empty cut all_of in refl))
 
 pub spread-edged : (t : Bytes) → Apart false separators separators true false t → Every Edged (cut (is "|") (spread t))
 spread-edged t h = pieces-edged (cut (is "|") (spread t)) (spread-pieces true false t h)

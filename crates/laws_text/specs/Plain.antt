@@ -5,8 +5,8 @@ use Rattle.std.proofs.Common.{ap, ◌∙◌}
 use Rattle.std.proofs.Math.Bool.{true, false}
 use mathlib.Core.List.{List, [], ◌∷◌, ◌++◌, append-nil}
 use Rattle.std.proofs.lemmas.Bool.{not-true}
-use Rattle.rules.specs.Text.Lists.{all_of, kept, nonEmpty}
-use Rattle.rules.specs.Text.Bytes.{Bytes, Words, white, onto, cut, words, afterEach, joinedBy, joined}
+use Rattle.rules.specs.Text.Lists.{all_of, kept, non_empty}
+use Rattle.rules.specs.Text.Bytes.{Bytes, Words, white, onto, cut, words, after_each, joined_by, joined}
 use Rattle.laws_lists.specs.Tests.{and_left, and_right}
 use Rattle.laws_text.specs.Pieces.{prefixed, prefixed-first}
 
@@ -20,11 +20,11 @@ blankless w = all_of dark w
 
 -- and not empty
 unfoldable pub plain : Bytes → Bool
-plain w = nonEmpty w && blankless w
+plain w = non_empty w && blankless w
 
 pub plain-blankless : (w : Bytes) → plain w ≡ true → blankless w ≡ true
 unfolding plain
-plain-blankless w e = and_right (nonEmpty w) (blankless w) e
+plain-blankless w e = and_right (non_empty w) (blankless w) e
 
 pub blankless-first : (x : ℕ) (w : Bytes) → blankless (x ∷ w) ≡ true → white x ≡ false
 unfolding blankless all_of
@@ -59,12 +59,12 @@ cut-dark : (t : Bytes) → all_of blankless (cut white t) ≡ true
 unfolding blankless
 cut-dark t = cut-lacks white t
 
-kept-plain : (ps : List Bytes) → all_of blankless ps ≡ true → all_of plain (kept nonEmpty ps) ≡ true
+kept-plain : (ps : List Bytes) → all_of blankless ps ≡ true → all_of plain (kept non_empty ps) ≡ true
 unfolding all_of kept
 kept-plain [] e = refl
-kept-plain (p ∷ ps) e = go (nonEmpty p) refl (kept-plain ps (and_right (blankless p) (all_of blankless ps) e))
+kept-plain (p ∷ ps) e = go (non_empty p) refl (kept-plain ps (and_right (blankless p) (all_of blankless ps) e))
   where
-    go : (b : Bool) → nonEmpty p ≡ b → all_of plain (kept nonEmpty ps) ≡ true → all_of plain (cond b (p ∷ kept nonEmpty ps) (kept nonEmpty ps)) ≡ true
+    go : (b : Bool) → non_empty p ≡ b → all_of plain (kept non_empty ps) ≡ true → all_of plain (cond b (p ∷ kept non_empty ps) (kept non_empty ps)) ≡ true
     go true f h = unfold all_of plain in rw (f, and_left (blankless p) (all_of blankless ps) e) h
     go false f h = h
 
@@ -79,25 +79,25 @@ unfolding cut prefixed
 cut_word [] t e = refl
 cut_word (x ∷ w) t e = rw (blankless-first x w e) (ap (onto x) (cut_word w t (blankless-rest x w e)))
 
-cut-first : (w : Bytes) (ws : Words) → plain w ≡ true → cut white (afterEach (32 ∷ []) ws) ≡ [] ∷ ws → cut white (w ++ afterEach (32 ∷ []) ws) ≡ w ∷ ws
+cut-first : (w : Bytes) (ws : Words) → plain w ≡ true → cut white (after_each (32 ∷ []) ws) ≡ [] ∷ ws → cut white (w ++ after_each (32 ∷ []) ws) ≡ w ∷ ws
 cut-first w ws e h =
-    cut_word w (afterEach (32 ∷ []) ws) (plain-blankless w e) ∙ ap (prefixed w) h ∙ prefixed-first w [] ws ∙ ap (λ (v : Bytes). v ∷ ws) (append-nil w)
+    cut_word w (after_each (32 ∷ []) ws) (plain-blankless w e) ∙ ap (prefixed w) h ∙ prefixed-first w [] ws ∙ ap (λ (v : Bytes). v ∷ ws) (append-nil w)
 
-cut-behind : (ws : Words) → all_of plain ws ≡ true → cut white (afterEach (32 ∷ []) ws) ≡ [] ∷ ws
-unfolding all_of afterEach cut white
+cut-behind : (ws : Words) → all_of plain ws ≡ true → cut white (after_each (32 ∷ []) ws) ≡ [] ∷ ws
+unfolding all_of after_each cut white
 cut-behind [] e = refl
 cut-behind (w ∷ ws) e =
     ap (λ (ps : Words). [] ∷ ps) (cut-first w ws (and_left (plain w) (all_of plain ws) e) (cut-behind ws (and_right (plain w) (all_of plain ws) e)))
 
-kept-words : (ws : Words) → all_of plain ws ≡ true → kept nonEmpty ws ≡ ws
+kept-words : (ws : Words) → all_of plain ws ≡ true → kept non_empty ws ≡ ws
 unfolding all_of kept plain
 kept-words [] e = refl
 kept-words (w ∷ ws) e =
-    rw (and_left (nonEmpty w) (blankless w) (and_left (plain w) (all_of plain ws) e))
+    rw (and_left (non_empty w) (blankless w) (and_left (plain w) (all_of plain ws) e))
     (ap (λ (us : Words). w ∷ us) (kept-words ws (and_right (plain w) (all_of plain ws) e)))
 
 pub words-joined : (ws : Words) → all_of plain ws ≡ true → words (joined ws) ≡ ws
-unfolding words joined joinedBy all_of
-words-joined [] e = unfold cut kept nonEmpty in refl
+unfolding words joined joined_by all_of
+words-joined [] e = unfold cut kept non_empty in refl
 words-joined (w ∷ ws) e =
-    ap (kept nonEmpty) (cut-first w ws (and_left (plain w) (all_of plain ws) e) (cut-behind ws (and_right (plain w) (all_of plain ws) e))) ∙ kept-words (w ∷ ws) e
+    ap (kept non_empty) (cut-first w ws (and_left (plain w) (all_of plain ws) e) (cut-behind ws (and_right (plain w) (all_of plain ws) e))) ∙ kept-words (w ∷ ws) e

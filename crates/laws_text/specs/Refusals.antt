@@ -10,17 +10,17 @@ use Rattle.std.proofs.lemmas.List.{length-map}
 use Rattle.std.proofs.Math.Dec.{ltb}
 use Rattle.rules.specs.Text.Ascii.{ascii, is}
 use Rattle.rules.specs.Text.Lists.{any_of, place_of}
-use Rattle.rules.specs.Text.Bytes.{Bytes, Steps, inDomain, words, contains}
+use Rattle.rules.specs.Text.Bytes.{Bytes, Steps, in_domain, words, contains}
 use Rattle.rules.specs.Text.Refusal.{Reply, answers, refuses, refuses12, and_then, tested}
 use Rattle.rules.specs.Text.Normal.{normal, normalise}
 use Rattle.rules.specs.Text.Reader.{define}
-use Rattle.rules.specs.Text.Split.{onlyModifiers, stepText, steps, splitSteps, split}
-use Rattle.rules.specs.Text.Parameters.{Parameter, table_of, stepTable, textTable, parametersOf, parameters}
-use Rattle.rules.specs.Proj.Words.{projSteps}
-use Rattle.rules.specs.Proj.Translate.{Pipeline, pipeline, isPipeline, initFirst, onlyInv, firstFault, translation, translated, translate}
-use Rattle.rules.specs.Pipeline.Keys.{kind_of, unknown, misspelt, tooLong}
+use Rattle.rules.specs.Text.Split.{only_modifiers, step_text, steps, split_steps, split}
+use Rattle.rules.specs.Text.Parameters.{Parameter, table_of, step_table, text_table, parameters_of, parameters}
+use Rattle.rules.specs.Proj.Words.{proj_steps}
+use Rattle.rules.specs.Proj.Translate.{Pipeline, pipeline, is_pipeline, init_first, only_inv, first_fault, translation, translated, translate}
+use Rattle.rules.specs.Pipeline.Keys.{kind_of, unknown, misspelt, too_long}
 use Rattle.rules.specs.Operators.Arguments.{value_of}
-use Rattle.rules.specs.Pipeline.Prepare.{ownRule, judged14, judged11, named, judged10, judged, atStep, prepareStep, prepareSteps, prepareSplit, prepareIn, offsetIn}
+use Rattle.rules.specs.Pipeline.Prepare.{own_rule, judged14, judged11, named, judged10, judged, at_step, prepare_step, prepare_steps, prepare_split, prepare_in, offset_in}
 use Rattle.rules.specs.declared.Mode.{Mode}
 use Rattle.rules.specs.declared.Step.{Step}
 use Rattle.rules.specs.declared.Named.{Named}
@@ -50,9 +50,9 @@ module _ (P : ℕ → ℕ → Type 0) where
   unfolding tested Refusing
   tested-refuses own t one two h = go (ltb 4096 (length t)) refl
     where
-      go : (b : Bool) → ltb 4096 (length t) ≡ b → Refusing P (cond b (refuses 1 0) (cond (not (inDomain t)) (refuses 2 0) (own t)))
+      go : (b : Bool) → ltb 4096 (length t) ≡ b → Refusing P (cond b (refuses 1 0) (cond (not (in_domain t)) (refuses 2 0) (own t)))
       go true e = one
-      go false e = choose (not (inDomain t)) (refuses 2 0) (own t) two (h (ltb-false 4096 (length t) e))
+      go false e = choose (not (in_domain t)) (refuses 2 0) (own t) two (h (ltb-false 4096 (length t) e))
 
   pub normalise-refuses : (t : Bytes) → Refusing P (normalise t)
   unfolding normalise Refusing
@@ -63,55 +63,55 @@ module _ (P : ℕ → ℕ → Type 0) where
   define-refuses t = tt
 
   -- 6 at one of the steps, and 8
-  steps-refuses : (ss : Steps) → ((p : ℕ) → p ≤ length ss → P 6 p) → P 8 0 → Refusing P (splitSteps ss)
-  unfolding splitSteps Refusing
-  steps-refuses ss six eight = choose (any_of onlyModifiers ss) _ _ (six (place_of onlyModifiers ss) (place-within onlyModifiers ss)) (choose (ltb 64 (length ss)) _ _ eight tt)
+  steps-refuses : (ss : Steps) → ((p : ℕ) → p ≤ length ss → P 6 p) → P 8 0 → Refusing P (split_steps ss)
+  unfolding split_steps Refusing
+  steps-refuses ss six eight = choose (any_of only_modifiers ss) _ _ (six (place_of only_modifiers ss) (place-within only_modifiers ss)) (choose (ltb 64 (length ss)) _ _ eight tt)
 
   pub split-refuses : (t : Bytes) → ((p : ℕ) → p ≤ length (steps t) → P 6 p) → P 8 0 → Refusing P (split t)
   unfolding split Refusing
-  split-refuses t six eight = then-refuses (splitSteps (steps t)) _ (steps-refuses (steps t) six eight) (λ x e. tt)
+  split-refuses t six eight = then-refuses (split_steps (steps t)) _ (steps-refuses (steps t) six eight) (λ x e. tt)
 
-  table-refuses : (t : Bytes) → P 6 0 → P 9 0 → Refusing P (parametersOf t)
-  unfolding parametersOf textTable stepTable Refusing
+  table-refuses : (t : Bytes) → P 6 0 → P 9 0 → Refusing P (parameters_of t)
+  unfolding parameters_of text_table step_table Refusing
   table-refuses t six nine =
       choose (any_of (is "|") (normal t)) _ _ tt
-      (choose (onlyModifiers (words (normal t))) _ _ six
+      (choose (only_modifiers (words (normal t))) _ _ six
       (choose (ltb 32 (length (table_of (words (normal t))))) _ _ nine tt))
 
   pub parameters-refuses : (t : Bytes) → P 6 0 → P 9 0 → Refusing P (parameters t)
   unfolding parameters Refusing
-  parameters-refuses t six nine = then-refuses (parametersOf t) _ (table-refuses t six nine) (λ x e. tt)
+  parameters-refuses t six nine = then-refuses (parameters_of t) _ (table-refuses t six nine) (λ x e. tt)
 
   -- 3, 4 and 5 at one of the steps
   fault-refuses : (p : Pipeline) (last place : ℕ) (ss : Steps) (otherwise : Reply Bytes) → place + length ss ≤ suc last
-      → ((k : ℕ) → k ≤ last → P 3 k × P 4 k × P 5 k) → Refusing P otherwise → Refusing P (firstFault p place ss otherwise)
-  unfolding firstFault Refusing
+      → ((k : ℕ) → k ≤ last → P 3 k × P 4 k × P 5 k) → Refusing P otherwise → Refusing P (first_fault p place ss otherwise)
+  unfolding first_fault Refusing
   fault-refuses p last place [] otherwise l h k = k
   fault-refuses p last place (s ∷ ss) otherwise l h k =
       let f = h place (omega arith) in
-      choose (initFirst s) _ _ f.0
-      (choose (ltb 1 place && isPipeline s) _ _ f.1
-      (choose (onlyInv p s) _ _ f.2
+      choose (init_first s) _ _ f.0
+      (choose (ltb 1 place && is_pipeline s) _ _ f.1
+      (choose (only_inv p s) _ _ f.2
       (fault-refuses p last (suc place) ss otherwise (omega arith) h k)))
 
-  pub translate-refuses : (t : Bytes) → ((k : ℕ) → k ≤ length (projSteps t) → P 3 k × P 4 k × P 5 k) → Refusing P (translate t)
+  pub translate-refuses : (t : Bytes) → ((k : ℕ) → k ≤ length (proj_steps t) → P 3 k × P 4 k × P 5 k) → Refusing P (translate t)
   unfolding translate translated Refusing
   translate-refuses t h =
       choose (any_of (is "|") t || not (contains (ascii "proj") t)) _ _ tt
-      (fault-refuses (pipeline (projSteps t)) (length (projSteps t)) 1 (projSteps t) (answers (translation (pipeline (projSteps t)) (projSteps t))) (omega arith) h tt)
+      (fault-refuses (pipeline (proj_steps t)) (length (proj_steps t)) 1 (proj_steps t) (answers (translation (pipeline (proj_steps t)) (proj_steps t))) (omega arith) h tt)
 
 -- ---- preparing
 
 -- splitting gives each step's text, 64 at most
-pub split-few : (ss : Steps) (ts : List Bytes) → splitSteps ss ≡ answers ts → (length ts ≡ length ss) × (length ts ≤ 64)
-unfolding splitSteps
-split-few ss ts h = go (any_of onlyModifiers ss) (ltb 64 (length ss)) refl h
+pub split-few : (ss : Steps) (ts : List Bytes) → split_steps ss ≡ answers ts → (length ts ≡ length ss) × (length ts ≤ 64)
+unfolding split_steps
+split-few ss ts h = go (any_of only_modifiers ss) (ltb 64 (length ss)) refl h
   where
-    go : (a b : Bool) → ltb 64 (length ss) ≡ b → cond a (refuses 6 (place_of onlyModifiers ss)) (cond b (refuses 8 0) (answers (map stepText ss))) ≡ answers ts
+    go : (a b : Bool) → ltb 64 (length ss) ≡ b → cond a (refuses 6 (place_of only_modifiers ss)) (cond b (refuses 8 0) (answers (map step_text ss))) ≡ answers ts
         → (length ts ≡ length ss) × (length ts ≤ 64)
     go true b e h = absurd (never (cc h))
     go false true e h = absurd (never (cc h))
-    go false false e h = let same : map stepText ss ≡ ts = cc h in rw (← same, length-map ss stepText) (refl, ltb-false 64 (length ss) e)
+    go false false e h = let same : map step_text ss ≡ ts = cc h in rw (← same, length-map ss step_text) (refl, ltb-false 64 (length ss) e)
 
 -- the numbers that one step can be refused with, at a place
 pub record OfAStep (P : ℕ → ℕ → Type 0) (place : ℕ) : Type 0 where
@@ -138,36 +138,36 @@ module _ (P : ℕ → ℕ → Type 0) (m : Mode) where
       by10 (Is n) =
           choose (λ number nowhere. P number place) (any_of (unknown n) ps) _ _ h.unknown-key
           (choose (λ number nowhere. P number place) (any_of (λ (p : Parameter). misspelt (kind_of n p) p.value) ps) _ _ h.no_number
-          (choose (λ number nowhere. P number place) (any_of (λ (p : Parameter). tooLong (kind_of n p) p.value) ps) _ _ h.series
-          (by14 (ownRule m n ps))))
+          (choose (λ number nowhere. P number place) (any_of (λ (p : Parameter). too_long (kind_of n p) p.value) ps) _ _ h.series
+          (by14 (own_rule m n ps))))
 
-  at-refuses : (place offset : ℕ) (r : Reply Step) → Refusing (λ number nowhere. P number place) r → Refusing P (atStep place offset r)
-  unfolding atStep Refusing
+  at-refuses : (place offset : ℕ) (r : Reply Step) → Refusing (λ number nowhere. P number place) r → Refusing P (at_step place offset r)
+  unfolding at_step Refusing
   at-refuses place offset (answers s) h = tt
   at-refuses place offset (refuses number nowhere) h = h
   at-refuses place offset (refuses12 nowhere unknown) h = h
 
-  step-refuses : (place : ℕ) (t : Bytes) → OfAStep P place → Refusing P (prepareStep m place t)
-  unfolding prepareStep Refusing
+  step-refuses : (place : ℕ) (t : Bytes) → OfAStep P place → Refusing P (prepare_step m place t)
+  unfolding prepare_step Refusing
   step-refuses place t h =
-      at-refuses place (offsetIn t) _ (choose (λ number nowhere. P number place) (ltb 4096 (length t)) _ _ h.long
-      (then-refuses (λ number nowhere. P number place) (parametersOf t) (judged m) (table-refuses (λ number nowhere. P number place) t h.modifiers h.keys)
+      at-refuses place (offset_in t) _ (choose (λ number nowhere. P number place) (ltb 4096 (length t)) _ _ h.long
+      (then-refuses (λ number nowhere. P number place) (parameters_of t) (judged m) (table-refuses (λ number nowhere. P number place) t h.modifiers h.keys)
       (λ ps e. judged-refuses place ps h)))
 
-  all-refuse : (last place : ℕ) (ts : List Bytes) → place + length ts ≤ suc last → ((k : ℕ) → k ≤ last → OfAStep P k) → Refusing P (prepareSteps m place ts)
-  unfolding prepareSteps Refusing
+  all-refuse : (last place : ℕ) (ts : List Bytes) → place + length ts ≤ suc last → ((k : ℕ) → k ≤ last → OfAStep P k) → Refusing P (prepare_steps m place ts)
+  unfolding prepare_steps Refusing
   all-refuse last place [] l h = tt
   all-refuse last place (t ∷ ts) l h =
-      then-refuses P (prepareStep m place t) _ (step-refuses place t (h place (omega arith)))
-      (λ s e. then-refuses P (prepareSteps m (suc place) ts) _ (all-refuse last (suc place) ts (omega arith) h) (λ r f. tt))
+      then-refuses P (prepare_step m place t) _ (step-refuses place t (h place (omega arith)))
+      (λ s e. then-refuses P (prepare_steps m (suc place) ts) _ (all-refuse last (suc place) ts (omega arith) h) (λ r f. tt))
 
   -- the numbers of a step at one of the steps, and 8
-  records-refuse : (t : Bytes) → ((k : ℕ) → k ≤ length (steps t) → OfAStep P k) → P 8 0 → Refusing P (prepareSplit m t)
-  unfolding prepareSplit
+  records-refuse : (t : Bytes) → ((k : ℕ) → k ≤ length (steps t) → OfAStep P k) → P 8 0 → Refusing P (prepare_split m t)
+  unfolding prepare_split
   records-refuse t h eight =
-      then-refuses P (splitSteps (steps t)) (prepareSteps m 1) (steps-refuses P (steps t) (λ p l. (h p l).modifiers) eight)
+      then-refuses P (split_steps (steps t)) (prepare_steps m 1) (steps-refuses P (steps t) (λ p l. (h p l).modifiers) eight)
       (λ ts e. all-refuse (length (steps t)) 1 ts (omega (arith, (split-few (steps t) ts e).0)) h)
 
-  pub prepare-refuses : (t : Bytes) → ((k : ℕ) → k ≤ length (steps t) → OfAStep P k) → P 8 0 → Refusing P (prepareIn m t)
-  unfolding prepareIn Refusing
-  prepare-refuses t h eight = then-refuses P (prepareSplit m t) _ (records-refuse t h eight) (λ l e. tt)
+  pub prepare-refuses : (t : Bytes) → ((k : ℕ) → k ≤ length (steps t) → OfAStep P k) → P 8 0 → Refusing P (prepare_in m t)
+  unfolding prepare_in Refusing
+  prepare-refuses t h eight = then-refuses P (prepare_split m t) _ (records-refuse t h eight) (λ l e. tt)

@@ -10,25 +10,25 @@ use native.Mathlib.Omega.{arith}
 use Rattle.std.proofs.Math.ListN.{length}
 use Rattle.std.proofs.lemmas.List.{length-map}
 use Rattle.rules.specs.Text.Ascii.{ascii, is}
-use Rattle.rules.specs.Text.Lists.{all_of, kept, place_of, nonEmpty}
-use Rattle.rules.specs.Text.Bytes.{Bytes, Words, white, starts, replaceFrom, replace, trimStart, trimEnd, trimmed, before, onto, cut, words, afterEach, joinedBy, joined}
-use Rattle.rules.specs.Text.Normal.{Replacement, run, becomes, subscriptBecomes, replacements, squeezed, continued, normal}
+use Rattle.rules.specs.Text.Lists.{all_of, kept, place_of, non_empty}
+use Rattle.rules.specs.Text.Bytes.{Bytes, Words, white, starts, replace_from, replace, trim_start, trim_end, trimmed, before, onto, cut, words, after_each, joined_by, joined}
+use Rattle.rules.specs.Text.Normal.{Replacement, run, becomes, subscript_becomes, replacements, squeezed, continued, normal}
 use Rattle.rules.specs.Text.Comments.{newlines, uncommented, lined, stripped}
 use Rattle.rules.specs.Text.Split.{steps_of, steps}
-use Rattle.rules.specs.Proj.Words.{unplussed, isStep, cutAtStep, withoutNoise, projSteps}
+use Rattle.rules.specs.Proj.Words.{unplussed, is_step, cut_at_step, without_noise, proj_steps}
 use Rattle.laws_lists.specs.Tests.{and_left, and_right}
 use Rattle.laws_text.specs.Passes.{in_word, grow, words-cons}
 
 -- `>` and `<` count for the ten bytes that they become
-unfoldable pub weightOf : ℕ → ℕ
-weightOf b = cond (is ">" b || is "<" b) 10 1
+unfoldable pub weight_of : ℕ → ℕ
+weight_of b = cond (is ">" b || is "<" b) 10 1
 
 unfoldable pub weight : Bytes → ℕ
 weight [] = 0
-weight (x ∷ t) = weightOf x + weight t
+weight (x ∷ t) = weight_of x + weight t
 
-pub weighs : (x : ℕ) → (1 ≤ weightOf x) × (weightOf x ≤ 10)
-unfolding weightOf
+pub weighs : (x : ℕ) → (1 ≤ weight_of x) × (weight_of x ≤ 10)
+unfolding weight_of
 weighs x = go (is ">" x || is "<" x)
   where
     go : (b : Bool) → (1 ≤ cond b 10 1) × (cond b 10 1 ≤ 10)
@@ -52,12 +52,12 @@ weight-append (x ∷ a) b = omega (arith, weight-append a b)
 
 -- ---- trimming makes no text longer
 
-pub start-shorter : (test : ℕ → Bool) (t : Bytes) → length (trimStart test t) ≤ length t
-unfolding trimStart
+pub start-shorter : (test : ℕ → Bool) (t : Bytes) → length (trim_start test t) ≤ length t
+unfolding trim_start
 start-shorter test [] = omega arith
 start-shorter test (x ∷ t) = go (test x) (start-shorter test t)
   where
-    go : (b : Bool) → length (trimStart test t) ≤ length t → length (cond b (trimStart test t) (x ∷ t)) ≤ length (x ∷ t)
+    go : (b : Bool) → length (trim_start test t) ≤ length t → length (cond b (trim_start test t) (x ∷ t)) ≤ length (x ∷ t)
     go true h = omega (arith, h)
     go false h = omega arith
 
@@ -69,29 +69,29 @@ weight-starts [] t e = omega arith
 weight-starts (p ∷ old) [] e = absurd (false≢true e)
 weight-starts (p ∷ old) (x ∷ t) e =
     let q : x ≡ p = eqb-true x p (and_left (eqb x p) (starts old t) e) in
-    let w : weightOf x ≡ weightOf p = ap weightOf q in
+    let w : weight_of x ≡ weight_of p = ap weight_of q in
     omega (arith, weight-starts old t (and_right (eqb x p) (starts old t) e))
 
-replaceFrom-weight : (k : ℕ) (old new t : Bytes) → 0 < length old → weight new ≤ weight old → weight (replaceFrom k old new t) ≤ weight (drop k t)
-unfolding weight replaceFrom
-replaceFrom-weight zero old new [] h w = omega arith
-replaceFrom-weight (suc k) old new [] h w = omega arith
-replaceFrom-weight (suc k) old new (x ∷ t) h w = replaceFrom-weight k old new t h w
-replaceFrom-weight zero old new (x ∷ t) h w = go (starts old (x ∷ t)) refl (replaceFrom-weight (length old - 1) old new t h w) (replaceFrom-weight zero old new t h w)
+replace_from-weight : (k : ℕ) (old new t : Bytes) → 0 < length old → weight new ≤ weight old → weight (replace_from k old new t) ≤ weight (drop k t)
+unfolding weight replace_from
+replace_from-weight zero old new [] h w = omega arith
+replace_from-weight (suc k) old new [] h w = omega arith
+replace_from-weight (suc k) old new (x ∷ t) h w = replace_from-weight k old new t h w
+replace_from-weight zero old new (x ∷ t) h w = go (starts old (x ∷ t)) refl (replace_from-weight (length old - 1) old new t h w) (replace_from-weight zero old new t h w)
   where
-    go : (b : Bool) → starts old (x ∷ t) ≡ b → weight (replaceFrom (length old - 1) old new t) ≤ weight (drop (length old - 1) t) → weight (replaceFrom zero old new t) ≤ weight t
-        → weight (cond b (new ++ replaceFrom (length old - 1) old new t) (x ∷ replaceFrom zero old new t)) ≤ weightOf x + weight t
+    go : (b : Bool) → starts old (x ∷ t) ≡ b → weight (replace_from (length old - 1) old new t) ≤ weight (drop (length old - 1) t) → weight (replace_from zero old new t) ≤ weight t
+        → weight (cond b (new ++ replace_from (length old - 1) old new t) (x ∷ replace_from zero old new t)) ≤ weight_of x + weight t
     go true e f g =
         let s : suc (length old - 1) ≡ length old = omega arith in
         let d : drop (length old - 1) t ≡ drop (length old) (x ∷ t) = ap (λ (n : ℕ). drop n (x ∷ t)) s in
         let v : weight (drop (length old - 1) t) ≡ weight (drop (length old) (x ∷ t)) = ap weight d in
-        let a : weightOf x + weight t ≡ weight old + weight (drop (length old) (x ∷ t)) = weight-starts old (x ∷ t) e in
-        rw (weight-append new (replaceFrom (length old - 1) old new t)) (omega arith)
+        let a : weight_of x + weight t ≡ weight old + weight (drop (length old) (x ∷ t)) = weight-starts old (x ∷ t) e in
+        rw (weight-append new (replace_from (length old - 1) old new t)) (omega arith)
     go false e f g = omega arith
 
 pub replace-weight : (old new t : Bytes) → 0 < length old → weight new ≤ weight old → weight (replace old new t) ≤ weight t
 unfolding replace
-replace-weight old new t h w = replaceFrom-weight zero old new t h w
+replace-weight old new t h w = replace_from-weight zero old new t h w
 
 -- ---- the source's list
 
@@ -100,7 +100,7 @@ unfoldable pub light : Replacement → Bool
 light r = ltb 0 (length r.old) && leb (weight r.new) (weight r.old)
 
 pub replacements-light : all_of light replacements ≡ true
-unfolding ascii all_of light weight weightOf becomes subscriptBecomes replacements
+unfolding ascii all_of light weight weight_of becomes subscript_becomes replacements
 replacements-light = refl
 
 pub run-weight : (rs : List Replacement) (t : Bytes) → all_of light rs ≡ true → weight (run rs t) ≤ weight t
@@ -114,47 +114,47 @@ run-weight (r ∷ rs) t e =
 
 -- ---- trimming
 
-trimStart-weight : (test : ℕ → Bool) (t : Bytes) → weight (trimStart test t) ≤ weight t
-unfolding weight trimStart
-trimStart-weight test [] = omega arith
-trimStart-weight test (x ∷ t) = go (test x) (trimStart-weight test t)
+trim_start-weight : (test : ℕ → Bool) (t : Bytes) → weight (trim_start test t) ≤ weight t
+unfolding weight trim_start
+trim_start-weight test [] = omega arith
+trim_start-weight test (x ∷ t) = go (test x) (trim_start-weight test t)
   where
-    go : (b : Bool) → weight (trimStart test t) ≤ weight t → weight (cond b (trimStart test t) (x ∷ t)) ≤ weightOf x + weight t
+    go : (b : Bool) → weight (trim_start test t) ≤ weight t → weight (cond b (trim_start test t) (x ∷ t)) ≤ weight_of x + weight t
     go true h = omega arith
     go false h = omega arith
 
-trimEnd-weight : (test : ℕ → Bool) (t : Bytes) → weight (trimEnd test t) ≤ weight t
-unfolding weight trimEnd
-trimEnd-weight test [] = omega arith
-trimEnd-weight test (x ∷ t) = go (all_of test (x ∷ t)) (trimEnd-weight test t)
+trim_end-weight : (test : ℕ → Bool) (t : Bytes) → weight (trim_end test t) ≤ weight t
+unfolding weight trim_end
+trim_end-weight test [] = omega arith
+trim_end-weight test (x ∷ t) = go (all_of test (x ∷ t)) (trim_end-weight test t)
   where
-    go : (b : Bool) → weight (trimEnd test t) ≤ weight t → weight (cond b [] (x ∷ trimEnd test t)) ≤ weightOf x + weight t
+    go : (b : Bool) → weight (trim_end test t) ≤ weight t → weight (cond b [] (x ∷ trim_end test t)) ≤ weight_of x + weight t
     go true h = omega arith
     go false h = omega arith
 
 pub trimmed-weight : (test : ℕ → Bool) (t : Bytes) → weight (trimmed test t) ≤ weight t
 unfolding trimmed
-trimmed-weight test t = omega (arith, trimEnd-weight test (trimStart test t), trimStart-weight test t)
+trimmed-weight test t = omega (arith, trim_end-weight test (trim_start test t), trim_start-weight test t)
 
 -- ---- one space between words
 
-grown : (x : ℕ) (b : Bool) (ws : Words) (n : ℕ) → weight (joined ws) ≤ n → (b ≡ false → nonEmpty ws ≡ true → suc (weight (joined ws)) ≤ n)
-    → weight (joined (grow x b ws)) ≤ weightOf x + n
-unfolding weight weightOf joined joinedBy afterEach grow nonEmpty
+grown : (x : ℕ) (b : Bool) (ws : Words) (n : ℕ) → weight (joined ws) ≤ n → (b ≡ false → non_empty ws ≡ true → suc (weight (joined ws)) ≤ n)
+    → weight (joined (grow x b ws)) ≤ weight_of x + n
+unfolding weight weight_of joined joined_by after_each grow non_empty
 grown x true [] n h k = omega arith
 grown x true (w ∷ ws) n h k = omega arith
 grown x false [] n h k = omega arith
 grown x false (w ∷ ws) n h k = let l = k refl refl in omega arith
 
 -- the second part: white space in front of words is to spare
-squeezing : (t : Bytes) → (weight (joined (words t)) ≤ weight t) × (in_word t ≡ false → nonEmpty (words t) ≡ true → suc (weight (joined (words t))) ≤ weight t)
+squeezing : (t : Bytes) → (weight (joined (words t)) ≤ weight t) × (in_word t ≡ false → non_empty (words t) ≡ true → suc (weight (joined (words t))) ≤ weight t)
 unfolding weight in_word
-squeezing [] = unfold words kept cut joined joinedBy nonEmpty in (omega arith, λ e f. absurd (false≢true f))
+squeezing [] = unfold words kept cut joined joined_by non_empty in (omega arith, λ e f. absurd (false≢true f))
 squeezing (x ∷ t) = rw (words-cons x t) (go (white x) (squeezing t))
   where
-    go : (b : Bool) → (weight (joined (words t)) ≤ weight t) × (in_word t ≡ false → nonEmpty (words t) ≡ true → suc (weight (joined (words t))) ≤ weight t)
-        → (weight (joined (cond b (words t) (grow x (in_word t) (words t)))) ≤ weightOf x + weight t)
-        × (not b ≡ false → nonEmpty (cond b (words t) (grow x (in_word t) (words t))) ≡ true → suc (weight (joined (cond b (words t) (grow x (in_word t) (words t))))) ≤ weightOf x + weight t)
+    go : (b : Bool) → (weight (joined (words t)) ≤ weight t) × (in_word t ≡ false → non_empty (words t) ≡ true → suc (weight (joined (words t))) ≤ weight t)
+        → (weight (joined (cond b (words t) (grow x (in_word t) (words t)))) ≤ weight_of x + weight t)
+        × (not b ≡ false → non_empty (cond b (words t) (grow x (in_word t) (words t))) ≡ true → suc (weight (joined (cond b (words t) (grow x (in_word t) (words t))))) ≤ weight_of x + weight t)
     go true i = (omega (arith, i.0), λ e f. omega (arith, i.0, (weighs x).0))
     go false i = (grown x (in_word t) (words t) (weight t) i.0 i.1, λ e f. absurd (false≢true (sym e)))
 
@@ -165,42 +165,42 @@ squeezed-weight t = (squeezing t).0
 -- ---- the normal form
 
 pub newline-weight : (t : Bytes) → weight (continued t) ≤ weight t
-unfolding continued ascii weight weightOf
+unfolding continued ascii weight weight_of
 newline-weight t = replace-weight (ascii "\n:") (ascii "\n") t (omega arith) (omega arith)
 
 -- white space at its front counts for nothing
-pub normal-weight : (t : Bytes) → weight (normal t) ≤ weight (trimStart white t)
+pub normal-weight : (t : Bytes) → weight (normal t) ≤ weight (trim_start white t)
 unfolding normal trimmed
 normal-weight t =
-    let s = trimStart white t in
-    let a = trimEnd white s in
+    let s = trim_start white t in
+    let a = trim_end white s in
     let b = trimmed (is ":") a in
     let c = continued b in
     let d = squeezed c in
     let e = run replacements d in
-    omega (arith, trimEnd-weight white s, trimmed-weight (is ":") a, newline-weight b, squeezed-weight c, run-weight replacements d replacements-light, squeezed-weight e)
+    omega (arith, trim_end-weight white s, trimmed-weight (is ":") a, newline-weight b, squeezed-weight c, run-weight replacements d replacements-light, squeezed-weight e)
 
 -- of 4,096 bytes, at most 40,960
 pub normal-length : (t : Bytes) → length (normal t) ≤ 10 * length t
-normal-length t = omega (arith, length-weight (normal t), normal-weight t, trimStart-weight white t, weight-length t)
+normal-length t = omega (arith, length-weight (normal t), normal-weight t, trim_start-weight white t, weight-length t)
 
 -- ---- the same of a text whose comments are stripped
 
-space : weightOf 32 ≡ 1
-unfolding weightOf
+space : weight_of 32 ≡ 1
+unfolding weight_of
 space = refl
 
-cut_off : (b : Bool) (x : ℕ) (u : Bytes) → weight (cond b [] (x ∷ u)) ≤ weightOf x + weight u
+cut_off : (b : Bool) (x : ℕ) (u : Bytes) → weight (cond b [] (x ∷ u)) ≤ weight_of x + weight u
 unfolding weight
 cut_off true x u = omega arith
 cut_off false x u = omega arith
 
-onto-weight : (x : ℕ) (ps : List Bytes) (n : ℕ) → weight (flat_map uncommented ps) ≤ suc n → weight (flat_map uncommented (onto x ps)) ≤ suc (weightOf x + n)
+onto-weight : (x : ℕ) (ps : List Bytes) (n : ℕ) → weight (flat_map uncommented ps) ≤ suc n → weight (flat_map uncommented (onto x ps)) ≤ suc (weight_of x + n)
 unfolding weight flat_map uncommented onto before
 onto-weight x [] n h = omega (arith, space, cut_off (is "#" x) x [], weight-append (cond (is "#" x) [] (x ∷ [])) [])
 onto-weight x (p ∷ ps) n h =
     let u = before (is "#") p in
-    let k : weightOf 32 + weight (u ++ flat_map uncommented ps) ≤ suc n = h in
+    let k : weight_of 32 + weight (u ++ flat_map uncommented ps) ≤ suc n = h in
     omega (arith, space, cut_off (is "#" x) x u, weight-append (cond (is "#" x) [] (x ∷ u)) (flat_map uncommented ps), weight-append u (flat_map uncommented ps))
 
 lines-weight : (t : Bytes) → weight (flat_map uncommented (cut (is "\n") t)) ≤ suc (weight t)
@@ -209,17 +209,17 @@ lines-weight [] = omega (arith, space)
 lines-weight (x ∷ t) = go (is "\n" x) (lines-weight t)
   where
     go : (b : Bool) → weight (flat_map uncommented (cut (is "\n") t)) ≤ suc (weight t)
-        → weight (flat_map uncommented (cond b ([] ∷ cut (is "\n") t) (onto x (cut (is "\n") t)))) ≤ suc (weightOf x + weight t)
+        → weight (flat_map uncommented (cond b ([] ∷ cut (is "\n") t) (onto x (cut (is "\n") t)))) ≤ suc (weight_of x + weight t)
     go true h = omega (arith, space, (weighs x).0)
     go false h = onto-weight x (cut (is "\n") t) (weight t) h
 
 -- the space in front of the first line is trimmed
-lines-front : (ps : List Bytes) → weight (trimStart white (flat_map uncommented ps)) ≤ weight (flat_map uncommented ps) - 1
-unfolding weight flat_map uncommented trimStart white
+lines-front : (ps : List Bytes) → weight (trim_start white (flat_map uncommented ps)) ≤ weight (flat_map uncommented ps) - 1
+unfolding weight flat_map uncommented trim_start white
 lines-front [] = omega arith
-lines-front (p ∷ ps) = let u = before (is "#") p ++ flat_map uncommented ps in omega (arith, space, trimStart-weight white u)
+lines-front (p ∷ ps) = let u = before (is "#") p ++ flat_map uncommented ps in omega (arith, space, trim_start-weight white u)
 
-lined-front : (t : Bytes) → weight (trimStart white (lined t)) ≤ weight t
+lined-front : (t : Bytes) → weight (trim_start white (lined t)) ≤ weight t
 unfolding lined
 lined-front t = omega (arith, lines-front (cut (is "\n") t), lines-weight t)
 
@@ -233,10 +233,10 @@ lined-longer t = lines-weight t
 
 pub lined-trimmed : (t : Bytes) → weight (trimmed white (lined t)) ≤ weight t
 unfolding trimmed
-lined-trimmed t = omega (arith, trimEnd-weight white (trimStart white (lined t)), lined-front t)
+lined-trimmed t = omega (arith, trim_end-weight white (trim_start white (lined t)), lined-front t)
 
 pub newlines-weight : (t : Bytes) → weight (newlines t) ≤ weight t
-unfolding newlines ascii weight weightOf
+unfolding newlines ascii weight weight_of
 newlines-weight t =
     let u = replace (ascii "\r\n") (ascii "\n") t in
     omega (arith, replace-weight (ascii "\r\n") (ascii "\n") t (omega arith) (omega arith), replace-weight (ascii "\r") (ascii "\n") u (omega arith) (omega arith))
@@ -260,7 +260,7 @@ steps-length t =
     omega (arith, length-weight (normal (lined c)), lined-weight c, newline-weight b, newlines-weight a, trimmed-weight white t, weight-length t)
 
 pub unplussed-weight : (t : Bytes) → weight (unplussed t) ≤ weight t
-unfolding unplussed ascii weight weightOf
+unfolding unplussed ascii weight weight_of
 unplussed-weight t =
     let a = replace (ascii " +") (ascii " ") t in
     let b = replace (ascii "\n+") (ascii " ") a in
@@ -270,7 +270,7 @@ unplussed-weight t =
       replace-weight (ascii " +") (ascii " ") t (omega arith) (omega arith),
       replace-weight (ascii "\n+") (ascii " ") a (omega arith) (omega arith),
       trimmed-weight white b,
-      trimStart-weight (is "+") c,
+      trim_start-weight (is "+") c,
     )
 
 -- what is cut into PROJ steps
@@ -314,11 +314,11 @@ unfolding cut
 cut-few test [] = omega arith
 cut-few test (x ∷ t) = piece-few (test x) x (cut test t) (cut test t) (length t) (cut-few test t) (cut-few test t)
 
-at-step-few : (rightAfter : Bool) (ws : Words) → length (cutAtStep rightAfter ws) ≤ suc (length ws)
-unfolding cutAtStep
+at-step-few : (right_after : Bool) (ws : Words) → length (cut_at_step right_after ws) ≤ suc (length ws)
+unfolding cut_at_step
 at-step-few b [] = omega arith
-at-step-few true (w ∷ ws) = piece-few false w (cutAtStep true ws) (cutAtStep false ws) (length ws) (at-step-few true ws) (at-step-few false ws)
-at-step-few false (w ∷ ws) = piece-few (isStep w) w (cutAtStep true ws) (cutAtStep false ws) (length ws) (at-step-few true ws) (at-step-few false ws)
+at-step-few true (w ∷ ws) = piece-few false w (cut_at_step true ws) (cut_at_step false ws) (length ws) (at-step-few true ws) (at-step-few false ws)
+at-step-few false (w ∷ ws) = piece-few (is_step w) w (cut_at_step true ws) (cut_at_step false ws) (length ws) (at-step-few true ws) (at-step-few false ws)
 
 grow-few : (x : ℕ) (b : Bool) (ws : Words) → length (grow x b ws) ≤ suc (length ws)
 unfolding grow
@@ -327,7 +327,7 @@ grow-few x true (w ∷ ws) = omega arith
 grow-few x false ws = omega arith
 
 pub words-few : (t : Bytes) → length (words t) ≤ length t
-words-few [] = unfold words kept nonEmpty cut in omega arith
+words-few [] = unfold words kept non_empty cut in omega arith
 words-few (x ∷ t) = rw (words-cons x t) (go (white x) (words-few t))
   where
     go : (b : Bool) → length (words t) ≤ length t → length (cond b (words t) (grow x (in_word t) (words t))) ≤ suc (length t)
@@ -340,14 +340,14 @@ unfolding steps steps_of
 steps-few t =
     let n = normal (stripped t) in
     let ps = cut (is "|") n in
-    omega (arith, kept-few nonEmpty (map words ps), length-map ps words, cut-few (is "|") n, steps-length t)
+    omega (arith, kept-few non_empty (map words ps), length-map ps words, cut-few (is "|") n, steps-length t)
 
-pub proj-few : (t : Bytes) → length (projSteps t) ≤ suc (10 * length t)
-unfolding projSteps
+pub proj-few : (t : Bytes) → length (proj_steps t) ≤ suc (10 * length t)
+unfolding proj_steps
 proj-few t =
     let n = normal (lined (unplussed (newlines t))) in
-    let ps = cutAtStep false (words n) in
-    omega (arith, kept-few nonEmpty (map withoutNoise ps), length-map ps withoutNoise, at-step-few false (words n), words-few n, proj-length t)
+    let ps = cut_at_step false (words n) in
+    omega (arith, kept-few non_empty (map without_noise ps), length-map ps without_noise, at-step-few false (words n), words-few n, proj-length t)
 
 -- ---- buffers
 

@@ -10,8 +10,8 @@ use borrow.Author.Tests.{eqb-true}
 use Rattle.std.proofs.Math.Dec.{eqb}
 use Rattle.rules.specs.Text.Ascii.{ascii, is}
 use Rattle.rules.specs.Text.Lists.{any_of, all_of}
-use Rattle.rules.specs.Text.Bytes.{Bytes, white, starts, replaceFrom, replace, trimmed}
-use Rattle.rules.specs.Text.Normal.{Replacement, run, becomes, subscriptBecomes, replacements, squeezed, continued, normal}
+use Rattle.rules.specs.Text.Bytes.{Bytes, white, starts, replace_from, replace, trimmed}
+use Rattle.rules.specs.Text.Normal.{Replacement, run, becomes, subscript_becomes, replacements, squeezed, continued, normal}
 use Rattle.laws_lists.specs.Tests.{never, not_so, and_left, and_right, or_left, or_right}
 use Rattle.laws_text.specs.Apart.{among, Apart, words-apart}
 use Rattle.laws_text.specs.Freed.{separators, twelve, rest-apart}
@@ -34,12 +34,12 @@ spread [] = []
 spread (x ∷ t) = spoken x ++ spread t
 
 spread-is : (t : Bytes) → replace (ascii "<") forward (replace (ascii ">") inverse t) ≡ spread t
-unfolding replace replaceFrom starts spread spoken ascii
+unfolding replace replace_from starts spread spoken ascii
 spread-is [] = refl
 spread-is (x ∷ t) = go (eqb x 62) (eqb x 60) refl (spread-is t)
   where
-    go : (a b : Bool) → eqb x 60 ≡ b → replaceFrom 0 (60 ∷ []) forward (replaceFrom 0 (62 ∷ []) inverse t) ≡ spread t
-        → replaceFrom 0 (60 ∷ []) forward (cond (a && true) (inverse ++ replaceFrom 0 (62 ∷ []) inverse t) (x ∷ replaceFrom 0 (62 ∷ []) inverse t))
+    go : (a b : Bool) → eqb x 60 ≡ b → replace_from 0 (60 ∷ []) forward (replace_from 0 (62 ∷ []) inverse t) ≡ spread t
+        → replace_from 0 (60 ∷ []) forward (cond (a && true) (inverse ++ replace_from 0 (62 ∷ []) inverse t) (x ∷ replace_from 0 (62 ∷ []) inverse t))
         ≡ cond a inverse (cond b forward (x ∷ [])) ++ spread t
     go true b e i = rw i refl
     go false true e i = rw (e, i) refl
@@ -96,18 +96,18 @@ module _ (o : ℕ) (old new : Bytes) (own : any_of (among separators) (o ∷ old
       go false true = fwd
       go false false = rw n refl
 
-  passed_over : (a t : Bytes) → any_of (λ (y : ℕ). eqb y o) a ≡ false → replaceFrom 0 (o ∷ old) new (a ++ t) ≡ a ++ replaceFrom 0 (o ∷ old) new t
-  unfolding replaceFrom starts any_of
+  passed_over : (a t : Bytes) → any_of (λ (y : ℕ). eqb y o) a ≡ false → replace_from 0 (o ∷ old) new (a ++ t) ≡ a ++ replace_from 0 (o ∷ old) new t
+  unfolding replace_from starts any_of
   passed_over [] t n = refl
   passed_over (x ∷ a) t n =
       rw (or_left (eqb x o) (any_of (λ (y : ℕ). eqb y o) a) n) (ap (λ (u : Bytes). x ∷ u) (passed_over a t (or_right (eqb x o) (any_of (λ (y : ℕ). eqb y o) a) n)))
 
   abbrev replacing : ℕ → Bytes → Bytes
-  replacing k t = replaceFrom k (o ∷ old) new t
+  replacing k t = replace_from k (o ∷ old) new t
 
   -- `r` is what is passed over
   swapped : (t r : Bytes) → any_of (among separators) r ≡ false → starts r t ≡ true → replacing (length r) (spread t) ≡ spread (replacing (length r) t)
-  unfolding replaceFrom starts any_of
+  unfolding replace_from starts any_of
   swapped [] [] n s = unfold spread in refl
   swapped [] (p ∷ r) n s = unfold spread in refl
   swapped (x ∷ t) (p ∷ r) n s =
@@ -171,7 +171,7 @@ swap-run (r ∷ rs) t p =
 
 -- the replacements behind the two, made before them
 run-spread : (t : Bytes) → run replacements t ≡ spread (run (drop 14 replacements) (run (take 12 replacements) t))
-unfolding run replacements becomes subscriptBecomes ascii all_of any_of passes
+unfolding run replacements becomes subscript_becomes ascii all_of any_of passes
 run-spread t =
     let u = run (take 12 replacements) t in
     ap (run (drop 14 replacements)) (spread-is u) ∙ swap-run (drop 14 replacements) u refl

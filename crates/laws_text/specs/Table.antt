@@ -6,66 +6,66 @@ use Rattle.std.proofs.Math.Bool.{true, false, cond, or-true}
 use Rattle.std.proofs.lemmas.Bool.{false≢true, eqb-false}
 use mathlib.Core.List.{List, [], ◌∷◌, map}
 use Rattle.rules.specs.Text.Ascii.{is}
-use Rattle.rules.specs.Text.Lists.{any_of, nonEmpty}
+use Rattle.rules.specs.Text.Lists.{any_of, non_empty}
 use Rattle.rules.specs.Text.Bytes.{Bytes, Words, same}
 use Rattle.rules.specs.Text.Split.{turned}
-use Rattle.rules.specs.Text.Parameters.{Parameter, parameter, name, elements, precedes, enteredBy, enteredAllBy, entered, enteredAll, table_of}
-use Rattle.rules.specs.Text.Parameters.{Placed, placedWord, placedName, placedWords, placedElements, placedTable}
+use Rattle.rules.specs.Text.Parameters.{Parameter, parameter, name, elements, precedes, entered_by, entered_all_by, entered, entered_all, table_of}
+use Rattle.rules.specs.Text.Parameters.{Placed, placed_word, placed_name, placed_words, placed_elements, placed_table}
 use Rattle.laws_lists.specs.Tests.{same_self, and_left, and_right, or_left, or_right, same-is}
 
 -- ---- entering, and what keeps the keys
 
 -- To enter a thing, and then to look at each in another way that keeps its key, is to enter it as looked at.
 module _ {A B : Type 0} (k : B → Bytes) (f : A → B) where
-  pub entered-map : (p : A) (l : List A) → map f (enteredBy (λ (x : A). k (f x)) p l) ≡ enteredBy k (f p) (map f l)
-  unfolding enteredBy
+  pub entered-map : (p : A) (l : List A) → map f (entered_by (λ (x : A). k (f x)) p l) ≡ entered_by k (f p) (map f l)
+  unfolding entered_by
   entered-map p [] = refl
   entered-map p (q ∷ l) = go (same (k (f p)) (k (f q))) (precedes (k (f p)) (k (f q))) (entered-map p l)
     where
-      go : (c d : Bool) → map f (enteredBy (λ (x : A). k (f x)) p l) ≡ enteredBy k (f p) (map f l)
-          → map f (cond c (p ∷ l) (cond d (p ∷ (q ∷ l)) (q ∷ enteredBy (λ (x : A). k (f x)) p l)))
-          ≡ cond c (f p ∷ map f l) (cond d (f p ∷ (f q ∷ map f l)) (f q ∷ enteredBy k (f p) (map f l)))
+      go : (c d : Bool) → map f (entered_by (λ (x : A). k (f x)) p l) ≡ entered_by k (f p) (map f l)
+          → map f (cond c (p ∷ l) (cond d (p ∷ (q ∷ l)) (q ∷ entered_by (λ (x : A). k (f x)) p l)))
+          ≡ cond c (f p ∷ map f l) (cond d (f p ∷ (f q ∷ map f l)) (f q ∷ entered_by k (f p) (map f l)))
       go true d h = refl
       go false true h = refl
       go false false h = ap (λ (r : List B). f q ∷ r) h
 
-  pub entered-all-map : (ps l : List A) → map f (enteredAllBy (λ (x : A). k (f x)) ps l) ≡ enteredAllBy k (map f ps) (map f l)
-  unfolding enteredAllBy
+  pub entered-all-map : (ps l : List A) → map f (entered_all_by (λ (x : A). k (f x)) ps l) ≡ entered_all_by k (map f ps) (map f l)
+  unfolding entered_all_by
   entered-all-map [] l = refl
   entered-all-map (p ∷ ps) l =
-      entered-all-map ps (enteredBy (λ (x : A). k (f x)) p l) ∙ ap (enteredAllBy k (map f ps)) (entered-map p l)
+      entered-all-map ps (entered_by (λ (x : A). k (f x)) p l) ∙ ap (entered_all_by k (map f ps)) (entered-map p l)
 
 -- ---- where parameters stand, and what they are without their places
 
 abbrev pub given : Placed → Parameter
 given q = q.given
 
-pub given-name : (at : ℕ) (w : Bytes) → given (placedName at w) ≡ cond (any_of (is "=") w) (parameter w) (name w)
-unfolding placedName placedWord
+pub given-name : (at : ℕ) (w : Bytes) → given (placed_name at w) ≡ cond (any_of (is "=") w) (parameter w) (name w)
+unfolding placed_name placed_word
 given-name at w = go (any_of (is "=") w)
   where
-    go : (b : Bool) → given (cond b (placedWord at w) (record { given = name w; at = at })) ≡ cond b (parameter w) (name w)
+    go : (b : Bool) → given (cond b (placed_word at w) (record { given = name w; at = at })) ≡ cond b (parameter w) (name w)
     go true = refl
     go false = refl
 
-given-words : (at : ℕ) (ws : Words) → map given (placedWords at ws) ≡ map parameter ws
-unfolding placedWords placedWord
+given-words : (at : ℕ) (ws : Words) → map given (placed_words at ws) ≡ map parameter ws
+unfolding placed_words placed_word
 given-words at [] = refl
 given-words at (w ∷ ws) = ap (λ (l : List Parameter). parameter w ∷ l) (given-words (at + length w + 1) ws)
 
-pub given-elements : (ws : Words) → map given (placedElements ws) ≡ elements ws
-unfolding placedElements elements
+pub given-elements : (ws : Words) → map given (placed_elements ws) ≡ elements ws
+unfolding placed_elements elements
 given-elements [] = refl
 given-elements (w ∷ ws) =
-    ap (λ (p : Parameter). p ∷ map given (placedWords (length w + 1) ws)) (given-name 0 w)
+    ap (λ (p : Parameter). p ∷ map given (placed_words (length w + 1) ws)) (given-name 0 w)
     ∙ ap (λ (l : List Parameter). cond (any_of (is "=") w) (parameter w) (name w) ∷ l) (given-words (length w + 1) ws)
 
-pub given-all : (qs l : List Placed) → map given (enteredAllBy (λ (q : Placed). q.given.key) qs l) ≡ enteredAll (map given qs) (map given l)
+pub given-all : (qs l : List Placed) → map given (entered_all_by (λ (q : Placed). q.given.key) qs l) ≡ entered_all (map given qs) (map given l)
 given-all qs l = entered-all-map (λ (p : Parameter). p.key) given qs l
 
-pub given-table : (ws : Words) → map given (placedTable ws) ≡ table_of ws
-unfolding placedTable table_of
-given-table ws = given-all (placedElements (turned ws)) [] ∙ ap (λ (ps : List Parameter). enteredAll ps []) (given-elements (turned ws))
+pub given-table : (ws : Words) → map given (placed_table ws) ≡ table_of ws
+unfolding placed_table table_of
+given-table ws = given-all (placed_elements (turned ws)) [] ∙ ap (λ (ps : List Parameter). entered_all ps []) (given-elements (turned ws))
 
 -- ---- the order
 
@@ -111,7 +111,7 @@ ordered-rest p [] o = refl
 ordered-rest p (q ∷ l) o = and_right (precedes p.key q.key) (ordered (q ∷ l)) o
 
 entered_below : (k : Bytes) (p : Parameter) (l : List Parameter) → precedes k p.key ≡ true → below k l ≡ true → below k (entered p l) ≡ true
-unfolding below enteredBy
+unfolding below entered_by
 entered_below k p [] b h = b
 entered_below k p (q ∷ l) b h = go (same p.key q.key) (precedes p.key q.key)
   where
@@ -121,7 +121,7 @@ entered_below k p (q ∷ l) b h = go (same p.key q.key) (precedes p.key q.key)
     go false false = h
 
 pub entered-ordered : (p : Parameter) (l : List Parameter) → ordered l ≡ true → ordered (entered p l) ≡ true
-unfolding enteredBy
+unfolding entered_by
 entered-ordered p [] o = unfold ordered in refl
 entered-ordered p (q ∷ l) o = go (same p.key q.key) (precedes p.key q.key) refl refl (entered-ordered p l (ordered-rest q l o))
   where
@@ -132,8 +132,8 @@ entered-ordered p (q ∷ l) o = go (same p.key q.key) (precedes p.key q.key) ref
     go false false e f h = ordered-cons q (entered p l) (entered_below q.key p l (total p.key q.key e f) (ordered-below q l o)) h
 
 -- "Keys come out in byte order."
-pub table-ordered : (ps l : List Parameter) → ordered l ≡ true → ordered (enteredAll ps l) ≡ true
-unfolding enteredAllBy
+pub table-ordered : (ps l : List Parameter) → ordered l ≡ true → ordered (entered_all ps l) ≡ true
+unfolding entered_all_by
 table-ordered [] l o = o
 table-ordered (p ∷ ps) l o = table-ordered ps (entered p l) (entered-ordered p l o)
 
@@ -145,9 +145,9 @@ find k [] = []
 find k (q ∷ l) = cond (same q.key k) (q.value ∷ []) (find k l)
 
 -- the last of the values that a key was given
-unfoldable pub lastValue : Bytes → List Parameter → List Bytes
-lastValue k [] = []
-lastValue k (p ∷ ps) = cond (nonEmpty (lastValue k ps)) (lastValue k ps) (cond (same p.key k) (p.value ∷ []) [])
+unfoldable pub last_value : Bytes → List Parameter → List Bytes
+last_value k [] = []
+last_value k (p ∷ ps) = cond (non_empty (last_value k ps)) (last_value k ps) (cond (same p.key k) (p.value ∷ []) [])
 
 twice : (b : Bool) (v w r : List Bytes) → cond b v r ≡ cond b v (cond b w r)
 twice true v w r = refl
@@ -163,7 +163,7 @@ swapped p q k v w r n false true e f = refl
 swapped p q k v w r n false false e f = refl
 
 pub entered-find : (k : Bytes) (p : Parameter) (l : List Parameter) → find k (entered p l) ≡ cond (same p.key k) (p.value ∷ []) (find k l)
-unfolding enteredBy find
+unfolding entered_by find
 entered-find k p [] = refl
 entered-find k p (q ∷ l) = go (same p.key q.key) (precedes p.key q.key) refl (entered-find k p l)
   where
@@ -176,13 +176,13 @@ entered-find k p (q ∷ l) = go (same p.key q.key) (precedes p.key q.key) refl (
     go false false e h = rw h (swapped p.key q.key k (p.value ∷ []) (q.value ∷ []) (find k l) e (same p.key k) (same q.key k) refl refl)
 
 -- "a repeated key takes the last value"; a key that is not given keeps what the table had
-pub table-last : (k : Bytes) (ps l : List Parameter) → find k (enteredAll ps l) ≡ cond (nonEmpty (lastValue k ps)) (lastValue k ps) (find k l)
-unfolding enteredAllBy lastValue nonEmpty
+pub table-last : (k : Bytes) (ps l : List Parameter) → find k (entered_all ps l) ≡ cond (non_empty (last_value k ps)) (last_value k ps) (find k l)
+unfolding entered_all_by last_value non_empty
 table-last k [] l = refl
-table-last k (p ∷ ps) l = table-last k ps (entered p l) ∙ rw (entered-find k p l) (go (lastValue k ps) (same p.key k))
+table-last k (p ∷ ps) l = table-last k ps (entered p l) ∙ rw (entered-find k p l) (go (last_value k ps) (same p.key k))
   where
-    go : (v : List Bytes) (b : Bool) → cond (nonEmpty v) v (cond b (p.value ∷ []) (find k l))
-        ≡ cond (nonEmpty (cond (nonEmpty v) v (cond b (p.value ∷ []) []))) (cond (nonEmpty v) v (cond b (p.value ∷ []) [])) (find k l)
+    go : (v : List Bytes) (b : Bool) → cond (non_empty v) v (cond b (p.value ∷ []) (find k l))
+        ≡ cond (non_empty (cond (non_empty v) v (cond b (p.value ∷ []) []))) (cond (non_empty v) v (cond b (p.value ∷ []) [])) (find k l)
     go [] true = refl
     go [] false = refl
     go (w ∷ v) b = refl

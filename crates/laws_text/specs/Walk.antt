@@ -8,7 +8,7 @@ use mathlib.Core.List.{List, [], ◌∷◌, ◌++◌, map}
 use Rattle.std.proofs.Math.ListN.{drop}
 use Rattle.std.proofs.Math.Seq.{drop-drop}
 use Rattle.rules.specs.Text.Ascii.{is}
-use Rattle.rules.specs.Text.Lists.{kept, nonEmpty}
+use Rattle.rules.specs.Text.Lists.{kept, non_empty}
 use Rattle.rules.specs.Text.Bytes.{Bytes, Steps, onto, cut, words}
 use Rattle.rules.specs.Text.Split.{steps_of}
 use Rattle.rules.specs.Text.Reader.{step, found, next, part, walked}
@@ -63,22 +63,22 @@ behind (x ∷ t) = go (is "|" x) refl (behind t)
 
 -- the pieces that have words: those of the steps
 unfoldable pub worded : List Bytes → List Bytes
-worded ps = kept (λ (p : Bytes). nonEmpty (words p)) ps
+worded ps = kept (λ (p : Bytes). non_empty (words p)) ps
 
-pub worded-words : (ps : List Bytes) → kept nonEmpty (map words ps) ≡ map words (worded ps)
+pub worded-words : (ps : List Bytes) → kept non_empty (map words ps) ≡ map words (worded ps)
 unfolding worded kept
 worded-words [] = refl
-worded-words (p ∷ ps) = go (nonEmpty (words p)) (worded-words ps)
+worded-words (p ∷ ps) = go (non_empty (words p)) (worded-words ps)
   where
-    go : (b : Bool) → kept nonEmpty (map words ps) ≡ map words (worded ps)
-        → cond b (words p ∷ kept nonEmpty (map words ps)) (kept nonEmpty (map words ps)) ≡ map words (cond b (p ∷ worded ps) (worded ps))
+    go : (b : Bool) → kept non_empty (map words ps) ≡ map words (worded ps)
+        → cond b (words p ∷ kept non_empty (map words ps)) (kept non_empty (map words ps)) ≡ map words (cond b (p ∷ worded ps) (worded ps))
     go true e = ap (λ (ss : Steps). words p ∷ ss) e
     go false e = e
 
 -- the pieces that a find tells of: that of the step found, and all from there on
-walkedPieces : Bytes → Found → List Bytes
-walkedPieces n End = []
-walkedPieces n (Step from to then) = part from to n ∷ worded (cut (is "|") (drop then.at n))
+walked_pieces : Bytes → Found → List Bytes
+walked_pieces n End = []
+walked_pieces n (Step from to then) = part from to n ∷ worded (cut (is "|") (drop then.at n))
 
 -- a text from a place on, with its first piece p and what is left after it
 pub record At (n : Bytes) (place : ℕ) (p : Bytes) (ps : List Bytes) : Type 0 where
@@ -108,7 +108,7 @@ module _ {n : Bytes} {place : ℕ} {p : Bytes} {ps : List Bytes} (m : At n place
 
   -- the pieces from its end on are the other ones
   at_others : worded (cut (is "|") (drop (place + length p) n)) ≡ worded ps
-  unfolding worded words kept nonEmpty cut
+  unfolding worded words kept non_empty cut
   at_others = rw (at_left, m.cuts, m.rest)
 
   -- where the next piece stands
@@ -122,20 +122,20 @@ module _ {n : Bytes} {place : ℕ} {p : Bytes} {ps : List Bytes} (m : At n place
 
 -- the first step of some pieces, and the pieces after it
 found-walks : (n : Bytes) (place : ℕ) (ps : List Bytes) → ((q : Bytes) (qs : List Bytes) → ps ≡ q ∷ qs → cut (is "|") (drop place n) ≡ ps)
-    → worded ps ≡ walkedPieces n (found place ps)
-unfolding worded kept found walkedPieces
+    → worded ps ≡ walked_pieces n (found place ps)
+unfolding worded kept found walked_pieces
 found-walks n place [] c = refl
-found-walks n place (p ∷ ps) c = go (nonEmpty (words p)) (found-walks n (place + suc (length p)) ps (λ q qs e. at_next m q qs e ∙ sym e))
+found-walks n place (p ∷ ps) c = go (non_empty (words p)) (found-walks n (place + suc (length p)) ps (λ q qs e. at_next m q qs e ∙ sym e))
   where
     m : At n place p ps
     m = at n place p ps (c p ps refl)
 
-    go : (b : Bool) → worded ps ≡ walkedPieces n (found (place + suc (length p)) ps)
-        → cond b (p ∷ worded ps) (worded ps) ≡ walkedPieces n (cond b (step place (place + length p)) (found (place + suc (length p)) ps))
+    go : (b : Bool) → worded ps ≡ walked_pieces n (found (place + suc (length p)) ps)
+        → cond b (p ∷ worded ps) (worded ps) ≡ walked_pieces n (cond b (step place (place + length p)) (found (place + suc (length p)) ps))
     go true h = rw (at_part m, at_others m)
     go false h = h
 
-walk-pieces : (normalised : Bytes) (place : ℕ) → worded (cut (is "|") (drop place normalised)) ≡ walkedPieces normalised (next normalised place)
+walk-pieces : (normalised : Bytes) (place : ℕ) → worded (cut (is "|") (drop place normalised)) ≡ walked_pieces normalised (next normalised place)
 unfolding next
 walk-pieces normalised place = found-walks normalised place (cut (is "|") (drop place normalised)) (λ q qs e. refl)
 
@@ -144,9 +144,9 @@ pub walk : (normalised : Bytes) (place : ℕ) → steps_of (drop place normalise
 unfolding steps_of
 walk normalised place = worded-words (cut (is "|") (drop place normalised)) ∙ ap (map words) (walk-pieces normalised place) ∙ go (next normalised place)
   where
-    go : (f : Found) → map words (walkedPieces normalised f) ≡ walked normalised f
-    go End = unfold walkedPieces walked in refl
-    go (Step from to then) = unfold walkedPieces walked in ap (λ (ss : Steps). words (part from to normalised) ∷ ss) (sym (worded-words (cut (is "|") (drop then.at normalised))))
+    go : (f : Found) → map words (walked_pieces normalised f) ≡ walked normalised f
+    go End = unfold walked_pieces walked in refl
+    go (Step from to then) = unfold walked_pieces walked in ap (λ (ss : Steps). words (part from to normalised) ∷ ss) (sym (worded-words (cut (is "|") (drop then.at normalised))))
 
 -- What it finds lies ahead, is not empty, stands within the text, and has words; the reader goes on at its end: the walk
 -- ends.
@@ -155,10 +155,10 @@ pub record Ahead (normalised : Bytes) (place from to : ℕ) (then : Cursor) : Ty
   pub longer : from < to
   pub within : to ≤ length normalised
   pub goes_on : then.at ≡ to
-  pub worded : nonEmpty (words (part from to normalised)) ≡ true
+  pub worded : non_empty (words (part from to normalised)) ≡ true
 
-not-empty : (p : Bytes) → nonEmpty (words p) ≡ true → 1 ≤ length p
-unfolding words kept nonEmpty cut
+not-empty : (p : Bytes) → non_empty (words p) ≡ true → 1 ≤ length p
+unfolding words kept non_empty cut
 not-empty [] e = absurd (false≢true e)
 not-empty (x ∷ p) e = omega arith
 
@@ -167,12 +167,12 @@ found-ahead : (n : Bytes) (place : ℕ) (ps : List Bytes) (from to : ℕ) (then 
 unfolding found
 found-ahead n place [] from to then c f = absurd (never (cc))
 found-ahead n place (p ∷ ps) from to then c f =
-    go (nonEmpty (words p)) refl f (found-ahead n (place + suc (length p)) ps from to then (λ q qs e. at_next m q qs e ∙ sym e))
+    go (non_empty (words p)) refl f (found-ahead n (place + suc (length p)) ps from to then (λ q qs e. at_next m q qs e ∙ sym e))
   where
     m : At n place p ps
     m = at n place p ps (c p ps refl)
 
-    go : (b : Bool) → nonEmpty (words p) ≡ b → cond b (step place (place + length p)) (found (place + suc (length p)) ps) ≡ Step from to then
+    go : (b : Bool) → non_empty (words p) ≡ b → cond b (step place (place + length p)) (found (place + suc (length p)) ps) ≡ Step from to then
         → (found (place + suc (length p)) ps ≡ Step from to then → Ahead n (place + suc (length p)) from to then) → Ahead n place from to then
     go true w e h =
         let l = not-empty p w in
@@ -209,9 +209,9 @@ walk_end normalised place f = walk normalised place ∙ ap (walked normalised) f
 -- the pieces from there on
 pub piece-step : (normalised : Bytes) (place from to : ℕ) (then : Cursor) → next normalised place ≡ Step from to then
     → worded (cut (is "|") (drop place normalised)) ≡ part from to normalised ∷ worded (cut (is "|") (drop then.at normalised))
-unfolding walkedPieces
-piece-step normalised place from to then f = walk-pieces normalised place ∙ ap (walkedPieces normalised) f
+unfolding walked_pieces
+piece-step normalised place from to then f = walk-pieces normalised place ∙ ap (walked_pieces normalised) f
 
 pub piece-end : (normalised : Bytes) (place : ℕ) → next normalised place ≡ End → worded (cut (is "|") (drop place normalised)) ≡ []
-unfolding walkedPieces
-piece-end normalised place f = walk-pieces normalised place ∙ ap (walkedPieces normalised) f
+unfolding walked_pieces
+piece-end normalised place f = walk-pieces normalised place ∙ ap (walked_pieces normalised) f

@@ -4,8 +4,8 @@ use Rattle.std.specs.Prelude.{◌≡◌, refl, Bool, true, false, cond, not, [],
 use Rattle.std.proofs.lemmas.Bool.{false≢true}
 use native.Mathlib.Omega.{arith}
 use Rattle.std.proofs.Common.{length-append}
-use Rattle.rules.specs.Text.Lists.{kept, nonEmpty}
-use Rattle.rules.specs.Text.Bytes.{Bytes, Words, white, cut, words, afterEach, joinedBy, joined}
+use Rattle.rules.specs.Text.Lists.{kept, non_empty}
+use Rattle.rules.specs.Text.Bytes.{Bytes, Words, white, cut, words, after_each, joined_by, joined}
 use Rattle.laws_text.specs.Passes.{in_word, grow, words-cons}
 
 unfoldable pub size : Words → ℕ
@@ -19,18 +19,18 @@ size-append (w ∷ ws) us = omega (arith, size-append ws us)
 
 -- ---- as they are written
 
-pub spaced-size : (ws : Words) → length (afterEach (32 ∷ []) ws) ≡ size ws
-unfolding size afterEach
+pub spaced-size : (ws : Words) → length (after_each (32 ∷ []) ws) ≡ size ws
+unfolding size after_each
 spaced-size [] = refl
-spaced-size (w ∷ ws) = omega (arith, length-append w (afterEach (32 ∷ []) ws), spaced-size ws)
+spaced-size (w ∷ ws) = omega (arith, length-append w (after_each (32 ∷ []) ws), spaced-size ws)
 
 pub joined-size : (ws : Words) → length (joined ws) ≡ size ws - 1
-unfolding size joined joinedBy
+unfolding size joined joined_by
 joined-size [] = omega arith
-joined-size (w ∷ ws) = omega (arith, length-append w (afterEach (32 ∷ []) ws), spaced-size ws)
+joined-size (w ∷ ws) = omega (arith, length-append w (after_each (32 ∷ []) ws), spaced-size ws)
 
-pub some_size : (ws : Words) → nonEmpty ws ≡ true → 1 ≤ size ws
-unfolding size nonEmpty
+pub some_size : (ws : Words) → non_empty ws ≡ true → 1 ≤ size ws
+unfolding size non_empty
 some_size [] e = absurd (false≢true e)
 some_size (w ∷ ws) e = omega arith
 
@@ -48,7 +48,7 @@ size-grow x n false ws h = omega (arith, h)
 
 words-within : (t : Bytes) → size (words t) ≤ length t + cond (in_word t) 1 0
 unfolding in_word
-words-within [] = unfold words kept cut nonEmpty size in omega arith
+words-within [] = unfold words kept cut non_empty size in omega arith
 words-within (x ∷ t) = rw (words-cons x t) (go (white x) (words-within t))
   where
     go : (b : Bool) → size (words t) ≤ length t + cond (in_word t) 1 0

@@ -10,26 +10,26 @@ use lib.Dec.{eqb, leb, ltb}
 use lib.ListN.{length, drop, get_or, drop_of_length-le}
 use lib.Seq.{drop-cons}
 use Rattle.rules.specs.Text.Ascii.{ascii, is}
-use Rattle.rules.specs.Text.Bytes.{Bytes, white, starts, replaceFrom, replace, trimStart, trimEnd, trimmed}
-use Rattle.rules.specs.Text.Normal.{Replacement, run, becomes, subscriptBecomes, replacements, squeezed, continued, normal}
+use Rattle.rules.specs.Text.Bytes.{Bytes, white, starts, replace_from, replace, trim_start, trim_end, trimmed}
+use Rattle.rules.specs.Text.Normal.{Replacement, run, becomes, subscript_becomes, replacements, squeezed, continued, normal}
 use Rattle.rules.specs.Text.Lists.{all_of}
 use Rattle.laws_lists.specs.Tests.{and_left, and_right}
-use Rattle.laws_text.specs.Passes.{keep, trimEnd-cons}
+use Rattle.laws_text.specs.Passes.{keep, trim_end-cons}
 use Rattle.laws_text.specs.Sizes.{weight, length-weight}
 use Rattle.text.specs.Wrote.{Wrote, Holds}
 use Rattle.text.proofs.Wrote.{wrote-holds}
 use Rattle.text.proofs.Squeezed.{left, left_end, left_after, left_word, left-space, left-start}
-use Rattle.normalise.specs.Calm.{kind, follows, calmFrom}
+use Rattle.normalise.specs.Calm.{kind, follows, calm_from}
 
 -- ---- the first byte
 
-module _ (last x : ℕ) (t : Bytes) (e : calmFrom last (x ∷ t) ≡ true) where
+module _ (last x : ℕ) (t : Bytes) (e : calm_from last (x ∷ t) ≡ true) where
   calm-first : follows last (kind x) ≡ true
-  unfolding calmFrom
+  unfolding calm_from
   calm-first = and_left (follows last (kind x)) _ e
 
-  calm-rest : calmFrom (kind x) t ≡ true
-  unfolding calmFrom
+  calm-rest : calm_from (kind x) t ≡ true
+  unfolding calm_from
   calm-rest = and_right (follows last (kind x)) _ e
 
 -- ---- kinds
@@ -135,18 +135,18 @@ space-white : (x : ℕ) → x ≡ 32 → white x ≡ true
 unfolding white
 space-white x e = ap white e
 
-not_last : calmFrom 2 [] ≡ true → ⊥
-unfolding calmFrom
+not_last : calm_from 2 [] ≡ true → ⊥
+unfolding calm_from
 not_last e = false≢true e
 
 -- what is left within a word, and after one
 abbrev Word-left : Bytes → Type 0
-Word-left t = (last : ℕ) → last < 2 → calmFrom last t ≡ true → left 1 t ≡ t
+Word-left t = (last : ℕ) → last < 2 → calm_from last t ≡ true → left 1 t ≡ t
 
 abbrev Space-left : Bytes → Type 0
-Space-left t = calmFrom 2 t ≡ true → left 2 t ≡ 32 ∷ t
+Space-left t = calm_from 2 t ≡ true → left 2 t ≡ 32 ∷ t
 
-byte-in : (last x : ℕ) (t : Bytes) → Word-left t → Space-left t → calmFrom last (x ∷ t) ≡ true → (k : ℕ) → kind x ≡ k → left 1 (x ∷ t) ≡ x ∷ t
+byte-in : (last x : ℕ) (t : Bytes) → Word-left t → Space-left t → calm_from last (x ∷ t) ≡ true → (k : ℕ) → kind x ≡ k → left 1 (x ∷ t) ≡ x ∷ t
 byte-in last x t v w e zero f =
     left_word x t 1 (not-two (omega arith)) (word_byte x 0 f (omega arith))
     ∙ ap (λ (u : Bytes). x ∷ u) (v (kind x) (omega (arith, f)) (calm-rest last x t e))
@@ -155,11 +155,11 @@ byte-in last x t v w e (suc zero) f =
     ∙ ap (λ (u : Bytes). x ∷ u) (v (kind x) (omega (arith, f)) (calm-rest last x t e))
 byte-in last x t v w e (suc (suc zero)) f =
     left_after x t (space-white x (is-space x f))
-    ∙ w (ap (λ (k : ℕ). calmFrom k t) (sym f) ∙ calm-rest last x t e)
+    ∙ w (ap (λ (k : ℕ). calm_from k t) (sym f) ∙ calm-rest last x t e)
     ∙ ap (λ (y : ℕ). y ∷ t) (sym (is-space x f))
 byte-in last x t v w e (suc (suc (suc k))) f = absurd (false≢true (sym (odd-stops last (kind x) (omega (arith, f))) ∙ calm-first last x t e))
 
-plain_in : (x : ℕ) (t : Bytes) → Word-left t → calmFrom 2 (x ∷ t) ≡ true → (white x ≡ false) × (left 1 t ≡ t)
+plain_in : (x : ℕ) (t : Bytes) → Word-left t → calm_from 2 (x ∷ t) ≡ true → (white x ≡ false) × (left 1 t ≡ t)
 plain_in x t v e = let f = plain-after (kind x) (calm-first 2 x t e) in (word_byte x 0 f (omega arith), v (kind x) (omega (arith, f)) (calm-rest 2 x t e))
 
 all_left : (t : Bytes) → Word-left t × Space-left t
@@ -170,7 +170,7 @@ all_left (x ∷ t) =
       λ e. let p = plain_in x t i.0 e in left-space x t p.0 ∙ ap (λ (u : Bytes). 32 ∷ x ∷ u) p.1,
     )
 
-calm-squeezed : (t : Bytes) → calmFrom 2 t ≡ true → squeezed t ≡ t
+calm-squeezed : (t : Bytes) → calm_from 2 t ≡ true → squeezed t ≡ t
 unfolding squeezed
 calm-squeezed [] e = absurd (not_last e)
 calm-squeezed (x ∷ t) e =
@@ -180,14 +180,14 @@ calm-squeezed (x ∷ t) e =
 -- ---- nothing is trimmed
 
 module _ (test : ℕ → Bool) (stays : (x : ℕ) → kind x ≡ 0 → test x ≡ false) where
-  ends : (last : ℕ) (t : Bytes) → calmFrom last t ≡ true → trimEnd test t ≡ t
-  unfolding trimEnd keep calmFrom
+  ends : (last : ℕ) (t : Bytes) → calm_from last t ≡ true → trim_end test t ≡ t
+  unfolding trim_end keep calm_from
   ends last [] e = refl
-  ends last (x ∷ []) e = let f : kind x ≡ 0 = eqb-true (kind x) 0 (calm-rest last x [] e) in trimEnd-cons test x [] ∙ rw (stays x f) refl
-  ends last (x ∷ y ∷ t) e = let f = ends (kind x) (y ∷ t) (calm-rest last x (y ∷ t) e) in trimEnd-cons test x (y ∷ t) ∙ rw f refl
+  ends last (x ∷ []) e = let f : kind x ≡ 0 = eqb-true (kind x) 0 (calm-rest last x [] e) in trim_end-cons test x [] ∙ rw (stays x f) refl
+  ends last (x ∷ y ∷ t) e = let f = ends (kind x) (y ∷ t) (calm-rest last x (y ∷ t) e) in trim_end-cons test x (y ∷ t) ∙ rw f refl
 
-  calm-trimmed : (t : Bytes) → calmFrom 2 t ≡ true → trimmed test t ≡ t
-  unfolding trimmed trimStart
+  calm-trimmed : (t : Bytes) → calm_from 2 t ≡ true → trimmed test t ≡ t
+  unfolding trimmed trim_start
   calm-trimmed [] e = absurd (not_last e)
   calm-trimmed (x ∷ t) e = let f = stays x (plain-after (kind x) (calm-first 2 x t e)) in rw f (ends 2 (x ∷ t) e)
 
@@ -195,10 +195,10 @@ module _ (test : ℕ → Bool) (stays : (x : ℕ) → kind x ≡ 0 → test x �
 
 -- no calm text begins with `old`
 unfoldable Quiet : Bytes → Type 0
-Quiet old = (last x : ℕ) (t : Bytes) → calmFrom last (x ∷ t) ≡ true → starts old (x ∷ t) ≡ false
+Quiet old = (last x : ℕ) (t : Bytes) → calm_from last (x ∷ t) ≡ true → starts old (x ∷ t) ≡ false
 
-calm-replaced : (old new : Bytes) → Quiet old → (last : ℕ) (t : Bytes) → calmFrom last t ≡ true → replace old new t ≡ t
-unfolding replace replaceFrom Quiet
+calm-replaced : (old new : Bytes) → Quiet old → (last : ℕ) (t : Bytes) → calm_from last t ≡ true → replace old new t ≡ t
+unfolding replace replace_from Quiet
 calm-replaced old new q last [] e = refl
 calm-replaced old new q last (x ∷ t) e = rw (q last x t e) (ap (λ (u : Bytes). x ∷ u) (calm-replaced old new q (kind x) t (calm-rest _ _ _ e)))
 
@@ -241,27 +241,27 @@ odd-quiet (p ∷ q ∷ old) e = go (ltb 2 (kind p)) refl e
     go true f g = odd-first p (q ∷ old) (ltb-true 2 (kind p) f)
     go false f g = odd-second p q old (not-true (follows (kind p) (kind q)) g)
 
-abbrev oddOld : Replacement → Bool
-oddOld r = odd r.old
+abbrev odd_old : Replacement → Bool
+odd_old r = odd r.old
 
-all-odd : all_of oddOld replacements ≡ true
-unfolding all_of odd replacements becomes subscriptBecomes ascii kind follows
+all-odd : all_of odd_old replacements ≡ true
+unfolding all_of odd replacements becomes subscript_becomes ascii kind follows
 all-odd = refl
 
-calm_run : (rs : List Replacement) → all_of oddOld rs ≡ true → (t : Bytes) → calmFrom 2 t ≡ true → run rs t ≡ t
+calm_run : (rs : List Replacement) → all_of odd_old rs ≡ true → (t : Bytes) → calm_from 2 t ≡ true → run rs t ≡ t
 unfolding run all_of
 calm_run [] o t e = refl
 calm_run (r ∷ rs) o t e =
-    let quiet = odd-quiet r.old (and_left (odd r.old) (all_of oddOld rs) o) in
-    rw (calm-replaced r.old r.new quiet 2 t e) (calm_run rs (and_right (odd r.old) (all_of oddOld rs) o) t e)
+    let quiet = odd-quiet r.old (and_left (odd r.old) (all_of odd_old rs) o) in
+    rw (calm-replaced r.old r.new quiet 2 t e) (calm_run rs (and_right (odd r.old) (all_of odd_old rs) o) t e)
 
-calm-continued : (t : Bytes) → calmFrom 2 t ≡ true → continued t ≡ t
+calm-continued : (t : Bytes) → calm_from 2 t ≡ true → continued t ≡ t
 unfolding continued ascii odd kind
 calm-continued t e = calm-replaced _ _ (odd-quiet (10 ∷ 58 ∷ []) refl) 2 t e
 
 -- ---- it is its own normal form
 
-calm-normal : (t : Bytes) → calmFrom 2 t ≡ true → normal t ≡ t
+calm-normal : (t : Bytes) → calm_from 2 t ≡ true → normal t ≡ t
 unfolding normal
 calm-normal t e =
     ap (λ (u : Bytes). squeezed (run replacements (squeezed (continued (trimmed (is ":") u))))) (calm-trimmed white (λ x f. word_byte x 0 f (omega arith)) t e)
@@ -271,36 +271,36 @@ calm-normal t e =
     ∙ ap squeezed (calm_run replacements all-odd t e)
     ∙ calm-squeezed t e
 
-calm-white : (t : Bytes) → calmFrom 2 t ≡ true → trimmed white t ≡ t
+calm-white : (t : Bytes) → calm_from 2 t ≡ true → trimmed white t ≡ t
 calm-white t e = calm-trimmed white (λ x f. word_byte x 0 f (omega arith)) t e
 
 -- it has room where its weight has, and stands in a buffer as its own normal form
-pub calm-room : (t : Bytes) {x : ℕ} → calmFrom 2 t ≡ true → weight (trimmed white t) ≤ x → 0 + length t ≤ x
+pub calm-room : (t : Bytes) {x : ℕ} → calm_from 2 t ≡ true → weight (trimmed white t) ≤ x → 0 + length t ≤ x
 calm-room t e h = omega (arith, length-weight t, ap weight (calm-white t e), h)
 
-pub calm-holds : (t : Bytes) {a₀ a : Bytes} {r : ℕ} → calmFrom 2 t ≡ true → Wrote t a₀ r a → Holds (normal t) r a
+pub calm-holds : (t : Bytes) {a₀ a : Bytes} {r : ℕ} → calm_from 2 t ≡ true → Wrote t a₀ r a → Holds (normal t) r a
 calm-holds t e w = rw (calm-normal t e) (wrote-holds w)
 
 -- ---- `is_calm`: every byte before i may follow the one before it, so the bytes from i on decide
 
 pub record Calms (t : Bytes) (last i : ℕ) : Type 0 where
   pub within : i ≤ length t
-  pub same : calmFrom 2 t ≡ calmFrom last (drop i t)
+  pub same : calm_from 2 t ≡ calm_from last (drop i t)
 
 pub calms-none : (t : Bytes) → Calms t 2 0
 calms-none t = record { within = omega arith; same = refl }
 
 module _ {t : Bytes} {last i : ℕ} (m : Calms t last i) where
-  pub calms-end : length t ≤ i → eqb last 0 ≡ calmFrom 2 t
-  unfolding calmFrom
-  calms-end h = sym (m.same ∙ ap (calmFrom last) (drop_of_length-le t h))
+  pub calms-end : length t ≤ i → eqb last 0 ≡ calm_from 2 t
+  unfolding calm_from
+  calms-end h = sym (m.same ∙ ap (calm_from last) (drop_of_length-le t h))
 
   module _ {k : ℕ} (h : i < length t) (e : k ≡ kind (get_or t i 0)) where
-    next : calmFrom 2 t ≡ (follows last k && calmFrom k (drop (i + 1) t))
-    unfolding calmFrom
-    next = m.same ∙ ap (calmFrom last) (drop-cons t i 0 h) ∙ rw (← e, add-one i) refl
+    next : calm_from 2 t ≡ (follows last k && calm_from k (drop (i + 1) t))
+    unfolding calm_from
+    next = m.same ∙ ap (calm_from last) (drop-cons t i 0 h) ∙ rw (← e, add-one i) refl
 
-    pub calms-stop : follows last k ≡ false → false ≡ calmFrom 2 t
+    pub calms-stop : follows last k ≡ false → false ≡ calm_from 2 t
     calms-stop f = sym (next ∙ rw f refl)
 
     pub calms-more : follows last k ≡ true → Calms t k (i + 1)

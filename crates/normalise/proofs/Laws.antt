@@ -3,7 +3,7 @@ use mathlib.Core.Path.{◌≡◌, refl}
 use mathlib.Core.Bool.{true}
 use Prim.Native.Nat.{ℕ, ◌≤◌}
 use lib.ListN.{length, take}
-use Rattle.rules.specs.Text.Bytes.{Bytes, inDomain}
+use Rattle.rules.specs.Text.Bytes.{Bytes, in_domain}
 use Rattle.rules.specs.Text.Normal.{normal, normalise}
 use Rattle.rules.specs.Text.Comments.{stripped}
 use Rattle.rules.specs.Text.Reader.{definition, define}
@@ -18,7 +18,7 @@ unfolding normalise
 is_normal t = refl
 
 -- the normal form, as it stands in a, handed out
-pub normalise-so : {t a out out' : Bytes} {n : ℕ} {r : Written} → length t ≤ 4096 → inDomain t ≡ true → Holds (normal t) n a → Lends (answers (take n a)) out r out'
+pub normalise-so : {t a out out' : Bytes} {n : ℕ} {r : Written} → length t ≤ 4096 → in_domain t ≡ true → Holds (normal t) n a → Lends (answers (take n a)) out r out'
     → Writes normalise t out r out'
 normalise-so {t} short domain h w = lends-so short domain (is_normal t) (rw (wrote-front h) at w)
 
@@ -27,6 +27,6 @@ unfolding define definition
 is-definition t = refl
 
 -- the normalised definition, likewise
-pub define-so : {t a out out' : Bytes} {n : ℕ} {r : Written} → length t ≤ 4096 → inDomain t ≡ true → Holds (normal (stripped t)) n a → Lends (answers (take n a)) out r out'
+pub define-so : {t a out out' : Bytes} {n : ℕ} {r : Written} → length t ≤ 4096 → in_domain t ≡ true → Holds (normal (stripped t)) n a → Lends (answers (take n a)) out r out'
     → Writes define t out r out'
 define-so {t} short domain h w = lends-so short domain (is-definition t) (rw (wrote-front h) at w)

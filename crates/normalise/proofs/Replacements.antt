@@ -21,22 +21,22 @@ use Rattle.text.proofs.Replaced.{replace-none}
 use Rattle.normalise.specs.Table.{table}
 
 -- what the code makes of the bytes at `at`
-abbrev pub oldAt : Bytes → ℕ → Bytes
-oldAt rules at = take (at + 2 + get_or rules at 0 - (at + 2)) (drop (at + 2) rules)
+abbrev pub old_at : Bytes → ℕ → Bytes
+old_at rules at = take (at + 2 + get_or rules at 0 - (at + 2)) (drop (at + 2) rules)
 
 abbrev pub end_at : Bytes → ℕ → ℕ
 end_at rules at = at + 2 + get_or rules at 0 + get_or rules (at + 1) 0
 
-abbrev pub newAt : Bytes → ℕ → Bytes
-newAt rules at = take (end_at rules at - (at + 2 + get_or rules at 0)) (drop (at + 2 + get_or rules at 0) rules)
+abbrev pub new_at : Bytes → ℕ → Bytes
+new_at rules at = take (end_at rules at - (at + 2 + get_or rules at 0)) (drop (at + 2 + get_or rules at 0) rules)
 
 -- ---- a replacement at the table's front
 
 record Front (rules : Bytes) (at : ℕ) (r : Replacement) (rs : List Replacement) : Type 0 where
   more : at + 1 < length rules
   last : end_at rules at ≤ length rules
-  old-is : oldAt rules at ≡ r.old
-  new_is : newAt rules at ≡ r.new
+  old-is : old_at rules at ≡ r.old
+  new_is : new_at rules at ≡ r.new
   rest-is : drop (end_at rules at) rules ≡ table rs
 
 front : (rules : Bytes) (at : ℕ) (r : Replacement) (rs : List Replacement) → at ≤ length rules → drop at rules ≡ table (r ∷ rs) → Front rules at r rs
@@ -133,7 +133,7 @@ turn {rules} {text} {a₀} {b₀} {at} {m} {a} {b} s l = go s.rest s.here s.good
 module _ {rules text a₀ b₀ : Bytes} {at m : ℕ} {a b : Bytes} (s : Running rules text a₀ b₀ at m a b) (l : at < length rules) where
   -- what the replacement makes of the text
   abbrev next : Bytes
-  next = replace (oldAt rules at) (newAt rules at) (take m a)
+  next = replace (old_at rules at) (new_at rules at) (take m a)
 
   next-is : next ≡ replace (turn s l).r.old (turn s l).r.new (take m a)
   next-is = rw ((turn s l).front-is.old-is, (turn s l).front-is.new_is)
@@ -150,9 +150,9 @@ module _ {rules text a₀ b₀ : Bytes} {at m : ℕ} {a b : Bytes} (s : Running 
   running-last = (turn s l).front-is.last
 
   -- what `rewrite` asks
-  pub running-asks : (0 < length (oldAt rules at)) × ((m ≤ length a) × ((length next ≤ length a) × (length next ≤ length b)))
+  pub running-asks : (0 < length (old_at rules at)) × ((m ≤ length a) × ((length next ≤ length a) × (length next ≤ length b)))
   running-asks =
-      let p : 0 < length (oldAt rules at) = rw (turn s l).front-is.old-is (turn s l).light-is.pos in
+      let p : 0 < length (old_at rules at) = rw (turn s l).front-is.old-is (turn s l).light-is.pos in
       let w = next-weight in
       let v = length-weight next in
       (p, (s.fits, (omega (arith, s.room-a), omega (arith, s.room-b))))

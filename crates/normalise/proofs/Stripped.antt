@@ -10,7 +10,7 @@ use Rattle.rules.specs.Text.Ascii.{ascii}
 use Rattle.rules.specs.Text.Bytes.{Bytes, white, starts, replace, trimmed}
 use Rattle.rules.specs.Text.Normal.{continued}
 use Rattle.rules.specs.Text.Comments.{newlines, lined, stripped}
-use Rattle.laws_text.specs.Sizes.{weightOf, weight, length-weight, replace-weight, trimmed-weight, newline-weight, newlines-weight, lined-longer}
+use Rattle.laws_text.specs.Sizes.{weight_of, weight, length-weight, replace-weight, trimmed-weight, newline-weight, newlines-weight, lined-longer}
 use Rattle.text.specs.Wrote.{Wrote, Holds}
 use Rattle.text.specs.Places.{ahead}
 use Rattle.text.proofs.Replaced.{replace-none}
@@ -23,7 +23,7 @@ abbrev once : Bytes → Bytes
 once t = replace (13 ∷ 10 ∷ []) (10 ∷ []) t
 
 once-weight : (t : Bytes) → weight (once t) ≤ weight t
-unfolding weight weightOf
+unfolding weight weight_of
 once-weight t = replace-weight (13 ∷ 10 ∷ []) (10 ∷ []) t (omega arith) (omega arith)
 
 newlines-is : (t : Bytes) → newlines t ≡ replace (13 ∷ []) (10 ∷ []) (once t)

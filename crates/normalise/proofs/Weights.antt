@@ -8,7 +8,7 @@ use lib.ListN.{length, take}
 use Rattle.rules.specs.Text.Ascii.{ascii, is}
 use Rattle.rules.specs.Text.Bytes.{Bytes, white, replace, trimmed, words, joined}
 use Rattle.rules.specs.Text.Normal.{replacements, run, squeezed, continued, normal}
-use Rattle.laws_text.specs.Sizes.{weightOf, weight, length-weight, weight-length, replace-weight, replacements-light, run-weight, trimmed-weight, squeezed-weight}
+use Rattle.laws_text.specs.Sizes.{weight_of, weight, length-weight, weight-length, replace-weight, replacements-light, run-weight, trimmed-weight, squeezed-weight}
 use Rattle.text.specs.Wrote.{Wrote, Holds}
 use Rattle.text.proofs.Wrote.{wrote-front, wrote-holds}
 
@@ -20,7 +20,7 @@ abbrev pub begun : Bytes → Bytes
 begun t = squeezed (continued (opened t))
 
 opened-weight : (t : Bytes) → weight (continued (opened t)) ≤ weight (trimmed white t)
-unfolding continued ascii weight weightOf
+unfolding continued ascii weight weight_of
 opened-weight t =
     le_trans (replace-weight (ascii "\n:") (ascii "\n") (opened t) (omega arith) (omega arith)) (trimmed-weight (is ":") (trimmed white t))
 

@@ -21,6 +21,6 @@ unfoldable pub follows : ℕ → ℕ → Bool
 follows last k = cond (ltb 2 k) false (cond (eqb k 2) (eqb last 0) (cond (eqb k 1) (not (eqb last 2)) true))
 
 -- each byte may follow the one before it, and the last is plain
-unfoldable pub calmFrom : ℕ → Bytes → Bool
-calmFrom last [] = eqb last 0
-calmFrom last (x ∷ t) = follows last (kind x) && calmFrom (kind x) t
+unfoldable pub calm_from : ℕ → Bytes → Bool
+calm_from last [] = eqb last 0
+calm_from last (x ∷ t) = follows last (kind x) && calm_from (kind x) t

@@ -1,7 +1,7 @@
 // The call that answers the normalised definition: the text without its comments, in normal form. It is what splitting cuts into steps, and
 // where a record's span is counted.
 ghost use Rattle.std.specs.Prelude.{◌≡◌, true, ◌*◌, ◌<◌, ◌≤◌, length};
-ghost use Rattle.rules.specs.Text.Bytes.{inDomain};
+ghost use Rattle.rules.specs.Text.Bytes.{in_domain};
 ghost use Rattle.rules.specs.Text.Reader.{define};
 ghost use Rattle.rules.specs.Text.Refusal.{Writes};
 
@@ -16,7 +16,7 @@ const FEW: usize = 409;
 // to work in.
 fn answer(text: &[u8], out: &mut [u8], a: &mut [u8], b: &mut [u8], c: &mut [u8]) -> Written
     requires text_len_bound { length text.now ≤ 4096 }
-    requires text_value { inDomain text.now ≡ true }
+    requires text_value { in_domain text.now ≡ true }
     requires text_in_bounds { 10 * length text.now ≤ length a.old }
     requires text_in_bounds_2 { 10 * length text.now ≤ length b.old }
     requires text_in_bounds_3 { 10 * length text.now < length c.old }
@@ -29,7 +29,7 @@ fn answer(text: &[u8], out: &mut [u8], a: &mut [u8], b: &mut [u8], c: &mut [u8])
 // The answer for a short text, over small buffers of its own: to clear large ones would cost more than the rest.
 fn short(text: &[u8], out: &mut [u8]) -> Written
     requires text_len_bound { length text.now ≤ 409 }
-    requires text_value { inDomain text.now ≡ true }
+    requires text_value { in_domain text.now ≡ true }
     ensures { Writes define text.now out.old result out.new }
 {
     let mut a = [0u8; 4096];
@@ -41,7 +41,7 @@ fn short(text: &[u8], out: &mut [u8]) -> Written
 // The answer for any text, over buffers for the longest.
 fn long(text: &[u8], out: &mut [u8]) -> Written
     requires text_len_bound { length text.now ≤ 4096 }
-    requires text_value { inDomain text.now ≡ true }
+    requires text_value { in_domain text.now ≡ true }
     ensures { Writes define text.now out.old result out.new }
 {
     let mut a = [0u8; 40960];

@@ -5,7 +5,7 @@ mod defined;
 mod normal;
 
 ghost use Rattle.std.specs.Prelude.{◌≡◌, true, ◌*◌, ◌≤◌, length};
-ghost use Rattle.rules.specs.Text.Bytes.{inDomain};
+ghost use Rattle.rules.specs.Text.Bytes.{in_domain};
 ghost use Rattle.rules.specs.Text.Normal.{normalise};
 ghost use Rattle.rules.specs.Text.Refusal.{Writes};
 
@@ -22,7 +22,7 @@ const FEW: usize = 409;
 // to work in.
 fn answer(text: &[u8], out: &mut [u8], a: &mut [u8], b: &mut [u8]) -> Written
     requires text_len_bound { length text.now ≤ 4096 }
-    requires text_value { inDomain text.now ≡ true }
+    requires text_value { in_domain text.now ≡ true }
     requires text_in_bounds { 10 * length text.now ≤ length a.old }
     requires text_in_bounds_2 { 10 * length text.now ≤ length b.old }
     ensures { Writes normalise text.now out.old result out.new }
@@ -34,7 +34,7 @@ fn answer(text: &[u8], out: &mut [u8], a: &mut [u8], b: &mut [u8]) -> Written
 // The answer for a short text, over small buffers of its own: to clear large ones would cost more than the rest.
 fn short(text: &[u8], out: &mut [u8]) -> Written
     requires text_len_bound { length text.now ≤ 409 }
-    requires text_value { inDomain text.now ≡ true }
+    requires text_value { in_domain text.now ≡ true }
     ensures { Writes normalise text.now out.old result out.new }
 {
     let mut a = [0u8; 4096];
@@ -45,7 +45,7 @@ fn short(text: &[u8], out: &mut [u8]) -> Written
 // The answer for any text, over buffers for the longest.
 fn long(text: &[u8], out: &mut [u8]) -> Written
     requires text_len_bound { length text.now ≤ 4096 }
-    requires text_value { inDomain text.now ≡ true }
+    requires text_value { in_domain text.now ≡ true }
     ensures { Writes normalise text.now out.old result out.new }
 {
     let mut a = [0u8; 40960];

@@ -7,7 +7,7 @@ ghost use Rattle.rules.specs.Text.Normal.{replacements, run, squeezed, continued
 ghost use Rattle.laws_text.specs.Sizes.{weight};
 ghost use Rattle.text.specs.Wrote.{Wrote, Holds};
 ghost use Rattle.normalise.specs.Table.{table};
-ghost use Rattle.normalise.specs.Calm.{kind, follows, calmFrom};
+ghost use Rattle.normalise.specs.Calm.{kind, follows, calm_from};
 
 use text::{Edge, find, put, replace_from, replace_into, squeeze_into, trim};
 
@@ -120,7 +120,7 @@ fn may_follow(last: u8, k: u8) -> bool
 
 // Is it seen at once that the text is its own normal form? Most steps of a normalised text are.
 fn is_calm(text: &[u8]) -> bool
-    ensures { result ≡ calmFrom 2 text.now }
+    ensures { result ≡ calm_from 2 text.now }
 {
     let mut last: u8 = 2;
     let mut i = 0;

@@ -10,16 +10,16 @@ use lib.ListN.{length, get_or}
 use Rattle.rules.specs.Text.Lists.{all_of}
 use Rattle.rules.specs.Operators.Arguments.{size}
 use Rattle.laws_lists.specs.Tests.{so, and_left, and_right}
-use Rattle.numbers.specs.Axes.{isAxis}
+use Rattle.numbers.specs.Axes.{is_axis}
 
 pub record Sized (x : ℤ) : Type 0 where
   pub low : 1 ≤ size x
   pub high : size x ≤ 4
 
-pub axis-at : (l : List ℤ) (i : ℕ) → all_of isAxis l ≡ true → i < length l → Sized (get_or l i (pos 0))
-unfolding all_of isAxis
+pub axis-at : (l : List ℤ) (i : ℕ) → all_of is_axis l ≡ true → i < length l → Sized (get_or l i (pos 0))
+unfolding all_of is_axis
 axis-at [] i e h = absurd (omega (arith, h))
 axis-at (x ∷ l) zero e h =
-    let own = and_left (isAxis x) _ e in
+    let own = and_left (is_axis x) _ e in
     record { low = leb→le _ _ (so (and_left (leb 1 (size x)) _ own)); high = leb→le _ _ (so (and_right (leb 1 (size x)) _ own)) }
-axis-at (x ∷ l) (suc i) e h = axis-at l i (and_right (isAxis x) _ e) (omega (arith, h))
+axis-at (x ∷ l) (suc i) e h = axis-at l i (and_right (is_axis x) _ e) (omega (arith, h))

@@ -11,10 +11,10 @@ use lib.Dec.{ltb}
 use lib.IntN.{ℤ}
 use Rattle.rules.specs.Text.Ascii.{ascii}
 use Rattle.rules.specs.Text.Lists.{all_of}
-use Rattle.rules.specs.Text.Bytes.{Bytes, afterEach, joinedBy}
+use Rattle.rules.specs.Text.Bytes.{Bytes, after_each, joined_by}
 use Rattle.rules.specs.Text.Decimal.{minus}
 use Rattle.rules.specs.Operators.Arguments.{size, spelling, listing}
-use Rattle.rules.specs.Pipeline.Record.{nineDigits}
+use Rattle.rules.specs.Pipeline.Record.{nine_digits}
 use Rattle.text.specs.Wrote.{Wrote, WroteAt}
 use Rattle.rules.specs.Text.Numerals.{digits}
 use Rattle.laws_lists.specs.Tests.{and_left, and_right}
@@ -36,8 +36,8 @@ all-at test (x ∷ l) (suc i) d h a = all-at test l i d (omega arith) (and_right
 
 -- ---- a number
 
-pub nine-less : (x : ℤ) {m : ℕ} → m ≡ size x → nineDigits x ≡ true → m < 1000000000
-unfolding nineDigits
+pub nine-less : (x : ℤ) {m : ℕ} → m ≡ size x → nine_digits x ≡ true → m < 1000000000
+unfolding nine_digits
 nine-less x e h = omega (arith, leb-true (size x) 999999999 h)
 
 module _ (x : ℤ) {m : ℕ} (e : m ≡ size x) {dst : Bytes} {at : ℕ} (h : Room (spelling x) at dst) where
@@ -97,12 +97,12 @@ module _ (x : ℤ) {i : ℕ} {dst : Bytes} {at : ℕ} (h : Room (numbered (ltb 0
     first-written w = as_written first-is w
 
 -- the numbers with a comma between
-after-rest : (l : List ℤ) → afterEach (44 ∷ []) (map spelling l) ≡ rest numbered true l
-unfolding afterEach rest numbered
+after-rest : (l : List ℤ) → after_each (44 ∷ []) (map spelling l) ≡ rest numbered true l
+unfolding after_each rest numbered
 after-rest [] = refl
 after-rest (x ∷ l) = ap (λ (t : Bytes). 44 ∷ (spelling x ++ t)) (after-rest l)
 
 pub listing-rest : (l : List ℤ) → listing l ≡ rest numbered false l
-unfolding listing joinedBy rest numbered ascii
+unfolding listing joined_by rest numbered ascii
 listing-rest [] = refl
 listing-rest (x ∷ l) = ap (λ (t : Bytes). spelling x ++ t) (after-rest l)

@@ -3,8 +3,8 @@ use Rattle.std.specs.Prelude.{ℕ, Bool, ◌&&◌, leb, eqb, ℤ}
 use Rattle.rules.specs.Operators.Arguments.{size}
 
 -- is the argument of that size?
-unfoldable pub ofSize : ℕ → ℤ → Bool
-ofSize m x = eqb m (size x)
+unfoldable pub of_size : ℕ → ℤ → Bool
+of_size m x = eqb m (size x)
 
 -- is its size from 1 to n?
 unfoldable pub up_to : ℕ → ℤ → Bool

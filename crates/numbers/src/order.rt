@@ -1,8 +1,8 @@
 // The test of an order: used where a step is prepared, and where a record is tested.
 ghost use Rattle.std.specs.Prelude.{◌≡◌, length};
 ghost use Rattle.rules.specs.Text.Lists.{all_of, any_of};
-ghost use Rattle.rules.specs.Operators.Arguments.{isDistinct, is_order};
-ghost use Rattle.numbers.specs.Order.{ofSize, up_to};
+ghost use Rattle.rules.specs.Operators.Arguments.{is_distinct, is_order};
+ghost use Rattle.numbers.specs.Order.{of_size, up_to};
 
 use crate::signs::size_at;
 
@@ -26,7 +26,7 @@ fn are_up_to(n: usize, l: &[i32]) -> bool
 
 // Is there one in l of that size?
 fn is_among(m: usize, l: &[i32]) -> bool
-    ensures { result ≡ any_of (ofSize m) l.now }
+    ensures { result ≡ any_of (of_size m) l.now }
 {
     let mut i = 0;
     while i < l.len() {
@@ -40,7 +40,7 @@ fn is_among(m: usize, l: &[i32]) -> bool
 
 // Is no size in l repeated?
 fn is_distinct(l: &[i32]) -> bool
-    ensures { result ≡ isDistinct l.now }
+    ensures { result ≡ is_distinct l.now }
 {
     let mut i = 0;
     while i < l.len() {

@@ -3,7 +3,7 @@ ghost use Rattle.std.specs.Prelude.{◌≡◌, true, ◌<◌, ◌≤◌, length,
 ghost use Rattle.rules.specs.Text.Lists.{all_of};
 ghost use Rattle.rules.specs.Text.Decimal.{signed, minus};
 ghost use Rattle.rules.specs.Operators.Arguments.{size};
-ghost use Rattle.numbers.specs.Axes.{isAxis, AxisAt};
+ghost use Rattle.numbers.specs.Axes.{is_axis, AxisAt};
 
 // Is x below zero?
 pub fn is_minus(x: i32) -> bool
@@ -50,7 +50,7 @@ pub fn minus_at(l: &[i32], i: usize) -> bool
 
 // The place, counted from 0, that argument i names.
 pub fn axis_at(l: &[i32], i: usize) -> usize
-    requires l_value { all_of isAxis l.now ≡ true }
+    requires l_value { all_of is_axis l.now ≡ true }
     requires i_in_bounds { i < length l.now }
     ensures { AxisAt l.now i result }
 {

@@ -13,7 +13,7 @@ use lib.Seq.{drop-drop, take-add, take-take, drop_at, length-take-le}
 use Rattle.rules.specs.Text.Ascii.{is}
 use Rattle.rules.specs.Text.Lists.{any_of, all_of}
 use Rattle.rules.specs.Text.Bytes.{Bytes, before, behind}
-use Rattle.rules.specs.Text.Parameters.{parameter, name, valueIn, placedWord, placedName}
+use Rattle.rules.specs.Text.Parameters.{parameter, name, value_in, placed_word, placed_name}
 use Rattle.rules.specs.Text.Reader.{part}
 use Rattle.text.specs.Runs.{Run}
 use Rattle.text.proofs.RunEnd.{drop-next, other, part-rest, length_part, run-stops}
@@ -125,7 +125,7 @@ module _ (s : Bytes) {from to q n : ℕ} (z : Spelt s n) (f : from ≤ to) (l : 
   -- with `=` after q bytes, and before a second one or the end after r
   pub part_cut : {r : ℕ} (first : Bool) → q < to - from → Run (other (is "=")) (part from to s) (q + 1) r
       → IsPart s from to first (record { key = from; key_end = from + q; value = from + q + 1; value_end = from + r })
-  unfolding element placedName placedWord valueIn parameter
+  unfolding element placed_name placed_word value_in parameter
   part_cut {r} first h n =
       let g : q < length (part from to s) = omega (arith, size) in
       let a : any_of (is "=") (part from to s) ≡ true = run-any (is "=") m g in
@@ -152,7 +152,7 @@ module _ (s : Bytes) {from to q n : ℕ} (z : Spelt s n) (f : from ≤ to) (l : 
 
     -- without, the first is the name
     pub part-name : IsPart s from to true (record { key = n; key_end = n + 5; value = from; value_end = to })
-    unfolding element placedName name
+    unfolding element placed_name name
     part-name =
         let in-text : ltb (length s - from) 9 ≡ false = le-ltb (length s - from) 9 (omega (arith, z.ends)) in
         record {
@@ -162,7 +162,7 @@ module _ (s : Bytes) {from to q n : ℕ} (z : Spelt s n) (f : from ≤ to) (l : 
 
     -- and another is a key
     pub part-key : IsPart s from to false (record { key = from; key_end = to; value = n + 5; value_end = n + 9 })
-    unfolding element placedWord valueIn parameter
+    unfolding element placed_word value_in parameter
     part-key =
         let behind-it : ltb (length s - (n + 5)) 9 ≡ true = lt-ltb (length s - (n + 5)) 9 (omega (arith, z.ends)) in
         let here : from + length (part from to s) ≡ to = omega (arith, size) in

@@ -7,15 +7,15 @@ use native.Mathlib.Omega.{arith}
 use lib.ListN.{length, take, drop, length-map, drop_of_length-le}
 use lib.Seq.{take-take, length-take-le}
 use Rattle.rules.specs.Text.Bytes.{Bytes, white, words}
-use Rattle.rules.specs.Text.Parameters.{Placed, enteredBy, enteredAllBy}
+use Rattle.rules.specs.Text.Parameters.{Placed, entered_by, entered_all_by}
 use Rattle.rules.specs.Text.Reader.{part}
 use Rattle.laws_text.specs.Table.{entered-map}
 use Rattle.text.specs.Runs.{Run}
 use Rattle.text.proofs.RunEnd.{other}
 use Rattle.laws_text.specs.Passes.{words-nil}
-use Rattle.parameters.specs.Parts.{Parts, Entered, placed_of, held, placedIn, partsWith, Good, Enters}
+use Rattle.parameters.specs.Parts.{Parts, Entered, placed_of, held, placed_in, parts_with, Good, Enters}
 use Rattle.parameters.specs.declared.table.Part.{Part}
-use Rattle.parameters.specs.Elements.{Spelt, Spot, wordsAt, element, elementsAt, IsPart, placedAll, EntersAll}
+use Rattle.parameters.specs.Elements.{Spelt, Spot, words_at, element, elements_at, IsPart, placed_all, EntersAll}
 use Rattle.parameters.proofs.Growth.{entered-all-longer}
 use Rattle.parameters.proofs.Entry.{enters-no-room, enters-table, enters-good}
 use Rattle.parameters.proofs.Cut.{drop-take}
@@ -26,14 +26,14 @@ key q = q.given.key
 
 -- the elements of the words of a text from a place on
 abbrev left : Bytes → ℕ → Bool → ℕ → List Placed
-left s to first k = elementsAt first (wordsAt k (drop k (take to s)))
+left s to first k = elements_at first (words_at k (drop k (take to s)))
 
 -- the words from k on, into the table so far, give what all give
 pub record Words-left (s : Bytes) (t : Parts) (from to : ℕ) (first : Bool) (table : Parts) (name : Bool) (k : ℕ) : Type 0 where
   pub within : k ≤ to
   pub whole : to ≤ length s
   pub good : Good s table
-  pub same : placedAll (left s to name k) (placedIn s table) ≡ placedAll (left s to first from) (placedIn s t)
+  pub same : placed_all (left s to name k) (placed_in s table) ≡ placed_all (left s to first from) (placed_in s t)
 
 -- words in front of `_nametrue` are within the text
 pub in-front : {s : Bytes} {n to : ℕ} → Spelt s n → to ≤ n → to ≤ length s
@@ -46,11 +46,11 @@ part-front : (s : Bytes) (to a e : ℕ) → a ≤ e → e ≤ to → to ≤ leng
 part-front s to a e h l g =
     ap (take (e - a)) (drop-take a to s (omega arith) (omega arith)) ∙ take-take (e - a) (to - a) (drop a s) (omega arith)
 
-entered-none : {s : Bytes} {t table : Parts} {from to k : ℕ} {first name : Bool} → Words-left s t from to first table name k → wordsAt k (drop k (take to s)) ≡ []
+entered-none : {s : Bytes} {t table : Parts} {from to k : ℕ} {first name : Bool} → Words-left s t from to first table name k → words_at k (drop k (take to s)) ≡ []
     → EntersAll s t (left s to first from) (record { full = false; table = table })
-unfolding enteredAllBy elementsAt
+unfolding entered_all_by elements_at
 entered-none {s} {t} {table} {from} {to} {k} {first} {name} m e = record {
-  table = λ f. sym (ap (λ (l : List Spot). placedAll (elementsAt name l) (placedIn s table)) e) ∙ m.same;
+  table = λ f. sym (ap (λ (l : List Spot). placed_all (elements_at name l) (placed_in s table)) e) ∙ m.same;
   good = λ f. m.good;
   no_room = λ f. absurd (false≢true f);
 }
@@ -74,16 +74,16 @@ module _ {s : Bytes} {t table : Parts} {from to k : ℕ} {first name : Bool} (m 
       spells = sym (is.spells ∙ ap (λ (u : Bytes). element name (record { at = a; word = u })) (sym (part-front s to a e word-ends.0 word-ends.1 m.whole)))
 
       next : left s to name k ≡ placed_of s w ∷ left s to false e
-      unfolding elementsAt
-      next = ap (elementsAt name) (spot-there p q h) ∙ ap (λ (x : Placed). x ∷ left s to false e) spells
+      unfolding elements_at
+      next = ap (elements_at name) (spot-there p q h) ∙ ap (λ (x : Placed). x ∷ left s to false e) spells
 
       -- the word entered
-      into : map (placed_of s) (partsWith s w (held table)) ≡ enteredBy key (placed_of s w) (placedIn s table)
+      into : map (placed_of s) (parts_with s w (held table)) ≡ entered_by key (placed_of s w) (placed_in s table)
       into = entered-map key (placed_of s) w (held table)
 
-      all-of : placedAll (left s to false e) (map (placed_of s) (partsWith s w (held table))) ≡ placedAll (left s to first from) (placedIn s t)
-      unfolding enteredAllBy
-      all-of = ap (placedAll (left s to false e)) into ∙ sym (ap (λ (qs : List Placed). placedAll qs (placedIn s table)) next) ∙ m.same
+      all-of : placed_all (left s to false e) (map (placed_of s) (parts_with s w (held table))) ≡ placed_all (left s to first from) (placed_in s t)
+      unfolding entered_all_by
+      all-of = ap (placed_all (left s to false e)) into ∙ sym (ap (λ (qs : List Placed). placed_all qs (placed_in s table)) next) ∙ m.same
 
       pub words-full : r.full ≡ true → EntersAll s t (left s to first from) r
       words-full f = record {
@@ -91,7 +91,7 @@ module _ {s : Bytes} {t table : Parts} {from to k : ℕ} {first name : Bool} (m 
         good = λ g. absurd (true≢false (sym f ∙ g));
         no_room =
             λ g. rw (← all-of)
-            (omega (arith, enters-no-room n f, length-map (partsWith s w (held table)) (placed_of s), entered-all-longer key (left s to false e) (map (placed_of s) (partsWith s w (held table)))));
+            (omega (arith, enters-no-room n f, length-map (parts_with s w (held table)) (placed_of s), entered-all-longer key (left s to false e) (map (placed_of s) (parts_with s w (held table)))));
       }
 
       pub words_more : r.full ≡ false → Words-left s t from to first r.table false e
@@ -99,5 +99,5 @@ module _ {s : Bytes} {t table : Parts} {from to k : ℕ} {first name : Bool} (m 
         within = word-ends.1;
         whole = m.whole;
         good = enters-good n f;
-        same = ap (λ (l : List Part). placedAll (left s to false e) (map (placed_of s) l)) (enters-table n f) ∙ all-of;
+        same = ap (λ (l : List Part). placed_all (left s to false e) (map (placed_of s) l)) (enters-table n f) ∙ all-of;
       }

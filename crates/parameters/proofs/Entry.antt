@@ -9,9 +9,9 @@ use native.Mathlib.Omega.{arith}
 use lib.ListN.{length, take, drop, set, length-append, length-drop, length-set, drop_of_length-le}
 use lib.Seq.{length-take-le, take-set-lt, set_split, drop-drop}
 use Rattle.rules.specs.Text.Bytes.{Bytes}
-use Rattle.rules.specs.Text.Parameters.{precedes, enteredBy}
+use Rattle.rules.specs.Text.Parameters.{precedes, entered_by}
 use Rattle.parameters.specs.declared.table.Part.{Part}
-use Rattle.parameters.specs.Parts.{Parts, Entered, key_of, held, Within, AllWithin, Good, goesFirst, isFirst, partsWith, Place, Inserted, Enters}
+use Rattle.parameters.specs.Parts.{Parts, Entered, key_of, held, Within, AllWithin, Good, goes_first, is_first, parts_with, Place, Inserted, Enters}
 use Rattle.parameters.proofs.Places.{held-length}
 
 -- ---- within the text
@@ -35,41 +35,41 @@ within-drop s (x ∷ l) (suc i) a = within-drop s l i a.1
 
 -- ---- what is entered, by the place
 
-entered-there : (s : Bytes) (p : Part) (l : List Part) → isFirst s p l ≡ true → partsWith s p l ≡ p ∷ drop 1 l
-unfolding enteredBy isFirst
+entered-there : (s : Bytes) (p : Part) (l : List Part) → is_first s p l ≡ true → parts_with s p l ≡ p ∷ drop 1 l
+unfolding entered_by is_first
 entered-there s p [] e = absurd (false≢true e)
 entered-there s p (q ∷ l) e = rw e
 
-entered-new : (s : Bytes) (p : Part) (l : List Part) → goesFirst s p l ≡ true → isFirst s p l ≡ false → partsWith s p l ≡ p ∷ l
-unfolding enteredBy isFirst goesFirst
+entered-new : (s : Bytes) (p : Part) (l : List Part) → goes_first s p l ≡ true → is_first s p l ≡ false → parts_with s p l ≡ p ∷ l
+unfolding entered_by is_first goes_first
 entered-new s p [] e f = refl
 entered-new s p (q ∷ l) e f = let g : precedes (key_of s p) (key_of s q) ≡ true = rw f at e in rw (f, g)
 
 -- ---- each way of entering
 
 -- the table with it is at hand
-enters-of : {s : Bytes} {t u : Parts} {p : Part} → partsWith s p (held t) ≡ held u → Good s u → Enters s t p (record { full = false; table = u })
+enters-of : {s : Bytes} {t u : Parts} {p : Part} → parts_with s p (held t) ≡ held u → Good s u → Enters s t p (record { full = false; table = u })
 enters-of {s} {t} {u} {p} e g = record { room = λ h. refl; table = λ h. sym e; good = λ h. g; no_room = λ h. absurd (longer h) }
   where
-    longer : 32 < length (partsWith s p (held t)) → ⊥
-    longer h = let k : length (partsWith s p (held t)) ≡ u.n = ap length e ∙ held-length g in omega (arith, g.fits)
+    longer : 32 < length (parts_with s p (held t)) → ⊥
+    longer h = let k : length (parts_with s p (held t)) ≡ u.n = ap length e ∙ held-length g in omega (arith, g.fits)
 
 module _ {s : Bytes} {t : Parts} {p : Part} {i : ℕ} (g : Good s t) (w : Within s p) (m : Place s (held t) p i) where
   pub place-within : i ≤ t.n
   place-within = omega (arith, m.within, held-length g)
 
-  pub there-inside : isFirst s p (drop i (held t)) ≡ true → i < t.n
-  unfolding isFirst
+  pub there-inside : is_first s p (drop i (held t)) ≡ true → i < t.n
+  unfolding is_first
   there-inside e = elim (dec_lt i t.n) [ yes h ↦ h | no h ↦ absurd (none (omega arith)) ]
     where
       none : t.n ≤ i → ⊥
       none h =
           let k : length (held t) ≤ i = omega (arith, held-length g) in
-          let f : isFirst s p [] ≡ true = rw (drop_of_length-le (held t) k) at e in
+          let f : is_first s p [] ≡ true = rw (drop_of_length-le (held t) k) at e in
           false≢true f
 
   -- the parts with it, and that they are within the text
-  put_in : (k : List Part) → partsWith s p (drop i (held t)) ≡ p ∷ k → partsWith s p (held t) ≡ take i (held t) ++ p ∷ k
+  put_in : (k : List Part) → parts_with s p (drop i (held t)) ≡ p ∷ k → parts_with s p (held t) ≡ take i (held t) ++ p ∷ k
   put_in k e = m.skips ∙ ap (λ (r : List Part). take i (held t) ++ r) e
 
   all-put-in : (k : List Part) → AllWithin s k → AllWithin s (take i (held t) ++ p ∷ k)
@@ -77,7 +77,7 @@ module _ {s : Bytes} {t : Parts} {p : Part} {i : ℕ} (g : Good s t) (w : Within
   all-put-in k a = within-append s (take i (held t)) (p ∷ k) (within-take s (held t) i g.within) (w, a)
 
   -- in the place of the part with its key
-  pub enters-there : {u : Parts} → isFirst s p (drop i (held t)) ≡ true → (u.n ≡ t.n) × (u.parts ≡ set t.parts i p) → Enters s t p (record { full = false; table = u })
+  pub enters-there : {u : Parts} → is_first s p (drop i (held t)) ≡ true → (u.n ≡ t.n) × (u.parts ≡ set t.parts i p) → Enters s t p (record { full = false; table = u })
   enters-there {u} e c =
       let h = there-inside e in
       let k : i < length (held t) = omega (arith, held-length g) in
@@ -90,8 +90,8 @@ module _ {s : Bytes} {t : Parts} {p : Part} {i : ℕ} (g : Good s t) (w : Within
         within = rw v (all-put-in (drop (suc i) (held t)) (within-drop s (held t) (suc i) g.within));
       })
 
-  module _ (e : isFirst s p (drop i (held t)) ≡ false) where
-    new_is : partsWith s p (held t) ≡ take i (held t) ++ p ∷ drop i (held t)
+  module _ (e : is_first s p (drop i (held t)) ≡ false) where
+    new_is : parts_with s p (held t) ≡ take i (held t) ++ p ∷ drop i (held t)
     new_is = put_in (drop i (held t)) (entered-new s p (drop i (held t)) m.goes e)
 
     -- as a new one, where there is room
@@ -103,7 +103,7 @@ module _ {s : Bytes} {t : Parts} {p : Part} {i : ℕ} (g : Good s t) (w : Within
     })
 
     -- and where there is none
-    new-length : length (partsWith s p (held t)) ≡ suc t.n
+    new-length : length (parts_with s p (held t)) ≡ suc t.n
     new-length =
         let l = held t in
         ap length new_is
@@ -113,20 +113,20 @@ module _ {s : Bytes} {t : Parts} {p : Part} {i : ℕ} (g : Good s t) (w : Within
     pub enters-full : {u : Parts} → 32 ≤ t.n → Enters s t p (record { full = true; table = u })
     enters-full {u} h = record { room = λ k. absurd (short k); table = λ k. absurd (short k); good = λ k. absurd (short k); no_room = λ k. refl }
       where
-        short : length (partsWith s p (held t)) ≤ 32 → ⊥
+        short : length (parts_with s p (held t)) ≤ 32 → ⊥
         short k = omega (arith, new-length)
 
 -- ---- what a caller learns
 
 module _ {s : Bytes} {t : Parts} {p : Part} {r : Entered} (m : Enters s t p r) where
-  pub enters-room : r.full ≡ false → length (partsWith s p (held t)) ≤ 32
-  enters-room e = elim (dec_lt 32 (length (partsWith s p (held t)))) [ yes h ↦ absurd (false≢true (sym e ∙ m.no_room h)) | no h ↦ omega arith ]
+  pub enters-room : r.full ≡ false → length (parts_with s p (held t)) ≤ 32
+  enters-room e = elim (dec_lt 32 (length (parts_with s p (held t)))) [ yes h ↦ absurd (false≢true (sym e ∙ m.no_room h)) | no h ↦ omega arith ]
 
-  pub enters-no-room : r.full ≡ true → 32 < length (partsWith s p (held t))
-  enters-no-room e = elim (dec_lt 32 (length (partsWith s p (held t)))) [ yes h ↦ h | no h ↦ absurd (false≢true (sym (m.room (omega arith)) ∙ e)) ]
+  pub enters-no-room : r.full ≡ true → 32 < length (parts_with s p (held t))
+  enters-no-room e = elim (dec_lt 32 (length (parts_with s p (held t)))) [ yes h ↦ h | no h ↦ absurd (false≢true (sym (m.room (omega arith)) ∙ e)) ]
 
   -- the table, where there is room
-  pub enters-table : r.full ≡ false → held r.table ≡ partsWith s p (held t)
+  pub enters-table : r.full ≡ false → held r.table ≡ parts_with s p (held t)
   enters-table e = m.table (enters-room e)
 
   pub enters-good : r.full ≡ false → Good s r.table

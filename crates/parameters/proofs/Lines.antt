@@ -9,7 +9,7 @@ use lib.Seq.{drop-cons}
 use Rattle.rules.specs.Text.Ascii.{ascii}
 use Rattle.rules.specs.Text.Bytes.{Bytes}
 use Rattle.rules.specs.Text.Split.{line}
-use Rattle.rules.specs.Text.Parameters.{Parameter, parameterLine}
+use Rattle.rules.specs.Text.Parameters.{Parameter, parameter_line}
 use Rattle.text.proofs.RunEnd.{length_part}
 use Rattle.text.specs.Wrote.{Wrote, WroteAt}
 use Rattle.text.proofs.Wrote.{Sofar, sofar-at, sofar-start, sofar-byte, sofar-byte-room, sofar-part, sofar-part-room, sofar-end, sofar-length}
@@ -20,38 +20,38 @@ use Rattle.parameters.specs.Replies.{lines_of}
 
 -- ---- a line
 
-line-is : (q : Parameter) → parameterLine q ≡ q.key ++ (61 ∷ (q.value ++ (10 ∷ [])))
-unfolding parameterLine line ascii
+line-is : (q : Parameter) → parameter_line q ≡ q.key ++ (61 ∷ (q.value ++ (10 ∷ [])))
+unfolding parameter_line line ascii
 line-is q = append_assoc q.key (61 ∷ q.value) (10 ∷ [])
 
-module _ (s : Bytes) (p : Part) (dst : Bytes) (at : ℕ) (h : at + length (parameterLine (part_of s p)) ≤ length dst) where
-  start : Sofar (take at dst ++ parameterLine (part_of s p)) (key_of s p ++ (61 ∷ (value_of s p ++ (10 ∷ [])))) dst at dst
-  start = subst (λ (x : Bytes). Sofar (take at dst ++ parameterLine (part_of s p)) x dst at dst) (line-is (part_of s p)) (sofar-at (parameterLine (part_of s p)) dst at h)
+module _ (s : Bytes) (p : Part) (dst : Bytes) (at : ℕ) (h : at + length (parameter_line (part_of s p)) ≤ length dst) where
+  start : Sofar (take at dst ++ parameter_line (part_of s p)) (key_of s p ++ (61 ∷ (value_of s p ++ (10 ∷ [])))) dst at dst
+  start = subst (λ (x : Bytes). Sofar (take at dst ++ parameter_line (part_of s p)) x dst at dst) (line-is (part_of s p)) (sofar-at (parameter_line (part_of s p)) dst at h)
 
   pub key-room : at + length (key_of s p) ≤ length dst
   key-room = sofar-part-room (key_of s p) (61 ∷ (value_of s p ++ (10 ∷ []))) start
 
   module _ {o : ℕ} {d₁ : Bytes} (w : Wrote (take at dst ++ key_of s p) dst o d₁) where
-    key-done : Sofar (take at dst ++ parameterLine (part_of s p)) (61 ∷ (value_of s p ++ (10 ∷ []))) dst o d₁
+    key-done : Sofar (take at dst ++ parameter_line (part_of s p)) (61 ∷ (value_of s p ++ (10 ∷ []))) dst o d₁
     key-done = sofar-part (key_of s p) start w
 
     pub equals-room : (o < length d₁) × (o < length dst)
     equals-room = sofar-byte-room key-done
 
-    equals-done : Sofar (take at dst ++ parameterLine (part_of s p)) (value_of s p ++ (10 ∷ [])) dst (o + 1) (set d₁ o 61)
+    equals-done : Sofar (take at dst ++ parameter_line (part_of s p)) (value_of s p ++ (10 ∷ [])) dst (o + 1) (set d₁ o 61)
     equals-done = sofar-byte key-done
 
     pub value_room : o + 1 + length (value_of s p) ≤ length (set d₁ o 61)
     value_room = sofar-part-room (value_of s p) (10 ∷ []) equals-done
 
     module _ {e : ℕ} {d₂ : Bytes} (v : Wrote (take (o + 1) (set d₁ o 61) ++ value_of s p) (set d₁ o 61) e d₂) where
-      value-done : Sofar (take at dst ++ parameterLine (part_of s p)) (10 ∷ []) dst e d₂
+      value-done : Sofar (take at dst ++ parameter_line (part_of s p)) (10 ∷ []) dst e d₂
       value-done = sofar-part (value_of s p) equals-done v
 
       pub end-room : (e < length d₂) × (e < length dst)
       end-room = sofar-byte-room value-done
 
-      pub line-done : WroteAt (parameterLine (part_of s p)) dst at (e + 1) (set d₂ e 10)
+      pub line-done : WroteAt (parameter_line (part_of s p)) dst at (e + 1) (set d₂ e 10)
       line-done = record { wrote = sofar-end (sofar-byte value-done) }
 
       pub line_kept : length (set d₂ e 10) ≡ length dst
@@ -61,10 +61,10 @@ module _ (s : Bytes) (p : Part) (dst : Bytes) (at : ℕ) (h : at + length (param
 
 -- the lines of the parts from i on
 abbrev pub lines_from : Bytes → Parts → ℕ → Bytes
-lines_from s t i = flat_map parameterLine (map (part_of s) (drop i (held t)))
+lines_from s t i = flat_map parameter_line (map (part_of s) (drop i (held t)))
 
 module _ {s : Bytes} {t : Parts} (g : Good s t) where
-  lines_next : (i : ℕ) (d : Part) → i < t.n → lines_from s t i ≡ parameterLine (part_of s (get_or t.parts i d)) ++ lines_from s t (i + 1)
+  lines_next : (i : ℕ) (d : Part) → i < t.n → lines_from s t i ≡ parameter_line (part_of s (get_or t.parts i d)) ++ lines_from s t (i + 1)
   unfolding flat_map
   lines_next i d h =
       let e : drop i (held t) ≡ get_or (held t) i d ∷ drop (i + 1) (held t) = drop-cons (held t) i d (omega (arith, held-length g)) ∙ rw (sym (add-one i)) in
@@ -92,21 +92,21 @@ module _ {s : Bytes} {t : Parts} {dst₀ : Bytes} {i o : ℕ} {dst : Bytes} (m :
   lines-done h = sofar-end (subst (λ (x : Bytes). Sofar (lines_of s t) x dst₀ o dst) (lines_none m.good i h) m.sofar)
 
   module _ (d : Part) (h : i < t.n) where
-    here : Sofar (lines_of s t) (parameterLine (part_of s (get_or t.parts i d)) ++ lines_from s t (i + 1)) dst₀ o dst
+    here : Sofar (lines_of s t) (parameter_line (part_of s (get_or t.parts i d)) ++ lines_from s t (i + 1)) dst₀ o dst
     here = subst (λ (x : Bytes). Sofar (lines_of s t) x dst₀ o dst) (lines_next m.good i d h) m.sofar
 
     pub lines-part : Within s (get_or t.parts i d)
     lines-part = good-at m.good i d h
 
-    pub lines-room : o + length (parameterLine (part_of s (get_or t.parts i d))) ≤ length dst
-    lines-room = sofar-part-room (parameterLine (part_of s (get_or t.parts i d))) (lines_from s t (i + 1)) here
+    pub lines-room : o + length (parameter_line (part_of s (get_or t.parts i d))) ≤ length dst
+    lines-room = sofar-part-room (parameter_line (part_of s (get_or t.parts i d))) (lines_from s t (i + 1)) here
 
-    pub lines_more : {r : ℕ} {last : Bytes} → WroteAt (parameterLine (part_of s (get_or t.parts i d))) dst o r last → Lines s t dst₀ (i + 1) r last
-    lines_more w = record { good = m.good; within = omega arith; sofar = sofar-part (parameterLine (part_of s (get_or t.parts i d))) here w.wrote }
+    pub lines_more : {r : ℕ} {last : Bytes} → WroteAt (parameter_line (part_of s (get_or t.parts i d))) dst o r last → Lines s t dst₀ (i + 1) r last
+    lines_more w = record { good = m.good; within = omega arith; sofar = sofar-part (parameter_line (part_of s (get_or t.parts i d))) here w.wrote }
 
     -- the same, by the part that is read
-    pub lines-turn : {p : Part} {r : ℕ} {last : Bytes} → p ≡ get_or t.parts i d → WroteAt (parameterLine (part_of s p)) dst o r last → Lines s t dst₀ (i + 1) r last
-    lines-turn {p} {r} {last} e w = lines_more (subst (λ (q : Part). WroteAt (parameterLine (part_of s q)) dst o r last) e w)
+    pub lines-turn : {p : Part} {r : ℕ} {last : Bytes} → p ≡ get_or t.parts i d → WroteAt (parameter_line (part_of s p)) dst o r last → Lines s t dst₀ (i + 1) r last
+    lines-turn {p} {r} {last} e w = lines_more (subst (λ (q : Part). WroteAt (parameter_line (part_of s q)) dst o r last) e w)
 
 -- ---- how long they are
 
@@ -124,7 +124,7 @@ pub record Total (s : Bytes) (t : Parts) (i n : ℕ) : Type 0 where
 pub total-none : (s : Bytes) (t : Parts) → Good s t → length s ≤ 40969 → Total s t 0 0
 total-none s t g l = record { good = g; small = l; within = omega arith; count = omega arith; few = omega arith }
 
-line-length : (s : Bytes) (p : Part) → Within s p → length (parameterLine (part_of s p)) ≡ (p.key_end - p.key) + (p.value_end - p.value) + 2
+line-length : (s : Bytes) (p : Part) → Within s p → length (parameter_line (part_of s p)) ≡ (p.key_end - p.key) + (p.value_end - p.value) + 2
 line-length s p w =
     ap length (line-is (part_of s p))
     ∙ omega (
@@ -148,7 +148,7 @@ module _ {s : Bytes} {t : Parts} {i n : ℕ} (m : Total s t i n) where
         let e = line-length s (get_or t.parts i d) total-part in
         let w = total-part in
         let a = ap length (lines_next m.good i d h) in
-        let b = length-append (parameterLine (part_of s (get_or t.parts i d))) (lines_from s t (i + 1)) in
+        let b = length-append (parameter_line (part_of s (get_or t.parts i d))) (lines_from s t (i + 1)) in
         record {
           good = m.good;
           small = m.small;

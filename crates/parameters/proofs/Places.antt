@@ -9,10 +9,10 @@ use native.Mathlib.Omega.{arith}
 use lib.ListN.{length, take, drop, get_or, drop_of_length-le}
 use lib.Seq.{length-take-le, take-suc, drop-cons, get_or-take, append_snoc}
 use Rattle.rules.specs.Text.Bytes.{Bytes, same}
-use Rattle.rules.specs.Text.Parameters.{precedes, enteredBy}
+use Rattle.rules.specs.Text.Parameters.{precedes, entered_by}
 use Rattle.laws_lists.specs.Tests.{or_left, or_right}
 use Rattle.parameters.specs.declared.table.Part.{Part}
-use Rattle.parameters.specs.Parts.{Parts, key_of, held, Within, AllWithin, Good, goes_at, goesFirst, isFirst, partsWith, Skips, Place}
+use Rattle.parameters.specs.Parts.{Parts, key_of, held, Within, AllWithin, Good, goes_at, goes_first, is_first, parts_with, Skips, Place}
 
 -- ---- within the text
 
@@ -35,8 +35,8 @@ module _ {s : Bytes} {t : Parts} (g : Good s t) where
 -- ---- the place
 
 -- a part that p does not go at is passed over
-entered-past : (s : Bytes) (p q : Part) (l : List Part) → goes_at s p q ≡ false → partsWith s p (q ∷ l) ≡ q ∷ partsWith s p l
-unfolding enteredBy
+entered-past : (s : Bytes) (p q : Part) (l : List Part) → goes_at s p q ≡ false → parts_with s p (q ∷ l) ≡ q ∷ parts_with s p l
+unfolding entered_by
 entered-past s p q l e =
     rw (
       or_left (same (key_of s p) (key_of s q)) (precedes (key_of s p) (key_of s q)) e,
@@ -49,9 +49,9 @@ skips-more s l p i d h e k =
     let a : take (i + 1) l ≡ take i l ++ (q ∷ []) = rw (add-one i) (take-suc l i d h) in
     let b : drop i l ≡ q ∷ drop (i + 1) l = rw (add-one i) (drop-cons l i d h) in
     k
-    ∙ ap (λ (r : List Part). take i l ++ partsWith s p r) b
+    ∙ ap (λ (r : List Part). take i l ++ parts_with s p r) b
     ∙ ap (λ (r : List Part). take i l ++ r) (entered-past s p q (drop (i + 1) l) e)
-    ∙ sym (ap (λ (r : List Part). r ++ partsWith s p (drop (i + 1) l)) a ∙ append_snoc (take i l) q (partsWith s p (drop (i + 1) l)))
+    ∙ sym (ap (λ (r : List Part). r ++ parts_with s p (drop (i + 1) l)) a ∙ append_snoc (take i l) q (parts_with s p (drop (i + 1) l)))
 
 -- the first i parts of the table come before p
 pub record Seeks (s : Bytes) (t : Parts) (p : Part) (i : ℕ) : Type 0 where
@@ -77,28 +77,28 @@ module _ {s : Bytes} {t : Parts} {p : Part} {i : ℕ} (m : Seeks s t p i) where
   }
 
   pub seeks-here : (d : Part) → i < t.n → goes_at s p (get_or t.parts i d) ≡ true → Place s (held t) p i
-  unfolding goesFirst
+  unfolding goes_first
   seeks-here d h e =
       let k : i < length (held t) = omega (arith, held-length m.good) in
-      record { within = within_held; skips = m.skips; goes = ap (goesFirst s p) (drop-cons (held t) i d k) ∙ rw (held_at m.good i d h) e }
+      record { within = within_held; skips = m.skips; goes = ap (goes_first s p) (drop-cons (held t) i d k) ∙ rw (held_at m.good i d h) e }
 
   pub seeks-end : t.n ≤ i → Place s (held t) p i
-  unfolding goesFirst
+  unfolding goes_first
   seeks-end h =
       let k : length (held t) ≤ i = omega (arith, held-length m.good) in
-      record { within = within_held; skips = m.skips; goes = ap (goesFirst s p) (drop_of_length-le (held t) k) }
+      record { within = within_held; skips = m.skips; goes = ap (goes_first s p) (drop_of_length-le (held t) k) }
 
 -- ---- is it there already?
 
 module _ {s : Bytes} {t : Parts} (g : Good s t) where
-  pub first-at : (p : Part) (i : ℕ) (d : Part) {r : Bool} → i < t.n → r ≡ same (key_of s p) (key_of s (get_or t.parts i d)) → r ≡ isFirst s p (drop i (held t))
-  unfolding isFirst
+  pub first-at : (p : Part) (i : ℕ) (d : Part) {r : Bool} → i < t.n → r ≡ same (key_of s p) (key_of s (get_or t.parts i d)) → r ≡ is_first s p (drop i (held t))
+  unfolding is_first
   first-at p i d h e =
       let k : i < length (held t) = omega (arith, held-length g) in
-      e ∙ sym (ap (isFirst s p) (drop-cons (held t) i d k) ∙ rw (held_at g i d h))
+      e ∙ sym (ap (is_first s p) (drop-cons (held t) i d k) ∙ rw (held_at g i d h))
 
-  pub first-none : (p : Part) (i : ℕ) → t.n ≤ i → false ≡ isFirst s p (drop i (held t))
-  unfolding isFirst
+  pub first-none : (p : Part) (i : ℕ) → t.n ≤ i → false ≡ is_first s p (drop i (held t))
+  unfolding is_first
   first-none p i h =
       let k : length (held t) ≤ i = omega (arith, held-length g) in
-      sym (ap (isFirst s p) (drop_of_length-le (held t) k))
+      sym (ap (is_first s p) (drop_of_length-le (held t) k))

@@ -5,7 +5,7 @@ use Prim.Native.Nat.{ℕ, zero, suc, ◌+◌, ◌*◌, ◌<◌}
 use native.Mathlib.Omega.{arith}
 use lib.ListN.{length, get_or, set}
 use Rattle.parameters.specs.declared.table.Part.{Part}
-use Rattle.parameters.specs.Parts.{no_part, parts_in, tableIn, AllWithin, Empty}
+use Rattle.parameters.specs.Parts.{no_part, parts_in, table_in, AllWithin, Empty}
 
 none_below : {n : ℕ} → n < 0 → ⊥
 none_below h = omega (arith, h)
@@ -48,6 +48,6 @@ parts-many (a ∷ b ∷ c ∷ []) k e = absurd (omega (arith, e))
 parts-many (a ∷ b ∷ c ∷ d ∷ l) zero e = absurd (omega (arith, e))
 parts-many (a ∷ b ∷ c ∷ d ∷ l) (suc k) e = ap suc (parts-many l k (omega (arith, e)))
 
-pub empty-row : (row : List ℕ) → length row ≡ 128 → Empty (tableIn row 0)
+pub empty-row : (row : List ℕ) → length row ≡ 128 → Empty (table_in row 0)
 unfolding AllWithin
 empty-row row e = record { none = refl; good = λ s. record { fits = omega arith; size = parts-many row 32 e; within = tt } }

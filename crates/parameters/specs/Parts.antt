@@ -1,7 +1,7 @@
 -- A table of parameters whose keys and values are parts of one text.
 use Rattle.std.specs.Prelude.{◌≡◌, Bool, true, false, cond, ◌||◌, List, [], ◌∷◌, ◌++◌, map, ℕ, ◌+◌, ◌-◌, ◌≤◌, ◌<◌, length, take, drop, ltb}
 use Rattle.rules.specs.Text.Bytes.{Bytes, same}
-use Rattle.rules.specs.Text.Parameters.{Parameter, Placed, precedes, enteredBy}
+use Rattle.rules.specs.Text.Parameters.{Parameter, Placed, precedes, entered_by}
 use Rattle.rules.specs.Text.Reader.{part}
 use Rattle.parameters.specs.declared.table.Part.{Part}
 use Rattle.parameters.specs.declared.table.Entered as code
@@ -27,11 +27,11 @@ parts_in (a ∷ b ∷ []) = []
 parts_in (a ∷ b ∷ c ∷ []) = []
 parts_in (a ∷ b ∷ c ∷ d ∷ l) = record { key = a; key_end = b; value = c; value_end = d } ∷ parts_in l
 
-abbrev pub tableIn : List ℕ → ℕ → Parts
-tableIn row n = record { parts = parts_in row; n = n }
+abbrev pub table_in : List ℕ → ℕ → Parts
+table_in row n = record { parts = parts_in row; n = n }
 
 abbrev pub entered_in : List ℕ → code.Entered → Entered
-entered_in row r = record { full = r.full; table = tableIn row r.n }
+entered_in row r = record { full = r.full; table = table_in row r.n }
 
 abbrev pub key_of : Bytes → Part → Bytes
 key_of s p = part p.key p.key_end s
@@ -61,8 +61,8 @@ abbrev pub listed : Bytes → Parts → List Parameter
 listed s t = map (part_of s) (held t)
 
 -- each with the place of its value
-abbrev pub placedIn : Bytes → Parts → List Placed
-placedIn s t = map (placed_of s) (held t)
+abbrev pub placed_in : Bytes → Parts → List Placed
+placed_in s t = map (placed_of s) (held t)
 
 -- both parts are within the text
 pub record Within (s : Bytes) (p : Part) : Type 0 where
@@ -92,28 +92,28 @@ abbrev pub goes_at : Bytes → Part → Part → Bool
 goes_at s p q = same (key_of s p) (key_of s q) || precedes (key_of s p) (key_of s q)
 
 -- does p go in front of a list of parts, or at its first?
-unfoldable pub goesFirst : Bytes → Part → List Part → Bool
-goesFirst s p [] = true
-goesFirst s p (q ∷ l) = goes_at s p q
+unfoldable pub goes_first : Bytes → Part → List Part → Bool
+goes_first s p [] = true
+goes_first s p (q ∷ l) = goes_at s p q
 
 -- has the first of a list of parts the key of p?
-unfoldable pub isFirst : Bytes → Part → List Part → Bool
-isFirst s p [] = false
-isFirst s p (q ∷ l) = same (key_of s p) (key_of s q)
+unfoldable pub is_first : Bytes → Part → List Part → Bool
+is_first s p [] = false
+is_first s p (q ∷ l) = same (key_of s p) (key_of s q)
 
 -- p entered into a list of parts that is in the order of their keys
-abbrev pub partsWith : Bytes → Part → List Part → List Part
-partsWith s p l = enteredBy (key_of s) p l
+abbrev pub parts_with : Bytes → Part → List Part → List Part
+parts_with s p l = entered_by (key_of s) p l
 
 -- the list with p is its first i parts, and p entered into the others
 abbrev pub Skips : Bytes → List Part → Part → ℕ → Type 0
-Skips s l p i = partsWith s p l ≡ take i l ++ partsWith s p (drop i l)
+Skips s l p i = parts_with s p l ≡ take i l ++ parts_with s p (drop i l)
 
 -- p goes into a list of parts at place i
 pub record Place (s : Bytes) (l : List Part) (p : Part) (i : ℕ) : Type 0 where
   pub within : i ≤ length l
   pub skips : Skips s l p i
-  pub goes : goesFirst s p (drop i l) ≡ true
+  pub goes : goes_first s p (drop i l) ≡ true
 
 -- the table with p put in at a place
 pub record Inserted (t : Parts) (at : ℕ) (p : Part) (r : Parts) : Type 0 where
@@ -123,7 +123,7 @@ pub record Inserted (t : Parts) (at : ℕ) (p : Part) (r : Parts) : Type 0 where
 
 -- What entering p gives: the table with it where that has room, and else that it is full.
 pub record Enters (s : Bytes) (t : Parts) (p : Part) (r : Entered) : Type 0 where
-  pub room : length (partsWith s p (held t)) ≤ 32 → r.full ≡ false
-  pub table : length (partsWith s p (held t)) ≤ 32 → held r.table ≡ partsWith s p (held t)
-  pub good : length (partsWith s p (held t)) ≤ 32 → Good s r.table
-  pub no_room : 32 < length (partsWith s p (held t)) → r.full ≡ true
+  pub room : length (parts_with s p (held t)) ≤ 32 → r.full ≡ false
+  pub table : length (parts_with s p (held t)) ≤ 32 → held r.table ≡ parts_with s p (held t)
+  pub good : length (parts_with s p (held t)) ≤ 32 → Good s r.table
+  pub no_room : 32 < length (parts_with s p (held t)) → r.full ≡ true

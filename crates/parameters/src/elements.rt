@@ -4,8 +4,8 @@ ghost use Rattle.std.specs.Prelude.{◌≡◌, false, ◌≤◌, length, take, d
 ghost use Rattle.rules.specs.Text.Lists.{all_of};
 ghost use Rattle.rules.specs.Text.Bytes.{words, joined};
 ghost use Rattle.rules.specs.Text.Split.{modifier};
-ghost use Rattle.parameters.specs.Parts.{Good, tableIn, entered_in};
-ghost use Rattle.parameters.specs.Elements.{Spelt, IsPart, wordsAt, elementsAt, EntersAll, Tabled, Cut};
+ghost use Rattle.parameters.specs.Parts.{Good, table_in, entered_in};
+ghost use Rattle.parameters.specs.Elements.{Spelt, IsPart, words_at, elements_at, EntersAll, Tabled, Cut};
 
 use crate::table::{Entered, Part, enter};
 use text::{Kind, lead_end, run_end};
@@ -56,8 +56,8 @@ fn enter_words(
 ) -> Entered
     requires spelt { Spelt s.now n }
     requires from_le_to { (from ≤ to) × (to ≤ n) }
-    requires good { Good s.now (tableIn row.old count) }
-    ensures { EntersAll s.now (tableIn row.old count) (elementsAt first (wordsAt from (drop from (take to s.now)))) (entered_in row.new result) }
+    requires good { Good s.now (table_in row.old count) }
+    ensures { EntersAll s.now (table_in row.old count) (elements_at first (words_at from (drop from (take to s.now)))) (entered_in row.new result) }
 {
     let mut held = count;
     let mut name = first;

@@ -3,13 +3,13 @@ mod elements;
 mod table;
 
 ghost use Rattle.std.specs.Prelude.{◌≡◌, true, ◌+◌, ◌*◌, ◌≤◌, length, take};
-ghost use Rattle.rules.specs.Text.Bytes.{words, inDomain};
+ghost use Rattle.rules.specs.Text.Bytes.{words, in_domain};
 ghost use Rattle.rules.specs.Text.Refusal.{answers, Writes, Lends};
-ghost use Rattle.rules.specs.Text.Parameters.{parameterLine, parameters};
+ghost use Rattle.rules.specs.Text.Parameters.{parameter_line, parameters};
 ghost use Rattle.text.specs.Wrote.{Wrote, WroteAt};
-ghost use Rattle.parameters.specs.Parts.{part_of, Within, Good, tableIn};
+ghost use Rattle.parameters.specs.Parts.{part_of, Within, Good, table_in};
 ghost use Rattle.parameters.specs.Elements.{Spelt};
-ghost use Rattle.parameters.specs.Replies.{lines_of, stepReply, nameReply, textReply};
+ghost use Rattle.parameters.specs.Replies.{lines_of, step_reply, name_reply, text_reply};
 
 pub use elements::{table_of, words_into};
 use normalise::normal_of;
@@ -24,8 +24,8 @@ const FEW: usize = 408;
 // Writes a parameter as `key=value`, with a newline after it, into dst from at.
 fn line_at(s: &[u8], p: Part, dst: &mut [u8], at: usize) -> usize
     requires within { Within s.now p }
-    requires p_in_bounds { at + length (parameterLine (part_of s.now p)) ≤ length dst.old }
-    ensures { WroteAt (parameterLine (part_of s.now p)) dst.old at result dst.new }
+    requires p_in_bounds { at + length (parameter_line (part_of s.now p)) ≤ length dst.old }
+    ensures { WroteAt (parameter_line (part_of s.now p)) dst.old at result dst.new }
 {
     let key = p.key;
     let key_end = p.key_end;
@@ -40,9 +40,9 @@ fn line_at(s: &[u8], p: Part, dst: &mut [u8], at: usize) -> usize
 
 // Writes the parameters of a table, in its order, into dst from its first byte.
 fn lines_of(s: &[u8], row: &[usize; 128], count: usize, dst: &mut [u8]) -> usize
-    requires good { Good s.now (tableIn row.now count) }
-    requires count_in_bounds { length (lines_of s.now (tableIn row.now count)) ≤ length dst.old }
-    ensures { Wrote (lines_of s.now (tableIn row.now count)) dst.old result dst.new }
+    requires good { Good s.now (table_in row.now count) }
+    requires count_in_bounds { length (lines_of s.now (table_in row.now count)) ≤ length dst.old }
+    ensures { Wrote (lines_of s.now (table_in row.now count)) dst.old result dst.new }
 {
     let mut i = 0;
     let mut o = 0;
@@ -56,9 +56,9 @@ fn lines_of(s: &[u8], row: &[usize; 128], count: usize, dst: &mut [u8]) -> usize
 
 // How many bytes the parameters of a table are, as they are written.
 fn length_of(s: &[u8], row: &[usize; 128], count: usize) -> usize
-    requires good { Good s.now (tableIn row.now count) }
+    requires good { Good s.now (table_in row.now count) }
     requires s_len_bound { length s.now ≤ 40969 }
-    ensures { result ≡ length (lines_of s.now (tableIn row.now count)) }
+    ensures { result ≡ length (lines_of s.now (table_in row.now count)) }
 {
     let mut i = 0;
     let mut n = 0;
@@ -74,9 +74,9 @@ fn length_of(s: &[u8], row: &[usize; 128], count: usize) -> usize
 
 // Writes the parameters of a table into out, or refuses 7.
 fn lines_out(s: &[u8], row: &[usize; 128], count: usize, out: &mut [u8]) -> Written
-    requires good { Good s.now (tableIn row.now count) }
+    requires good { Good s.now (table_in row.now count) }
     requires s_len_bound { length s.now ≤ 40969 }
-    ensures { Lends (answers (lines_of s.now (tableIn row.now count))) out.old result out.new }
+    ensures { Lends (answers (lines_of s.now (table_in row.now count))) out.old result out.new }
 {
     let m = length_of(s, row, count);
     if out.len() < m {
@@ -92,7 +92,7 @@ fn lines_out(s: &[u8], row: &[usize; 128], count: usize, out: &mut [u8]) -> Writ
 fn step_out(s: &[u8], n: usize, out: &mut [u8]) -> Written
     requires spelt { Spelt s.now n }
     requires s_len_bound { length s.now ≤ 40969 }
-    ensures { Lends (stepReply (words (take n s.now))) out.old result out.new }
+    ensures { Lends (step_reply (words (take n s.now))) out.old result out.new }
 {
     if is_blank(&s[..n]) {
         return Written::Wrote(0);
@@ -118,7 +118,7 @@ fn step_out(s: &[u8], n: usize, out: &mut [u8]) -> Written
 fn name_out(s: &[u8], n: usize, out: &mut [u8]) -> Written
     requires spelt { Spelt s.now n }
     requires s_len_bound { length s.now ≤ 40969 }
-    ensures { Lends (nameReply (take n s.now)) out.old result out.new }
+    ensures { Lends (name_reply (take n s.now)) out.old result out.new }
 {
     let p = Part {
         key: n,
@@ -135,7 +135,7 @@ fn name_out(s: &[u8], n: usize, out: &mut [u8]) -> Written
 fn text_out(s: &[u8], n: usize, out: &mut [u8]) -> Written
     requires spelt { Spelt s.now n }
     requires s_len_bound { length s.now ≤ 40969 }
-    ensures { Lends (textReply (take n s.now)) out.old result out.new }
+    ensures { Lends (text_reply (take n s.now)) out.old result out.new }
 {
     let e = run_end(Kind::Piece, &s[..n], 0);
     if e < n {
@@ -148,7 +148,7 @@ fn text_out(s: &[u8], n: usize, out: &mut [u8]) -> Written
 // form stand the words that a parameter may have and the text has not.
 fn answer(text: &[u8], out: &mut [u8], a: &mut [u8], b: &mut [u8]) -> Written
     requires text_len_bound { length text.now ≤ 4096 }
-    requires text_value { inDomain text.now ≡ true }
+    requires text_value { in_domain text.now ≡ true }
     requires text_in_bounds { 10 * length text.now + 9 ≤ length a.old }
     requires text_in_bounds_2 { 10 * length text.now ≤ length b.old }
     ensures { Writes parameters text.now out.old result out.new }
@@ -161,7 +161,7 @@ fn answer(text: &[u8], out: &mut [u8], a: &mut [u8], b: &mut [u8]) -> Written
 // The answer for a short text, over small buffers of its own: to clear large ones would cost more than the rest.
 fn short(text: &[u8], out: &mut [u8]) -> Written
     requires text_len_bound { length text.now ≤ 408 }
-    requires text_value { inDomain text.now ≡ true }
+    requires text_value { in_domain text.now ≡ true }
     ensures { Writes parameters text.now out.old result out.new }
 {
     let mut a = [0u8; 4096];
@@ -172,7 +172,7 @@ fn short(text: &[u8], out: &mut [u8]) -> Written
 // The answer for any text, over buffers for the longest.
 fn long(text: &[u8], out: &mut [u8]) -> Written
     requires text_len_bound { length text.now ≤ 4096 }
-    requires text_value { inDomain text.now ≡ true }
+    requires text_value { in_domain text.now ≡ true }
     ensures { Writes parameters text.now out.old result out.new }
 {
     let mut a = [0u8; 40969];

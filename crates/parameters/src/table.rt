@@ -3,7 +3,7 @@
 ghost use Rattle.std.specs.Prelude.{◌≡◌, ◌<◌, ◌+◌, ◌≤◌, length, get_or, set, drop};
 ghost use Rattle.rules.specs.Text.Bytes.{same};
 ghost use Rattle.rules.specs.Text.Parameters.{precedes};
-ghost use Rattle.parameters.specs.Parts.{key_of, value_at, goes_at, Within, no_part, parts_in, isFirst, held, Good, Place, tableIn, entered_in, Inserted, Enters};
+ghost use Rattle.parameters.specs.Parts.{key_of, value_at, goes_at, Within, no_part, parts_in, is_first, held, Good, Place, table_in, entered_in, Inserted, Enters};
 
 use text::is_same;
 
@@ -114,9 +114,9 @@ pub fn goes_at(s: &[u8], p: Part, q: Part) -> bool
 
 // The place in the table where p goes.
 fn place_of(s: &[u8], row: &[usize; 128], n: usize, p: Part) -> usize
-    requires good { Good s.now (tableIn row.now n) }
+    requires good { Good s.now (table_in row.now n) }
     requires within { Within s.now p }
-    ensures { Place s.now (held (tableIn row.now n)) p result }
+    ensures { Place s.now (held (table_in row.now n)) p result }
 {
     let mut i = 0;
     while i < n {
@@ -131,9 +131,9 @@ fn place_of(s: &[u8], row: &[usize; 128], n: usize, p: Part) -> usize
 
 // Has the part at `at`, if there is one, the key of p?
 fn is_there(s: &[u8], row: &[usize; 128], n: usize, p: Part, at: usize) -> bool
-    requires good { Good s.now (tableIn row.now n) }
+    requires good { Good s.now (table_in row.now n) }
     requires within { Within s.now p }
-    ensures { result ≡ isFirst s.now p (drop at (held (tableIn row.now n))) }
+    ensures { result ≡ is_first s.now p (drop at (held (table_in row.now n))) }
 {
     if at < n {
         return is_same_key(s, p, part_at(row, at));
@@ -146,7 +146,7 @@ fn insert(row: &mut [usize; 128], n: usize, at: usize, p: Part)
     requires at_le_n { at ≤ n }
     requires n_bound { n < 32 }
     requires row_len { length (parts_in row.old) ≡ 32 }
-    ensures { Inserted (tableIn row.old n) at p (tableIn row.new (n + 1)) }
+    ensures { Inserted (table_in row.old n) at p (table_in row.new (n + 1)) }
 {
     let mut carried = p;
     let mut j = at;
@@ -161,9 +161,9 @@ fn insert(row: &mut [usize; 128], n: usize, at: usize, p: Part)
 
 // Enters p into the table: in the place of the part with its key, or in front of the first key that comes after its own.
 pub fn enter(s: &[u8], row: &mut [usize; 128], n: usize, p: Part) -> Entered
-    requires good { Good s.now (tableIn row.old n) }
+    requires good { Good s.now (table_in row.old n) }
     requires within { Within s.now p }
-    ensures { Enters s.now (tableIn row.old n) p (entered_in row.new result) }
+    ensures { Enters s.now (table_in row.old n) p (entered_in row.new result) }
 {
     let at = place_of(s, row, n, p);
     if is_there(s, row, n, p, at) {

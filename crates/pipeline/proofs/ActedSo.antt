@@ -11,8 +11,8 @@ use lib.Ieee.{Float}
 use lib.ListN.{length, take}
 use lib.Seq.{take_all, length-take-le}
 use Rattle.rules.specs.Operators.Acts as rules
-use Rattle.rules.specs.Operators.Adapt.{isAdapt}
-use Rattle.rules.specs.Operators.Documented.{isDocumented, isAdaptIn, adaptedIn}
+use Rattle.rules.specs.Operators.Adapt.{is_adapt}
+use Rattle.rules.specs.Operators.Documented.{is_documented, is_adapt_in, adapted_in}
 use Rattle.rules.specs.declared.Mode.{Mode}
 use Rattle.rules.specs.declared.Mode.TheVariants as mode-is
 use Rattle.rules.specs.Operators.Arguments.{is_order}
@@ -20,7 +20,7 @@ use Rattle.rules.specs.Operators.Axisswap.{swapped}
 use Rattle.rules.specs.Pipeline.Columns.{moved, takes}
 use Rattle.rules.specs.Pipeline.Tuples.{tuples}
 use Rattle.laws_lists.specs.Tests.{and_left}
-use Rattle.laws_steps.specs.Depth.{depthAfter}
+use Rattle.laws_steps.specs.Depth.{depth_after}
 use Rattle.columns.specs.Doings.{does, doing, able, Does}
 use Rattle.columns.specs.Machine.{Acted}
 use Rattle.columns.specs.Stores.{held}
@@ -31,8 +31,8 @@ use Rattle.columns.proofs.Acted.{enough-so, tuples-so}
 use Rattle.columns.proofs.DepthRules.{after-pushes}
 
 -- in either mode `adapt` has eight arguments
-eight-in : (mode : Mode) (l : List ℤ) → isAdaptIn mode l ≡ true → length l ≡ 8
-unfolding isAdaptIn isAdapt isDocumented
+eight-in : (mode : Mode) (l : List ℤ) → is_adapt_in mode l ≡ true → length l ≡ 8
+unfolding is_adapt_in is_adapt is_documented
 eight-in mode-is.Crate l h = eqb-true (length l) 8 (and_left (eqb (length l) 8) _ h)
 eight-in mode-is.Documented l h = eqb-true (length l) 8 (and_left (eqb (length l) 8) _ h)
 
@@ -53,7 +53,7 @@ module _ (d : Doing) where
     pub long : length (take d.n d.args) ≡ d.n
     long = length-take-le d.n d.args (omega (arith, full, h.slots))
 
-    pub push-room : (depth n total : ℕ) → d.act ≡ Pushes → depthAfter (doing d) depth * n ≤ total → (length (take d.n d.args) + depth) * n ≤ total
+    pub push-room : (depth n total : ℕ) → d.act ≡ Pushes → depth_after (doing d) depth * n ≤ total → (length (take d.n d.args) + depth) * n ≤ total
     push-room depth n total e room =
         subst (λ (z : ℕ). z * n ≤ total) (sym (ap (λ (z : ℕ). z + depth) long ∙ after-pushes d full h.slots depth e)) room
 
@@ -70,9 +70,9 @@ module _ (d : Doing) where
     unfolding able
     whole {mode} e = take_all d.n d.args (omega (arith, long, eight-in mode l (ruled e)))
 
-    pub adapt-rule : {mode : Mode} {back : Bool} → d.act ≡ Adapts mode back → isAdaptIn mode d.args ≡ true
+    pub adapt-rule : {mode : Mode} {back : Bool} → d.act ≡ Adapts mode back → is_adapt_in mode d.args ≡ true
     unfolding able
-    adapt-rule {mode} e = subst (λ (z : List ℤ). isAdaptIn mode z ≡ true) (whole e) (ruled e)
+    adapt-rule {mode} e = subst (λ (z : List ℤ). is_adapt_in mode z ≡ true) (whole e) (ruled e)
 
     module _ (depth : ℕ) (xs s : List Float) where
       pub drop-acted : d.act ≡ Drops → Acted (doing d) depth xs s xs s
@@ -86,9 +86,9 @@ module _ (d : Doing) where
           found e (tuples-so (rules.orders back l) depth xs s (map (swapped back l)) xs' (enough-so (rules.orders back l) depth xs s (omega arith)) len did)
 
       pub adapt-acted : {mode : Mode} {back : Bool} (xs' : List Float) → d.act ≡ Adapts mode back → length xs' ≡ length xs
-          → tuples xs' ≡ map (adaptedIn mode back d.args) (tuples xs) → Acted (doing d) depth xs s xs' s
+          → tuples xs' ≡ map (adapted_in mode back d.args) (tuples xs) → Acted (doing d) depth xs s xs' s
       unfolding does moved takes held
       adapt-acted {mode} {back} xs' e len did =
           found e
-          (tuples-so (rules.adapts mode back l) depth xs s (map (adaptedIn mode back l)) xs' (enough-so (rules.adapts mode back l) depth xs s (omega arith)) len
-          (did ∙ ap (λ (z : List ℤ). map (adaptedIn mode back z) (tuples xs)) (sym (whole e))))
+          (tuples-so (rules.adapts mode back l) depth xs s (map (adapted_in mode back l)) xs' (enough-so (rules.adapts mode back l) depth xs s (omega arith)) len
+          (did ∙ ap (λ (z : List ℤ). map (adapted_in mode back z) (tuples xs)) (sym (whole e))))

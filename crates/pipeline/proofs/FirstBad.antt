@@ -8,7 +8,7 @@ use native.Mathlib.Omega.{arith}
 use borrow.Author.Tests.{lt-ltb}
 use lib.ListN.{length, get_or, take}
 use lib.Seq.{get_or-take, length-take-le}
-use Rattle.rules.specs.Pipeline.Record.{spanEnd, goodIn, firstBad, refusal18, listed}
+use Rattle.rules.specs.Pipeline.Record.{span_end, good_in, first_bad, refusal18, listed}
 use Rattle.rules.specs.declared.Step.{Step}
 use Rattle.rules.specs.declared.Table.{Table}
 use Rattle.record.proofs.Refused18.{listed-length, bad-few, bad-next, bad-here, bad-none}
@@ -16,7 +16,7 @@ use Rattle.numbers.proofs.Rest.{Rest, rest_all, rest-next, rest-here, rest_end}
 
 -- the first i records are good in the reading, and the last one's span ends there: the answer is that of the others
 abbrev pub Checked : ℕ → List Step → ℕ → ℕ → Type 0
-Checked reading l end i = Rest (firstBad reading end (i + 1)) l i (firstBad reading 0 1 l)
+Checked reading l end i = Rest (first_bad reading end (i + 1)) l i (first_bad reading 0 1 l)
 
 module _ (t : Table) (full : length t.steps ≡ 64) where
   pub check-long : 64 < t.n → refusal18 (listed t) ≡ some 0
@@ -32,19 +32,19 @@ module _ (t : Table) (full : length t.steps ≡ 64) where
     many = length-take-le t.n t.steps (omega (arith, full))
 
     module _ (end i : ℕ) (x : Step) (r : Checked first (take t.n t.steps) end i) (h : i < t.n) where
-      pub check-turn : {next : ℕ} → goodIn first end (get_or t.steps i x) ≡ true → next ≡ spanEnd (get_or t.steps i x).span → Checked first (take t.n t.steps) next (i + 1)
+      pub check-turn : {next : ℕ} → good_in first end (get_or t.steps i x) ≡ true → next ≡ span_end (get_or t.steps i x).span → Checked first (take t.n t.steps) next (i + 1)
       check-turn {next} e f =
           let here = get_or-take t.n t.steps i x h in
-          rest-next (firstBad first next (i + 1 + 1)) x r (omega (arith, many))
-          (bad-next first end (i + 1) _ _ (ap (goodIn first end) here ∙ e) (f ∙ ap (λ (s : Step). spanEnd s.span) (sym here)))
+          rest-next (first_bad first next (i + 1 + 1)) x r (omega (arith, many))
+          (bad-next first end (i + 1) _ _ (ap (good_in first end) here ∙ e) (f ∙ ap (λ (s : Step). span_end s.span) (sym here)))
 
-      pub check-bad : goodIn first end (get_or t.steps i x) ≡ false → refusal18 (listed t) ≡ some (i + 1)
+      pub check-bad : good_in first end (get_or t.steps i x) ≡ false → refusal18 (listed t) ≡ some (i + 1)
       check-bad e =
           bad-few t z full few
-          ∙ sym (rest-here x r (omega (arith, many)) (bad-here first end (i + 1) _ _ (ap (goodIn first end) (get_or-take t.n t.steps i x h) ∙ e)))
+          ∙ sym (rest-here x r (omega (arith, many)) (bad-here first end (i + 1) _ _ (ap (good_in first end) (get_or-take t.n t.steps i x h) ∙ e)))
 
     pub check-end : (end i : ℕ) → Checked first (take t.n t.steps) end i → t.n ≤ i → refusal18 (listed t) ≡ none
     check-end end i r h = bad-few t z full few ∙ sym (sym (bad-none first end (i + 1)) ∙ rest_end r (omega (arith, many)))
 
 pub check-none : (reading : ℕ) (l : List Step) → Checked reading l 0 0
-check-none reading l = rest_all (firstBad reading 0 1) l
+check-none reading l = rest_all (first_bad reading 0 1) l

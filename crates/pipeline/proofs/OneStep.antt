@@ -8,14 +8,14 @@ use lib.ListN.{length, drop}
 use lib.Ieee.{Float}
 use Rattle.rules.specs.Operators.Acts as rules
 use Rattle.rules.specs.Pipeline.Running.{act, omitted}
-use Rattle.rules.specs.Pipeline.Tuples.{acted, countsNone}
+use Rattle.rules.specs.Pipeline.Tuples.{acted, counts_none}
 use Rattle.rules.specs.declared.Step.{Step}
 use Rattle.rules.specs.declared.Direction.{Direction}
-use Rattle.laws_steps.specs.Depth.{depthAfter}
+use Rattle.laws_steps.specs.Depth.{depth_after}
 use Rattle.columns.specs.Doings.{doing, Does}
 use Rattle.columns.specs.declared.acts.Doing.{Doing}
 use Rattle.columns.specs.Stores.{held}
-use Rattle.pipeline.specs.Plans.{depthStepped, noneStepped, stepped, countStepped, Stepped}
+use Rattle.pipeline.specs.Plans.{depth_stepped, none_stepped, stepped, count_stepped, Stepped}
 use Rattle.columns.specs.Machine.{Acted}
 
 -- the act of a step is what its doing does
@@ -27,29 +27,29 @@ count-few tuples count b true = omega arith
 count-few tuples count b false = b
 
 module _ (d : Direction) (s : Step) (depth : ℕ) where
-  pub depth-omitted : omitted d s ≡ true → depth ≡ depthStepped d s depth
-  unfolding depthStepped
+  pub depth-omitted : omitted d s ≡ true → depth ≡ depth_stepped d s depth
+  unfolding depth_stepped
   depth-omitted e = rw e
 
-  pub depth-run : {a : rules.Act} (r : ℕ) → omitted d s ≡ false → a ≡ act d s → r ≡ depthAfter a depth → r ≡ depthStepped d s depth
-  unfolding depthStepped
-  depth-run r e f h = rw e (h ∙ ap (λ (z : rules.Act). depthAfter z depth) f)
+  pub depth-run : {a : rules.Act} (r : ℕ) → omitted d s ≡ false → a ≡ act d s → r ≡ depth_after a depth → r ≡ depth_stepped d s depth
+  unfolding depth_stepped
+  depth-run r e f h = rw e (h ∙ ap (λ (z : rules.Act). depth_after z depth) f)
 
-  pub depth_is : {a : rules.Act} → omitted d s ≡ false → a ≡ act d s → depthAfter a depth ≡ depthStepped d s depth
-  depth_is {a} e f = depth-run (depthAfter a depth) e f refl
+  pub depth_is : {a : rules.Act} → omitted d s ≡ false → a ≡ act d s → depth_after a depth ≡ depth_stepped d s depth
+  depth_is {a} e f = depth-run (depth_after a depth) e f refl
 
-  pub none-omitted : omitted d s ≡ true → false ≡ noneStepped d s depth
-  unfolding noneStepped
+  pub none-omitted : omitted d s ≡ true → false ≡ none_stepped d s depth
+  unfolding none_stepped
   none-omitted e = rw e
 
-  pub none-run : {a : rules.Act} (r : Bool) → omitted d s ≡ false → a ≡ act d s → r ≡ countsNone a depth → r ≡ noneStepped d s depth
-  unfolding noneStepped
-  none-run r e f h = rw e (h ∙ ap (λ (z : rules.Act). countsNone z depth) f)
+  pub none-run : {a : rules.Act} (r : Bool) → omitted d s ≡ false → a ≡ act d s → r ≡ counts_none a depth → r ≡ none_stepped d s depth
+  unfolding none_stepped
+  none-run r e f h = rw e (h ∙ ap (λ (z : rules.Act). counts_none z depth) f)
 
   module _ (tuples count : ℕ) (b : count ≤ tuples) (r : Bool) where
-    pub count-is : r ≡ noneStepped d s depth → cond r 0 count ≡ countStepped d s depth tuples count
-    unfolding noneStepped countStepped
-    count-is e = ap (λ (z : Bool). cond z 0 count) e ∙ go (omitted d s) (countsNone (act d s) depth)
+    pub count-is : r ≡ none_stepped d s depth → cond r 0 count ≡ count_stepped d s depth tuples count
+    unfolding none_stepped count_stepped
+    count-is e = ap (λ (z : Bool). cond z 0 count) e ∙ go (omitted d s) (counts_none (act d s) depth)
       where
         go : (o n : Bool) → cond (cond o false n) 0 count ≡ cond o count (min count (cond n 0 tuples))
         go true n = refl
@@ -58,7 +58,7 @@ module _ (d : Direction) (s : Step) (depth : ℕ) where
 
   module _ (xs store : List Float) where
     pub step-omitted : omitted d s ≡ true → Stepped d s depth xs store xs store
-    unfolding stepped depthStepped
+    unfolding stepped depth_stepped
     step-omitted e = record { machine = rw e; beyond = refl }
 
     pub step_run : {a : rules.Act} (xs' store' : List Float) → omitted d s ≡ false → a ≡ act d s → Acted a depth xs store xs' store' → Stepped d s depth xs store xs' store'

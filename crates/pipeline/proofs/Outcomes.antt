@@ -16,47 +16,47 @@ use Rattle.rules.specs.Pipeline.Record.{refusal18}
 use Rattle.rules.specs.Pipeline.Running.{Numbered, running}
 use Rattle.rules.specs.Pipeline.Columns.{after, deepest}
 use Rattle.rules.specs.Pipeline.Tuples.{State, tuples, numbers, acted}
-use Rattle.rules.specs.Pipeline.Run.{start, badList, storeAfter, refused, finished, unless16, unless15, unless18, runs, Runs}
+use Rattle.rules.specs.Pipeline.Run.{start, bad_list, store_after, refused, finished, unless16, unless15, unless18, runs, Runs}
 use Rattle.rules.specs.declared.Step.{Step}
 use Rattle.rules.specs.declared.Direction.{Direction}
 use Rattle.rules.specs.declared.Ran.{Ran}
 use Rattle.rules.specs.declared.Ran.TheVariants.{Done, Refused}
 use Rattle.laws_lists.specs.Tests.{or_left, or_right, never}
-use Rattle.laws_steps.specs.Depth.{depthAfter}
+use Rattle.laws_steps.specs.Depth.{depth_after}
 use Rattle.laws_steps.specs.Lengths.{numbers-tuples}
-use Rattle.columns.specs.Stores.{columnsOf, held}
+use Rattle.columns.specs.Stores.{columns_of, held}
 use Rattle.columns.proofs.InStore.{columns-length}
 use Rattle.columns.proofs.Zeros.{columns-flat}
-use Rattle.pipeline.specs.Plans.{passesFrom, deepestFrom, Gives, Ends}
+use Rattle.pipeline.specs.Plans.{passes_from, deepest_from, Gives, Ends}
 use Rattle.pipeline.proofs.PlannedDepths.{passes_same, deepest-same}
 
 -- ---- sizes
 
 -- 15 is not given: whole tuples, and no more than 65,536
-module _ (xs : List Float) (h : badList xs ≡ false) where
+module _ (xs : List Float) (h : bad_list xs ≡ false) where
   pub fourfold : length xs % 4 ≡ 0
-  unfolding badList
+  unfolding bad_list
   fourfold = eqb-true (length xs % 4) 0 (not-false (eqb (length xs % 4) 0) (or_left (not (eqb (length xs % 4) 0)) _ h))
 
   pub tuples-few : length xs / 4 ≤ 65536
-  unfolding badList
+  unfolding bad_list
   tuples-few = ltb-false 65536 (length xs / 4) (or_right (not (eqb (length xs % 4) 0)) (ltb 65536 (length xs / 4)) h)
 
 -- a run that is not refused 16 goes no deeper than 64
-deepest-64 : (l : List Numbered) (d : ℕ) → passesFrom l d ≡ none → deepestFrom l d ≤ 64
-unfolding passesFrom deepestFrom
+deepest-64 : (l : List Numbered) (d : ℕ) → passes_from l d ≡ none → deepest_from l d ≤ 64
+unfolding passes_from deepest_from
 deepest-64 [] d h = omega arith
 deepest-64 (s ∷ l) d h = both (ltb 64 d') refl h (deepest-64 l d')
   where
     d' : ℕ
-    d' = depthAfter s.does d
+    d' = depth_after s.does d
 
-    both : (b : Bool) → ltb 64 d' ≡ b → cond b (some s.place) (passesFrom l d') ≡ none → (passesFrom l d' ≡ none → deepestFrom l d' ≤ 64) → max d' (deepestFrom l d') ≤ 64
+    both : (b : Bool) → ltb 64 d' ≡ b → cond b (some s.place) (passes_from l d') ≡ none → (passes_from l d' ≡ none → deepest_from l d' ≤ 64) → max d' (deepest_from l d') ≤ 64
     both true e h f = absurd (never (cc h))
     both false e h f = omega (arith, ltb-false 64 d' e, f h)
 
 -- the store in use
-pub used-few : (l : List Numbered) (deepest n : ℕ) → passesFrom l 0 ≡ none → deepest ≡ deepestFrom l 0 → n ≤ 65536 → deepest * n ≤ 4194304
+pub used-few : (l : List Numbered) (deepest n : ℕ) → passes_from l 0 ≡ none → deepest ≡ deepest_from l 0 → n ≤ 65536 → deepest * n ≤ 4194304
 used-few l deepest n p q h = omega (arith, mul-le-mul_right {m = deepest} {n = 64} n (omega (arith, deepest-64 l 0 p)))
 
 -- ---- refusals
@@ -65,11 +65,11 @@ pub refuses-17 : (l : List Numbered) (xs store : List Float) (used : ℕ) → le
 unfolding finished refused
 refuses-17 l xs store used h = record { exactly = rw (lt-ltb (length store) used h) }
 
-pub refuses-16 : (l : List Numbered) (xs store : List Float) (place : ℕ) → passesFrom l 0 ≡ some place → Gives (unless15 false l xs store) (Refused 16 place) xs store
+pub refuses-16 : (l : List Numbered) (xs store : List Float) (place : ℕ) → passes_from l 0 ≡ some place → Gives (unless15 false l xs store) (Refused 16 place) xs store
 unfolding unless15 unless16 refused
 refuses-16 l xs store place h = record { exactly = rw (passes_same l (start xs), h) }
 
-pub refuses-15 : (l : List Numbered) (xs store : List Float) → badList xs ≡ true → Gives (unless15 (badList xs) l xs store) (Refused 15 0) xs store
+pub refuses-15 : (l : List Numbered) (xs store : List Float) → bad_list xs ≡ true → Gives (unless15 (bad_list xs) l xs store) (Refused 15 0) xs store
 unfolding unless15 refused
 refuses-15 l xs store h = record { exactly = rw h }
 
@@ -79,7 +79,7 @@ refuses-18 d t xs store place h = record { exactly = rw h }
 
 -- ---- past a refusal that is not given
 
-pub past-16 : (l : List Numbered) (xs store : List Float) (deep : ℕ) (r : Ran) (xs' store' : List Float) → passesFrom l 0 ≡ none → deep ≡ deepestFrom l 0
+pub past-16 : (l : List Numbered) (xs store : List Float) (deep : ℕ) (r : Ran) (xs' store' : List Float) → passes_from l 0 ≡ none → deep ≡ deepest_from l 0
     → Gives (finished l xs store (deep * (length xs / 4))) r xs' store' → Gives (unless15 false l xs store) r xs' store'
 unfolding unless15 unless16
 past-16 l xs store deep r xs' store' p q h =
@@ -90,11 +90,11 @@ past-16 l xs store deep r xs' store' p q h =
           ∙ ap (λ (o : Option ℕ). unless16 o l xs store) (sym (passes_same l (start xs) ∙ p));
     }
 
-pub past-15 : (l : List Numbered) (xs store : List Float) (r : Ran) (xs' store' : List Float) → badList xs ≡ false → Gives (unless15 false l xs store) r xs' store'
-    → Gives (unless15 (badList xs) l xs store) r xs' store'
+pub past-15 : (l : List Numbered) (xs store : List Float) (r : Ran) (xs' store' : List Float) → bad_list xs ≡ false → Gives (unless15 false l xs store) r xs' store'
+    → Gives (unless15 (bad_list xs) l xs store) r xs' store'
 past-15 l xs store r xs' store' h g = record { exactly = g.exactly ∙ ap (λ (b : Bool). unless15 b l xs store) (sym h) }
 
-pub past-18 : (d : Direction) (t : List Step) (xs store : List Float) (r : Ran) (xs' store' : List Float) → refusal18 t ≡ none → Gives (unless15 (badList xs) (running d t) xs store) r xs' store'
+pub past-18 : (d : Direction) (t : List Step) (xs store : List Float) (r : Ran) (xs' store' : List Float) → refusal18 t ≡ none → Gives (unless15 (bad_list xs) (running d t) xs store) r xs' store'
     → Runs d t xs store r xs' store'
 unfolding runs unless18
 past-18 d t xs store r xs' store' h g = record { exactly = g.exactly ∙ ap (λ (o : Option ℕ). unless18 o d t xs store) (sym h) }
@@ -102,32 +102,32 @@ past-18 d t xs store r xs' store' h g = record { exactly = g.exactly ∙ ap (λ 
 -- ---- the end
 
 -- the columns left, then zeros, then what the store held
-pub finishes : (l : List Numbered) (deep : ℕ) (xs s xs' s' s'' : List Float) (c left : ℕ) → badList xs ≡ false → length xs' ≡ length xs → length s' ≡ length s
+pub finishes : (l : List Numbered) (deep : ℕ) (xs s xs' s' s'' : List Float) (c left : ℕ) → bad_list xs ≡ false → length xs' ≡ length xs → length s' ≡ length s
     → deep * (length xs / 4) ≤ length s → Ends l deep xs s c left xs' s'
     → s'' ≡ take (left * (length xs / 4)) s' ++ (replicate (deep * (length xs / 4) - left * (length xs / 4)) (fin false 0 (pos 0)) ++ drop (deep * (length xs / 4)) s')
     → Gives (finished l xs s (deep * (length xs / 4))) (Done c left) xs' s''
-unfolding finished storeAfter held
+unfolding finished store_after held
 finishes l deep xs s xs' s' s'' c left bad lx ls room e z =
     let n = length xs / 4 in
     let used = deep * n in
     let end = after acted l (start xs) in
     let same : length xs' / 4 ≡ n = ap (λ (k : ℕ). k / 4) lx in
-    let cols : columnsOf n left s' ≡ end.columns = ap (λ (k : ℕ). columnsOf k left s') (sym same) ∙ ap (λ (m : State). m.columns) e.machine in
+    let cols : columns_of n left s' ≡ end.columns = ap (λ (k : ℕ). columns_of k left s') (sym same) ∙ ap (λ (m : State). m.columns) e.machine in
     let gone : left ≡ length end.columns = sym (columns-length n left s') ∙ ap length cols in
     let list : xs' ≡ numbers end.tuples = sym (numbers-tuples xs' (omega (arith, fourfold xs bad))) ∙ ap (λ (m : State). numbers m.tuples) e.machine in
     let low : left * n ≤ used = mul-le-mul_right {m = left} {n = deep} n e.low in
     let flat : take (left * n) s' ≡ flat_map (λ (v : List Float). v) (reverse end.columns) =
     sym (columns-flat n left s') ∙ ap (λ (c : List (List Float)). flat_map (λ (v : List Float). v) (reverse c)) cols in
     let long : left * n ≡ length (flat_map (λ (v : List Float). v) (reverse end.columns)) = sym (length-take-le (left * n) s' (omega arith)) ∙ ap length flat in
-    let store : s'' ≡ storeAfter used end.columns s = z ∙ (λ i. flat i ++ (replicate (used - long i) (fin false 0 (pos 0)) ++ e.beyond i)) in
+    let store : s'' ≡ store_after used end.columns s = z ∙ (λ i. flat i ++ (replicate (used - long i) (fin false 0 (pos 0)) ++ e.beyond i)) in
     record { exactly = rw (le-ltb (length s) used room) (λ i. record { answer = Done (e.counted i) (gone i); list = list i; store = store i }) }
 
 -- ---- the test of 15
 
-pub odd-list : (xs : List Float) → (length xs % 4 ≡ 0 → ⊥) → true ≡ badList xs
-unfolding badList
+pub odd-list : (xs : List Float) → (length xs % 4 ≡ 0 → ⊥) → true ≡ bad_list xs
+unfolding bad_list
 odd-list xs h = rw (ne_eqb (length xs % 4) 0 h)
 
-pub even-list : (xs : List Float) → length xs % 4 ≡ 0 → ltb 65536 (length xs / 4) ≡ badList xs
-unfolding badList
+pub even-list : (xs : List Float) → length xs % 4 ≡ 0 → ltb 65536 (length xs / 4) ≡ bad_list xs
+unfolding bad_list
 even-list xs h = rw (eq-eqb (length xs % 4) 0 h)

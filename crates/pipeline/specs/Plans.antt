@@ -2,57 +2,57 @@
 use Rattle.std.specs.Prelude.{◌≡◌, ℕ, ◌*◌, ◌/◌, ◌≤◌, max, min, Bool, false, cond, List, [], ◌∷◌, length, drop, ltb, Float}
 use Rattle.std.proofs.Math.Option.{Option, none, some}
 use Rattle.rules.specs.Pipeline.Running.{act, Numbered, omitted}
-use Rattle.rules.specs.Pipeline.Tuples.{State, acted, countsNone}
+use Rattle.rules.specs.Pipeline.Tuples.{State, acted, counts_none}
 use Rattle.rules.specs.Pipeline.Columns.{after}
 use Rattle.rules.specs.Pipeline.Run.{start, count, Outcome}
 use Rattle.rules.specs.declared.Step.{Step}
 use Rattle.rules.specs.declared.Direction.{Direction}
 use Rattle.rules.specs.declared.Ran.{Ran}
-use Rattle.laws_steps.specs.Depth.{depthAfter}
+use Rattle.laws_steps.specs.Depth.{depth_after}
 use Rattle.columns.specs.Stores.{held}
 use Rattle.pipeline.specs.declared.Stood.{Stood}
 
 -- ---- one step, which may be omitted
 
-unfoldable pub depthStepped : Direction → Step → ℕ → ℕ
-depthStepped d s depth = cond (omitted d s) depth (depthAfter (act d s) depth)
+unfoldable pub depth_stepped : Direction → Step → ℕ → ℕ
+depth_stepped d s depth = cond (omitted d s) depth (depth_after (act d s) depth)
 
 unfoldable pub stepped : Direction → Step → State → State
 stepped d s m = cond (omitted d s) m (acted (act d s) m)
 
 -- does it count none of the tuples?
-unfoldable pub noneStepped : Direction → Step → ℕ → Bool
-noneStepped d s depth = cond (omitted d s) false (countsNone (act d s) depth)
+unfoldable pub none_stepped : Direction → Step → ℕ → Bool
+none_stepped d s depth = cond (omitted d s) false (counts_none (act d s) depth)
 
 -- the count after it, from the count before; `tuples` is their number
-unfoldable pub countStepped : Direction → Step → ℕ → ℕ → ℕ → ℕ
-countStepped d s depth tuples count = cond (omitted d s) count (min count (cond (countsNone (act d s) depth) 0 tuples))
+unfoldable pub count_stepped : Direction → Step → ℕ → ℕ → ℕ → ℕ
+count_stepped d s depth tuples count = cond (omitted d s) count (min count (cond (counts_none (act d s) depth) 0 tuples))
 
 -- ---- the depths of a run that finds `depth` columns
 
 -- 16: the place of the first step after which there are more than 64
-unfoldable pub passesFrom : List Numbered → ℕ → Option ℕ
-passesFrom [] depth = none
-passesFrom (s ∷ l) depth =
-    let d = depthAfter s.does depth in
-    let rest = passesFrom l d in
+unfoldable pub passes_from : List Numbered → ℕ → Option ℕ
+passes_from [] depth = none
+passes_from (s ∷ l) depth =
+    let d = depth_after s.does depth in
+    let rest = passes_from l d in
     cond (ltb 64 d) (some s.place) rest
 
-unfoldable pub deepestFrom : List Numbered → ℕ → ℕ
-deepestFrom [] depth = 0
-deepestFrom (s ∷ l) depth = max (depthAfter s.does depth) (deepestFrom l (depthAfter s.does depth))
+unfoldable pub deepest_from : List Numbered → ℕ → ℕ
+deepest_from [] depth = 0
+deepest_from (s ∷ l) depth = max (depth_after s.does depth) (deepest_from l (depth_after s.does depth))
 
 -- ---- the run
 
 -- what a step of the table leaves in list and store: the machine, and the store untouched beyond
 pub record Stepped (d : Direction) (s : Step) (depth : ℕ) (xs store xs' store' : List Float) : Type 0 where
-  pub machine : held xs' store' (depthStepped d s depth) ≡ stepped d s (held xs store depth)
-  pub beyond : drop (max depth (depthStepped d s depth) * (length xs / 4)) store' ≡ drop (max depth (depthStepped d s depth) * (length xs / 4)) store
+  pub machine : held xs' store' (depth_stepped d s depth) ≡ stepped d s (held xs store depth)
+  pub beyond : drop (max depth (depth_stepped d s depth) * (length xs / 4)) store' ≡ drop (max depth (depth_stepped d s depth) * (length xs / 4)) store
 
 -- and what is known after it
 pub record Stands (d : Direction) (s : Step) (depth : ℕ) (xs store xs' store' : List Float) (r : Stood) : Type 0 where
-  pub deep : r.depth ≡ depthStepped d s depth
-  pub counts : r.none ≡ noneStepped d s depth
+  pub deep : r.depth ≡ depth_stepped d s depth
+  pub counts : r.none ≡ none_stepped d s depth
   pub leaves : Stepped d s depth xs store xs' store'
 
 -- what a call answers and leaves is a given outcome

@@ -1,11 +1,11 @@
 // The run of a step table over a list of tuples and a lent store of columns, both ways.
 ghost use Rattle.std.specs.Prelude.{◌≡◌, true, cond, ◌*◌, ◌≤◌, ◌/◌, max, length};
 ghost use Rattle.rules.specs.Pipeline.Record.{made, listed};
-ghost use Rattle.rules.specs.Pipeline.Run.{badList, Runs};
-ghost use Rattle.laws_steps.specs.Depth.{depthAfter};
+ghost use Rattle.rules.specs.Pipeline.Run.{bad_list, Runs};
+ghost use Rattle.laws_steps.specs.Depth.{depth_after};
 ghost use Rattle.columns.specs.Doings.{doing, Does};
 ghost use Rattle.columns.specs.Machine.{Acted};
-ghost use Rattle.pipeline.specs.Plans.{depthStepped, Stands};
+ghost use Rattle.pipeline.specs.Plans.{depth_stepped, Stands};
 
 use adapt::adapt;
 use axisswap::axisswap;
@@ -22,7 +22,7 @@ fn run_act(tuples: &mut [f64], columns: &mut [f64], depth: usize, d: Doing)
     requires depth_bound { depth ≤ 64 }
     requires does { Does (doing d) d }
     requires tuples_in_bounds { depth * (length tuples.old / 4) ≤ length columns.old }
-    requires tuples_in_bounds_2 { depthAfter (doing d) depth * (length tuples.old / 4) ≤ length columns.old }
+    requires tuples_in_bounds_2 { depth_after (doing d) depth * (length tuples.old / 4) ≤ length columns.old }
     ensures { Acted (doing d) depth tuples.old columns.old tuples.new columns.new }
 {
     let act = d.act;
@@ -61,7 +61,7 @@ fn run_step(
     requires depth_bound { depth ≤ 64 }
     requires s_value { made s ≡ true }
     requires tuples_in_bounds { depth * (length tuples.old / 4) ≤ length columns.old }
-    requires tuples_in_bounds_2 { depthStepped direction s depth * (length tuples.old / 4) ≤ length columns.old }
+    requires tuples_in_bounds_2 { depth_stepped direction s depth * (length tuples.old / 4) ≤ length columns.old }
     ensures { Stands direction s depth tuples.old columns.old tuples.new columns.new result }
 {
     if is_omitted(s, direction) {
@@ -97,7 +97,7 @@ fn max_of(a: usize, b: usize) -> usize
 
 // 15: is the length of a list no multiple of 4, or over 65,536 tuples?
 fn is_bad_list(tuples: &[f64]) -> bool
-    ensures { result ≡ badList tuples.now }
+    ensures { result ≡ bad_list tuples.now }
 {
     let n = tuples.len();
     if n % 4 != 0 {

@@ -10,20 +10,20 @@ use lib.ListN.{length, drop, get_or, drop_of_length-le}
 use lib.Dec.{leb}
 use Rattle.rules.specs.Text.Lists.{all_of}
 use Rattle.rules.specs.Text.Bytes.{Bytes}
-use Rattle.rules.specs.Text.Decimal.{digit, digitsTo, spelled}
+use Rattle.rules.specs.Text.Decimal.{digit, digits_to, spelled}
 use Rattle.laws_lists.specs.Tests.{and_left, and_right}
 use Rattle.text.proofs.RunEnd.{drop-next}
 use Rattle.prepare.specs.declared.decimal.Spelled.TheVariants.{Are, Not}
-use Rattle.prepare.specs.SeriesRead.{spelledTo}
+use Rattle.prepare.specs.SeriesRead.{spelled_to}
 
 -- ---- too few or too many
 
-pub none-spelled : (most : ℕ) (t : Bytes) → length t < 1 → Not ≡ spelledTo most t
-unfolding spelledTo digitsTo
+pub none-spelled : (most : ℕ) (t : Bytes) → length t < 1 → Not ≡ spelled_to most t
+unfolding spelled_to digits_to
 none-spelled most t h = sym (rw (lt-leb 1 (length t) h))
 
-pub many-spelled : (most : ℕ) (t : Bytes) → 1 ≤ length t → most < length t → Not ≡ spelledTo most t
-unfolding spelledTo digitsTo
+pub many-spelled : (most : ℕ) (t : Bytes) → 1 ≤ length t → most < length t → Not ≡ spelled_to most t
+unfolding spelled_to digits_to
 many-spelled most t h l = sym (rw (le-leb 1 (length t) h, lt-leb (length t) most l))
 
 -- ---- the loop
@@ -57,8 +57,8 @@ module _ {most : ℕ} {t : Bytes} {n i : ℕ} (m : Spells most t n i) where
       let p : 10 ^ i ≤ 10 ^ 8 = pow-le-pow_right {n = 10} (omega arith) {i = i} {j = 8} (omega (arith, m.few, m.most-nine)) in
       omega (arith, p, m.small)
 
-  pub spells-not : i < length t → digit (get_or t i 0) ≡ false → Not ≡ spelledTo most t
-  unfolding spelledTo digitsTo all_of
+  pub spells-not : i < length t → digit (get_or t i 0) ≡ false → Not ≡ spelled_to most t
+  unfolding spelled_to digits_to all_of
   spells-not h e =
       let d : all_of digit t ≡ false = m.digits ∙ ap (all_of digit) (drop-next t i h) ∙ rw e in
       sym (rw (le-leb 1 (length t) m.some, le-leb (length t) most m.few, d))
@@ -78,8 +78,8 @@ module _ {most : ℕ} {t : Bytes} {n i : ℕ} (m : Spells most t n i) where
         digits = m.digits ∙ ap (all_of digit) (drop-next t i h) ∙ rw e;
       }
 
-  pub spells-all : length t ≤ i → Are n ≡ spelledTo most t
-  unfolding spelledTo digitsTo all_of spelled
+  pub spells-all : length t ≤ i → Are n ≡ spelled_to most t
+  unfolding spelled_to digits_to all_of spelled
   spells-all h =
       let d : all_of digit t ≡ true = m.digits ∙ ap (all_of digit) (drop_of_length-le t h) in
       let v : spelled 0 t ≡ n = m.number ∙ ap (spelled n) (drop_of_length-le t h) in

@@ -12,23 +12,23 @@ use lib.Seq.{drop-cons}
 use lib.Dec.{eqb, ltb}
 use native.Mathlib.Numerals.{add-one}
 use Rattle.rules.specs.Text.Ascii.{ascii}
-use Rattle.rules.specs.Text.Lists.{any_of, nonEmpty, is_none}
+use Rattle.rules.specs.Text.Lists.{any_of, non_empty, is_none}
 use Rattle.rules.specs.Text.Bytes.{Bytes, same}
-use Rattle.rules.specs.Text.Decimal.{pieces, series, brokenFrom}
+use Rattle.rules.specs.Text.Decimal.{pieces, series, broken_from}
 use Rattle.rules.specs.Text.Parameters.{Parameter, Placed}
-use Rattle.rules.specs.Operators.Keys.{kindIn}
-use Rattle.rules.specs.Pipeline.Keys.{everyKey, ownKeys, kind_of, unknown, misspelt, tooLong}
-use Rattle.rules.specs.Pipeline.Offsets.{faultIn, isFault, faultAt, faults, earliest}
+use Rattle.rules.specs.Operators.Keys.{kind_in}
+use Rattle.rules.specs.Pipeline.Keys.{every_key, own_keys, kind_of, unknown, misspelt, too_long}
+use Rattle.rules.specs.Pipeline.Offsets.{fault_in, is_fault, fault_at, faults, earliest}
 use Rattle.rules.specs.declared.Kind.TheVariants as kind
 use Rattle.rules.specs.declared.Name.{Name}
 use Rattle.laws_lists.specs.Lists.{drop-map}
 use Rattle.laws_lists.specs.Tests.{never}
 use Rattle.text.proofs.RunEnd.{length_part}
-use Rattle.parameters.specs.Parts.{Parts, placed_of, key_of, value_of as valuePart, value_at, held, listed, placedIn, Within, Good}
+use Rattle.parameters.specs.Parts.{Parts, placed_of, key_of, value_of as value_part, value_at, held, listed, placed_in, Within, Good}
 use Rattle.parameters.specs.declared.table.Part.{Part}
 use Rattle.parameters.proofs.Places.{held-length, held_at, good-at}
 use Rattle.prepare.specs.SeriesRead.{lowest, Reads}
-use Rattle.prepare.specs.Faults.{by, placed, unplaced, flagFault, lower, earlier, lowestOf, without, joined, Finds}
+use Rattle.prepare.specs.Faults.{by, placed, unplaced, flag_fault, lower, earlier, lowest_of, without, joined, Finds}
 use Rattle.prepare.specs.declared.faults.Lowest.{Lowest}
 use Rattle.prepare.specs.declared.series.Numbers.{Numbers}
 use Rattle.prepare.proofs.LowestFault.{lowers-none, lowers-more, lowest-one, fault-lacking, fault-flag, fault-word, fault-series}
@@ -70,31 +70,31 @@ min-is x y = go (ltb x y) refl
     go true l = let h = ltb-true x y l in omega arith
     go false l = let h = ltb-false x y l in omega arith
 
-earliest-more : (x : ℕ) (l : List ℕ) → nonEmpty l ≡ true → earliest (x ∷ l) ≡ min x (earliest l)
-unfolding earliest nonEmpty
+earliest-more : (x : ℕ) (l : List ℕ) → non_empty l ≡ true → earliest (x ∷ l) ≡ min x (earliest l)
+unfolding earliest non_empty
 earliest-more x [] h = absurd (false≢true h)
 earliest-more x (y ∷ l) h = refl
 
-earliest-one : (x : ℕ) (l : List ℕ) → nonEmpty l ≡ false → earliest (x ∷ l) ≡ x
-unfolding earliest nonEmpty
+earliest-one : (x : ℕ) (l : List ℕ) → non_empty l ≡ false → earliest (x ∷ l) ≡ x
+unfolding earliest non_empty
 earliest-one x [] h = refl
 earliest-one x (y ∷ l) h = absurd (false≢true (sym h))
 
 -- ---- of a parameter and of others
 
 module _ (n : Name) where
-  any-fault : (qs : List Placed) → any_of (λ (p : Parameter). misspelt (kind_of n p) p.value) (unplaced qs) ≡ nonEmpty (faults n qs)
-  unfolding any_of faults isFault nonEmpty
+  any-fault : (qs : List Placed) → any_of (λ (p : Parameter). misspelt (kind_of n p) p.value) (unplaced qs) ≡ non_empty (faults n qs)
+  unfolding any_of faults is_fault non_empty
   any-fault [] = refl
   any-fault (q ∷ qs) = go (misspelt (kind_of n q.given) q.given.value) (any-fault qs)
     where
-      go : (b : Bool) → any_of (λ (p : Parameter). misspelt (kind_of n p) p.value) (unplaced qs) ≡ nonEmpty (faults n qs)
-          → (b || any_of (λ (p : Parameter). misspelt (kind_of n p) p.value) (unplaced qs)) ≡ nonEmpty (cond b (faultAt n q ∷ faults n qs) (faults n qs))
+      go : (b : Bool) → any_of (λ (p : Parameter). misspelt (kind_of n p) p.value) (unplaced qs) ≡ non_empty (faults n qs)
+          → (b || any_of (λ (p : Parameter). misspelt (kind_of n p) p.value) (unplaced qs)) ≡ non_empty (cond b (fault_at n q ∷ faults n qs) (faults n qs))
       go true h = refl
       go false h = h
 
   -- the fault of one
-  only : (q : Placed) → isFault n q ≡ true → earliest (faults n (q ∷ [])) ≡ faultAt n q
+  only : (q : Placed) → is_fault n q ≡ true → earliest (faults n (q ∷ [])) ≡ fault_at n q
   unfolding faults earliest
   only q h = rw h
 
@@ -102,35 +102,35 @@ module _ (n : Name) where
   finds-none = record { lowers = lowers-none n; at = unfold without in λ e. absurd (never (omega arith)) }
 
   module _ {q : Placed} {qs : List Placed} {a b : Lowest} (f : Finds n (q ∷ []) a) (m : Finds n qs b) where
-    fault-first : 12 ≤ a.number → eqb a.number 12 ≡ isFault n q
-    unfolding isFault
+    fault-first : 12 ≤ a.number → eqb a.number 12 ≡ is_fault n q
+    unfolding is_fault
     fault-first h =
         let e = f.lowers.number ∙ lowest-one n q.given in
-        rw e (by-12 (unknown n q.given) (misspelt (kind_of n q.given) q.given.value) (tooLong (kind_of n q.given) q.given.value) (rw e at h))
+        rw e (by-12 (unknown n q.given) (misspelt (kind_of n q.given) q.given.value) (too_long (kind_of n q.given) q.given.value) (rw e at h))
 
-    fault-others : 12 ≤ b.number → eqb b.number 12 ≡ nonEmpty (faults n qs)
+    fault-others : 12 ≤ b.number → eqb b.number 12 ≡ non_empty (faults n qs)
     fault-others h =
         let lacking = any_of (unknown n) (unplaced qs) in
         let wrong = any_of (λ (p : Parameter). misspelt (kind_of n p) p.value) (unplaced qs) in
-        let long = any_of (λ (p : Parameter). tooLong (kind_of n p) p.value) (unplaced qs) in
-        let e : b.number ≡ by lacking wrong long = unfold lowestOf in m.lowers.number in
+        let long = any_of (λ (p : Parameter). too_long (kind_of n p) p.value) (unplaced qs) in
+        let e : b.number ≡ by lacking wrong long = unfold lowest_of in m.lowers.number in
         rw (e, ← any-fault qs) (by-12 lacking wrong long (rw e at h))
 
     earlier-is : lower a.number b.number ≡ 12 → earlier a.number a.at b.number b.at ≡ earliest (faults n (q ∷ qs))
     unfolding earlier faults
     earlier-is e =
         let l = lower-12 a.number b.number e in
-        go (isFault n q) refl (fault-first l.0) (nonEmpty (faults n qs)) refl (fault-others l.1)
+        go (is_fault n q) refl (fault-first l.0) (non_empty (faults n qs)) refl (fault-others l.1)
       where
-        here : isFault n q ≡ true → eqb a.number 12 ≡ true → a.at ≡ faultAt n q
+        here : is_fault n q ≡ true → eqb a.number 12 ≡ true → a.at ≡ fault_at n q
         here w z = f.at (eqb-true a.number 12 z) ∙ only q w
 
-        go : (w : Bool) → isFault n q ≡ w → eqb a.number 12 ≡ w → (v : Bool) → nonEmpty (faults n qs) ≡ v → eqb b.number 12 ≡ v
+        go : (w : Bool) → is_fault n q ≡ w → eqb a.number 12 ≡ w → (v : Bool) → non_empty (faults n qs) ≡ v → eqb b.number 12 ≡ v
             → cond (eqb a.number 12) (cond (eqb b.number 12) (cond (ltb a.at b.at) a.at b.at) a.at) b.at
-            ≡ earliest (cond w (faultAt n q ∷ faults n qs) (faults n qs))
+            ≡ earliest (cond w (fault_at n q ∷ faults n qs) (faults n qs))
         go true w z true v y =
-            rw (z, y, min-is a.at b.at, here w z, m.at (eqb-true b.number 12 y)) (sym (earliest-more (faultAt n q) (faults n qs) v))
-        go true w z false v y = rw (z, y) (here w z ∙ sym (earliest-one (faultAt n q) (faults n qs) v))
+            rw (z, y, min-is a.at b.at, here w z, m.at (eqb-true b.number 12 y)) (sym (earliest-more (fault_at n q) (faults n qs) v))
+        go true w z false v y = rw (z, y) (here w z ∙ sym (earliest-one (fault_at n q) (faults n qs) v))
         go false w z v u y = rw z (m.at (lower-other a.number b.number e z))
 
     pub finds-more : Finds n (q ∷ qs) (joined a b)
@@ -142,26 +142,26 @@ abbrev alone : Bytes → Bytes → ℕ → List Placed
 alone key value at = placed key value at ∷ []
 
 module _ {n : Name} {key value : Bytes} (at : ℕ) where
-  pub finds-lacking : kind.Lacking ≡ kindIn (everyKey ++ ownKeys n) key → Finds n (alone key value at) (without 11 at)
+  pub finds-lacking : kind.Lacking ≡ kind_in (every_key ++ own_keys n) key → Finds n (alone key value at) (without 11 at)
   finds-lacking e = record { lowers = fault-lacking e at; at = unfold without in λ z. absurd (never (omega arith)) }
 
-  pub finds-word : kind.Word ≡ kindIn (everyKey ++ ownKeys n) key → Finds n (alone key value at) (without 14 at)
+  pub finds-word : kind.Word ≡ kind_in (every_key ++ own_keys n) key → Finds n (alone key value at) (without 14 at)
   finds-word e = record { lowers = fault-word e at; at = unfold without in λ z. absurd (never (omega arith)) }
 
-  pub finds-flag : {r : ℕ} → kind.Flag ≡ kindIn (everyKey ++ ownKeys n) key → r ≡ flagFault value → Finds n (alone key value at) (without r at)
-  unfolding flagFault faults isFault faultAt faultIn misspelt kind_of earliest
+  pub finds-flag : {r : ℕ} → kind.Flag ≡ kind_in (every_key ++ own_keys n) key → r ≡ flag_fault value → Finds n (alone key value at) (without r at)
+  unfolding flag_fault faults is_fault fault_at fault_in misspelt kind_of earliest
   finds-flag {r} e h = record { lowers = fault-flag e h at; at = unfold without in λ z. wrong (same value (ascii "true")) refl (sym h ∙ z) }
     where
-      wrong : (b : Bool) → same value (ascii "true") ≡ b → flagFault value ≡ 12 → at ≡ earliest (faults n (alone key value at))
+      wrong : (b : Bool) → same value (ascii "true") ≡ b → flag_fault value ≡ 12 → at ≡ earliest (faults n (alone key value at))
       wrong true f g = absurd (never (omega (arith, rw f at g)))
       wrong false f g = sym (rw (← e, f) (add-zero at))
 
-  pub finds-series : {r : Numbers} → kind.Series ≡ kindIn (everyKey ++ ownKeys n) key → Reads value at r
+  pub finds-series : {r : Numbers} → kind.Series ≡ kind_in (every_key ++ own_keys n) key → Reads value at r
       → Finds n (alone key value at) (record { number = r.number; at = r.at; found = true; numbers = r })
-  unfolding lowest faults isFault faultAt faultIn misspelt kind_of earliest
+  unfolding lowest faults is_fault fault_at fault_in misspelt kind_of earliest
   finds-series {r} e h = record { lowers = fault-series e h; at = λ z. h.at z ∙ wrong (is_none (series value)) refl (sym h.number ∙ z) }
     where
-      wrong : (b : Bool) → is_none (series value) ≡ b → lowest value ≡ 12 → at + brokenFrom (pieces value) ≡ earliest (faults n (alone key value at))
+      wrong : (b : Bool) → is_none (series value) ≡ b → lowest value ≡ 12 → at + broken_from (pieces value) ≡ earliest (faults n (alone key value at))
       wrong true f g = sym (rw (← e, f))
       wrong false f g = absurd (no-12 (ltb 8 (length (pieces value))) (rw f at g))
 
@@ -171,34 +171,34 @@ given-placed : (s : Bytes) (l : List Part) → unplaced (map (placed_of s) l) �
 given-placed s [] = refl
 given-placed s (p ∷ l) = ap (λ (r : List Parameter). (placed_of s p).given ∷ r) (given-placed s l)
 
-pub given-in : (s : Bytes) (t : Parts) → unplaced (placedIn s t) ≡ listed s t
+pub given-in : (s : Bytes) (t : Parts) → unplaced (placed_in s t) ≡ listed s t
 given-in s t = given-placed s (held t)
 
 module _ {s : Bytes} {t : Parts} (g : Good s t) where
-  placed-next : (i : ℕ) (d : Part) → i < t.n → drop i (placedIn s t) ≡ placed_of s (get_or t.parts i d) ∷ drop (i + 1) (placedIn s t)
+  placed-next : (i : ℕ) (d : Part) → i < t.n → drop i (placed_in s t) ≡ placed_of s (get_or t.parts i d) ∷ drop (i + 1) (placed_in s t)
   placed-next i d h =
       let k : i < length (held t) = omega (arith, held-length g) in
       drop-map (placed_of s) i (held t)
       ∙ ap (map (placed_of s)) (drop-cons (held t) i d k)
       ∙ rw (held_at g i d h, drop-map (placed_of s) (i + 1) (held t), add-one i)
 
-  placed_end : drop t.n (placedIn s t) ≡ []
+  placed_end : drop t.n (placed_in s t) ≡ []
   placed_end =
-      let k : length (placedIn s t) ≤ t.n = omega (arith, length-map (held t) (placed_of s), held-length g) in
-      drop_of_length-le (placedIn s t) k
+      let k : length (placed_in s t) ≤ t.n = omega (arith, length-map (held t) (placed_of s), held-length g) in
+      drop_of_length-le (placed_in s t) k
 
 -- ---- the loop: what is so of those from i on
 
 pub record Lowering (s : Bytes) (t : Parts) (n : Name) (i : ℕ) (low : Lowest) : Type 0 where
   pub good : Good s t
   pub within : i ≤ t.n
-  pub so_far : Finds n (drop i (placedIn s t)) low
+  pub so_far : Finds n (drop i (placed_in s t)) low
 
 pub lowering-none : {s : Bytes} {t : Parts} (n : Name) {low : Lowest} → Good s t → low ≡ without 14 0 → Lowering s t n t.n low
 lowering-none {s} {t} n g e = record { good = g; within = omega arith; so_far = rw (placed_end g, e) (finds-none n) }
 
 -- a place in a short text, and a value of it behind that
-pub value-small : {s : Bytes} {p : Part} → Within s p → length s ≤ 4105 → {at : ℕ} → at ≡ value_at s p → at + length (valuePart s p) ≤ 65535
+pub value-small : {s : Bytes} {p : Part} → Within s p → length s ≤ 4105 → {at : ℕ} → at ≡ value_at s p → at + length (value_part s p) ≤ 65535
 value-small {s} {p} w h {at} e =
     let l = length_part s p.value p.value_end w.value-ahead w.value-within in
     let k : value_at s p ≤ length s = inside (ltb (length s - p.value) 9) in
@@ -213,14 +213,14 @@ module _ {s : Bytes} {t : Parts} {n : Name} {i : ℕ} {low : Lowest} (m : Loweri
   lowering-at = rw g (good-at m.good (i - 1) d (omega (arith, m.within)))
 
   -- the part that is read, and those behind it
-  here : drop (i - 1) (placedIn s t) ≡ placed_of s p ∷ drop i (placedIn s t)
+  here : drop (i - 1) (placed_in s t) ≡ placed_of s p ∷ drop i (placed_in s t)
   here =
       let k : i - 1 < t.n = omega (arith, m.within) in
       let z : i - 1 + 1 ≡ i = omega arith in
       rw (g, placed-next m.good (i - 1) d k, z)
 
-  pub lowering-more : {at : ℕ} {f r : Lowest} → at ≡ value_at s p → Finds n (placed (key_of s p) (valuePart s p) at ∷ []) f → r ≡ joined f low → Lowering s t n (i - 1) r
+  pub lowering-more : {at : ℕ} {f r : Lowest} → at ≡ value_at s p → Finds n (placed (key_of s p) (value_part s p) at ∷ []) f → r ≡ joined f low → Lowering s t n (i - 1) r
   lowering-more {at} a f e = record { good = m.good; within = omega (arith, m.within); so_far = rw (here, e) (finds-more n (rw a at f) m.so_far) }
 
-pub lowering-end : {s : Bytes} {t : Parts} {n : Name} {i : ℕ} {low : Lowest} → Lowering s t n i low → i ≤ 0 → Finds n (placedIn s t) low
+pub lowering-end : {s : Bytes} {t : Parts} {n : Name} {i : ℕ} {low : Lowest} → Lowering s t n i low → i ≤ 0 → Finds n (placed_in s t) low
 lowering-end {s} {t} {n} {i} m h = let z : i ≡ 0 = omega arith in rw z at m.so_far

@@ -12,17 +12,17 @@ use Rattle.rules.specs.Text.Bytes.{Bytes, same}
 use Rattle.rules.specs.Text.Decimal.{series}
 use Rattle.rules.specs.Text.Parameters.{Parameter}
 use Rattle.rules.specs.Operators.Arguments.{value_of, wholes}
-use Rattle.rules.specs.Operators.Keys.{Key, flag, numbered, worded, kindIn}
-use Rattle.rules.specs.Operators.Stack.{actions, actionKeys}
-use Rattle.rules.specs.Pipeline.Keys.{everyKey, ownKeys, kind_of, misspelt, tooLong}
+use Rattle.rules.specs.Operators.Keys.{Key, flag, numbered, worded, kind_in}
+use Rattle.rules.specs.Operators.Stack.{actions, action_keys}
+use Rattle.rules.specs.Pipeline.Keys.{every_key, own_keys, kind_of, misspelt, too_long}
 use Rattle.rules.specs.declared.Kind.{Kind}
 use Rattle.rules.specs.declared.Kind.TheVariants as kind
 use Rattle.rules.specs.declared.Name.{Name}
 use Rattle.rules.specs.declared.Name.TheVariants as name
 use Rattle.laws_lists.specs.Tests.{same_self, same-is, or_left, or_right, never}
-use Rattle.prepare.specs.SeriesRead.{args_of, lowest, Good, Reads, noNumbers}
-use Rattle.prepare.specs.Faults.{Kept, isSeries, firstSeries, Lowers}
-use Rattle.prepare.specs.Actions.{actionAt, key_at}
+use Rattle.prepare.specs.SeriesRead.{args_of, lowest, Good, Reads, no_numbers}
+use Rattle.prepare.specs.Faults.{Kept, is_series, first_series, Lowers}
+use Rattle.prepare.specs.Actions.{action_at, key_at}
 use Rattle.prepare.specs.declared.faults.Lowest.{Lowest}
 use Rattle.prepare.proofs.LowestFault.{Passed, passed}
 
@@ -30,7 +30,7 @@ use Rattle.prepare.proofs.LowestFault.{Passed, passed}
 
 -- does a key take a series?
 unfoldable pub takes : Name → Bytes → Bool
-takes n key = isSeries (kindIn (everyKey ++ ownKeys n) key)
+takes n key = is_series (kind_in (every_key ++ own_keys n) key)
 
 -- the first parameter gives its key
 value-here : (p : Parameter) (ps : List Parameter) → value_of p.key (p ∷ ps) ≡ none → ⊥
@@ -50,36 +50,36 @@ value-past key p ps e = go (same key p.key) e
 
 module _ (n : Name) where
   -- no key that takes a series is given
-  pub first-none : (ps : List Parameter) → ((k : Bytes) → takes n k ≡ true → value_of k ps ≡ none) → firstSeries n ps ≡ none
-  unfolding firstSeries takes kind_of
+  pub first-none : (ps : List Parameter) → ((k : Bytes) → takes n k ≡ true → value_of k ps ≡ none) → first_series n ps ≡ none
+  unfolding first_series takes kind_of
   first-none [] f = refl
-  first-none (p ∷ ps) f = go (isSeries (kind_of n p)) refl (first-none ps (λ k t. value-past k p ps (f k t)))
+  first-none (p ∷ ps) f = go (is_series (kind_of n p)) refl (first-none ps (λ k t. value-past k p ps (f k t)))
     where
-      go : (b : Bool) → isSeries (kind_of n p) ≡ b → firstSeries n ps ≡ none → cond b (some p.value) (firstSeries n ps) ≡ none
+      go : (b : Bool) → is_series (kind_of n p) ≡ b → first_series n ps ≡ none → cond b (some p.value) (first_series n ps) ≡ none
       go true e h = absurd (value-here p ps (f p.key e))
       go false e h = h
 
   -- one is, and no other
   pub first-only : (key : Bytes) → takes n key ≡ true → (ps : List Parameter) → ((k : Bytes) → takes n k ≡ true → (k ≡ key → ⊥) → value_of k ps ≡ none)
-      → firstSeries n ps ≡ value_of key ps
-  unfolding firstSeries value_of takes kind_of
+      → first_series n ps ≡ value_of key ps
+  unfolding first_series value_of takes kind_of
   first-only key t [] f = refl
   first-only key t (p ∷ ps) f =
-      go (isSeries (kind_of n p)) refl (same key p.key) refl (first-only key t ps (λ k s o. value-past k p ps (f k s o)))
+      go (is_series (kind_of n p)) refl (same key p.key) refl (first-only key t ps (λ k s o. value-past k p ps (f k s o)))
     where
       other : same key p.key ≡ false → p.key ≡ key → ⊥
       other d e = false≢true (sym d ∙ rw e (same_self key))
 
-      go : (b : Bool) → isSeries (kind_of n p) ≡ b → (d : Bool) → same key p.key ≡ d → firstSeries n ps ≡ value_of key ps
-          → cond b (some p.value) (firstSeries n ps) ≡ cond d (some p.value) (value_of key ps)
+      go : (b : Bool) → is_series (kind_of n p) ≡ b → (d : Bool) → same key p.key ≡ d → first_series n ps ≡ value_of key ps
+          → cond b (some p.value) (first_series n ps) ≡ cond d (some p.value) (value_of key ps)
       go true e true d h = refl
       go true e false d h = absurd (value-here p ps (f p.key e (other d)))
       go false e true d h = absurd (false≢true (sym e ∙ rw (same-is key p.key d) at t))
       go false e false d h = h
 
   -- where no number below 14 applies, the series is good
-  one-passed : (k : Kind) (v : Bytes) → isSeries k ≡ true → misspelt k v ≡ false → tooLong k v ≡ false → lowest v ≡ 14
-  unfolding isSeries lowest misspelt tooLong
+  one-passed : (k : Kind) (v : Bytes) → is_series k ≡ true → misspelt k v ≡ false → too_long k v ≡ false → lowest v ≡ 14
+  unfolding is_series lowest misspelt too_long
   one-passed kind.Flag v s a b = absurd (false≢true s)
   one-passed kind.Series v s a b = rw (a, b)
   one-passed kind.Word v s a b = absurd (false≢true s)
@@ -89,20 +89,20 @@ module _ (n : Name) where
   wrong p = misspelt (kind_of n p) p.value
 
   abbrev long : Parameter → Bool
-  long p = tooLong (kind_of n p) p.value
+  long p = too_long (kind_of n p) p.value
 
-  all-passed : (ps : List Parameter) {v : Bytes} → any_of wrong ps ≡ false → any_of long ps ≡ false → firstSeries n ps ≡ some v → lowest v ≡ 14
-  unfolding any_of firstSeries
+  all-passed : (ps : List Parameter) {v : Bytes} → any_of wrong ps ≡ false → any_of long ps ≡ false → first_series n ps ≡ some v → lowest v ≡ 14
+  unfolding any_of first_series
   all-passed [] a b e = absurd (never (cc e))
-  all-passed (p ∷ ps) {v} a b e = go (isSeries (kind_of n p)) refl e (λ h. all-passed ps (or_right (wrong p) _ a) (or_right (long p) _ b) h)
+  all-passed (p ∷ ps) {v} a b e = go (is_series (kind_of n p)) refl e (λ h. all-passed ps (or_right (wrong p) _ a) (or_right (long p) _ b) h)
     where
-      go : (t : Bool) → isSeries (kind_of n p) ≡ t → cond t (some p.value) (firstSeries n ps) ≡ some v → (firstSeries n ps ≡ some v → lowest v ≡ 14) → lowest v ≡ 14
+      go : (t : Bool) → is_series (kind_of n p) ≡ t → cond t (some p.value) (first_series n ps) ≡ some v → (first_series n ps ≡ some v → lowest v ≡ 14) → lowest v ≡ 14
       go true s h r =
           let z : p.value ≡ v = cc h in
           rw z at (one-passed (kind_of n p) p.value s (or_left (wrong p) _ a) (or_left (long p) _ b))
       go false s h r = r h
 
-  first-passed : (ps : List Parameter) {v : Bytes} → Passed n ps → firstSeries n ps ≡ some v → lowest v ≡ 14
+  first-passed : (ps : List Parameter) {v : Bytes} → Passed n ps → first_series n ps ≡ some v → lowest v ≡ 14
   first-passed ps m e = all-passed ps m.spelt m.short e
 
 -- ---- what is kept of it
@@ -111,7 +111,7 @@ module _ {n : Name} {ps : List Parameter} {low : Lowest} (m : Lowers n ps low) (
   well : Passed n ps
   well = passed n ps (sym m.number ∙ e)
 
-  module _ {v : Bytes} (f : firstSeries n ps ≡ some v) where
+  module _ {v : Bytes} (f : first_series n ps ≡ some v) where
     kept : Kept v low
     kept = rw f at m.series
 
@@ -128,19 +128,19 @@ module _ {n : Name} {ps : List Parameter} {low : Lowest} (m : Lowers n ps low) (
     kept-good : Good low.numbers.args
     kept-good = read.good fine
 
-  pub kept-none : firstSeries n ps ≡ none → low.numbers ≡ noNumbers
+  pub kept-none : first_series n ps ≡ none → low.numbers ≡ no_numbers
   kept-none f = (rw f at m.series).read
 
-  pub kept-found : {v : Bytes} → firstSeries n ps ≡ some v → low.found ≡ true
+  pub kept-found : {v : Bytes} → first_series n ps ≡ some v → low.found ≡ true
   kept-found f = (rw f at m.series).found
 
-  pub not_found : firstSeries n ps ≡ none → low.found ≡ false
+  pub not_found : first_series n ps ≡ none → low.found ≡ false
   not_found f = (rw f at m.series).found
 
   pub numbers-good : Good low.numbers.args
-  numbers-good = go (firstSeries n ps) refl
+  numbers-good = go (first_series n ps) refl
     where
-      go : (o : Option Bytes) → firstSeries n ps ≡ o → Good low.numbers.args
+      go : (o : Option Bytes) → first_series n ps ≡ o → Good low.numbers.args
       go none f = rw (kept-none f) (record { fits = lit≤ tt; size = refl; zeros = refl })
       go (some v) f = kept-good f
 
@@ -148,24 +148,24 @@ module _ {n : Name} {ps : List Parameter} {low : Lowest} (m : Lowers n ps low) (
 
 -- a key in a list of keys: it is the first, or one of the others
 module _ {P : Type 0} (k : Bytes) where
-  past : (x : Key) (ks : List Key) → isSeries x.kind ≡ false → (isSeries (kindIn ks k) ≡ true → P) → isSeries (kindIn (x ∷ ks) k) ≡ true → P
-  unfolding kindIn
+  past : (x : Key) (ks : List Key) → is_series x.kind ≡ false → (is_series (kind_in ks k) ≡ true → P) → is_series (kind_in (x ∷ ks) k) ≡ true → P
+  unfolding kind_in
   past x ks s f e = go (same k x.key) e
     where
-      go : (b : Bool) → isSeries (cond b x.kind (kindIn ks k)) ≡ true → P
+      go : (b : Bool) → is_series (cond b x.kind (kind_in ks k)) ≡ true → P
       go true h = absurd (false≢true (sym s ∙ h))
       go false h = f h
 
-  either : (x : Key) (ks : List Key) → (k ≡ x.key → P) → (isSeries (kindIn ks k) ≡ true → P) → isSeries (kindIn (x ∷ ks) k) ≡ true → P
-  unfolding kindIn
+  either : (x : Key) (ks : List Key) → (k ≡ x.key → P) → (is_series (kind_in ks k) ≡ true → P) → is_series (kind_in (x ∷ ks) k) ≡ true → P
+  unfolding kind_in
   either x ks g f e = go (same k x.key) refl e
     where
-      go : (b : Bool) → same k x.key ≡ b → isSeries (cond b x.kind (kindIn ks k)) ≡ true → P
+      go : (b : Bool) → same k x.key ≡ b → is_series (cond b x.kind (kind_in ks k)) ≡ true → P
       go true s h = g (same-is k x.key s)
       go false s h = f h
 
-  nowhere : isSeries (kindIn [] k) ≡ true → P
-  unfolding kindIn isSeries
+  nowhere : is_series (kind_in [] k) ≡ true → P
+  unfolding kind_in is_series
   nowhere e = absurd (false≢true e)
 
 -- those of `stack`: its first five actions
@@ -175,7 +175,7 @@ pub record SeriesKey (k : Bytes) : Type 0 where
   pub is : k ≡ key_at place
 
 pub stack-key : (k : Bytes) → takes name.Stack k ≡ true → SeriesKey k
-unfolding takes everyKey ownKeys actionKeys flag numbered worded isSeries key_at actionAt actions
+unfolding takes every_key own_keys action_keys flag numbered worded is_series key_at action_at actions
 stack-key k =
     past k _ _ refl
     (past k _ _ refl
@@ -191,9 +191,9 @@ stack-key k =
 
 -- that of `axisswap`
 pub order-key : (k : Bytes) → takes name.Axisswap k ≡ true → k ≡ ascii "order"
-unfolding takes everyKey ownKeys flag numbered worded isSeries
+unfolding takes every_key own_keys flag numbered worded is_series
 order-key k = past k _ _ refl (past k _ _ refl (past k _ _ refl (past k _ _ refl (either k _ _ (λ e. e) (nowhere k)))))
 
 pub order-takes : takes name.Axisswap (ascii "order") ≡ true
-unfolding takes kindIn everyKey ownKeys flag numbered worded isSeries same ascii
+unfolding takes kind_in every_key own_keys flag numbered worded is_series same ascii
 order-takes = refl

@@ -16,18 +16,18 @@ use Rattle.rules.specs.Text.Reader.{part}
 use Rattle.rules.specs.Text.Refusal.{Reply, refuses, refuses12}
 use Rattle.rules.specs.Operators.Arguments.{value_of}
 use Rattle.rules.specs.Operators.Table.{name_of}
-use Rattle.rules.specs.Pipeline.Keys.{kind_of, unknown, misspelt, tooLong}
-use Rattle.rules.specs.Pipeline.Offsets.{faults, earliest, offsetBy}
-use Rattle.rules.specs.Pipeline.Prepare.{ownRule, judged14, judged11, named, judged10, judged, atStep}
+use Rattle.rules.specs.Pipeline.Keys.{kind_of, unknown, misspelt, too_long}
+use Rattle.rules.specs.Pipeline.Offsets.{faults, earliest, offset_by}
+use Rattle.rules.specs.Pipeline.Prepare.{own_rule, judged14, judged11, named, judged10, judged, at_step}
 use Rattle.rules.specs.declared.Mode.{Mode}
 use Rattle.rules.specs.declared.Name.{Name}
 use Rattle.rules.specs.declared.Named.TheVariants as named-is
 use Rattle.rules.specs.declared.Step.{Step}
-use Rattle.parameters.specs.Parts.{Parts, listed, placedIn}
-use Rattle.prepare.specs.Faults.{by, unplaced, lowestOf, Finds}
+use Rattle.parameters.specs.Parts.{Parts, listed, placed_in}
+use Rattle.prepare.specs.Faults.{by, unplaced, lowest_of, Finds}
 use Rattle.prepare.specs.Lookup.{Looks}
-use Rattle.prepare.specs.Records.{refusedAt}
-use Rattle.prepare.specs.StepReply.{namedReply, placedReply}
+use Rattle.prepare.specs.Records.{refused_at}
+use Rattle.prepare.specs.StepReply.{named_reply, placed_reply}
 use Rattle.prepare.specs.declared.faults.Lowest.{Lowest}
 use Rattle.prepare.specs.declared.values.Value.{Value}
 use Rattle.prepare.proofs.KeyLookup.{value_there, value_not}
@@ -55,26 +55,26 @@ module _ (n : Name) (ps : List Parameter) where
   wrong = any_of (λ (p : Parameter). misspelt (kind_of n p) p.value) ps
 
   abbrev long : Bool
-  long = any_of (λ (p : Parameter). tooLong (kind_of n p) p.value) ps
+  long = any_of (λ (p : Parameter). too_long (kind_of n p) p.value) ps
 
-  pub lowest-least : 11 ≤ lowestOf n ps
-  unfolding lowestOf
+  pub lowest-least : 11 ≤ lowest_of n ps
+  unfolding lowest_of
   lowest-least = by-least lacking wrong long
 
-  pub lowest-most : lowestOf n ps ≤ 14
-  unfolding lowestOf
+  pub lowest-most : lowest_of n ps ≤ 14
+  unfolding lowest_of
   lowest-most = by_most lacking wrong long
 
 -- ---- by the lowest number, and at its offset
 
 -- no refusal of the operator's own rule has one
-own-nowhere : (place offset : ℕ) (o : Option Step) → place ≡ 0 → atStep place offset (judged14 o) ≡ judged14 o
-unfolding atStep judged14
+own-nowhere : (place offset : ℕ) (o : Option Step) → place ≡ 0 → at_step place offset (judged14 o) ≡ judged14 o
+unfolding at_step judged14
 own-nowhere place offset none e = rw e
 own-nowhere place offset (some s) e = refl
 
 -- only of 12 it matters where it is
-same-refusal : (number at offset : ℕ) → (number ≡ 12 → at ≡ offset) → ◌≡◌ {A = Reply Step} (refusedAt number 0 at) (refusedAt number 0 offset)
+same-refusal : (number at offset : ℕ) → (number ≡ 12 → at ≡ offset) → ◌≡◌ {A = Reply Step} (refused_at number 0 at) (refused_at number 0 offset)
 same-refusal number at offset h = go (eqb number 12) refl
   where
     go : (b : Bool) → eqb number 12 ≡ b → ◌≡◌ {A = Reply Step} (cond b (refuses12 0 at) (refuses number 0)) (cond b (refuses12 0 offset) (refuses number 0))
@@ -82,32 +82,32 @@ same-refusal number at offset h = go (eqb number 12) refl
     go false e = refl
 
 module _ (n : Name) (qs : List Placed) {low : Lowest} (f : Finds n qs low) (mode : Mode) where
-  by-lowest : namedReply mode n qs ≡ cond (ltb low.number 14) (refusedAt low.number 0 (earliest (faults n qs))) (judged14 (ownRule mode n (unplaced qs)))
-  unfolding namedReply judged11 lowestOf atStep
+  by-lowest : named_reply mode n qs ≡ cond (ltb low.number 14) (refused_at low.number 0 (earliest (faults n qs))) (judged14 (own_rule mode n (unplaced qs)))
+  unfolding named_reply judged11 lowest_of at_step
   by-lowest = rw f.lowers.number (go (lacking n (unplaced qs)) (wrong n (unplaced qs)) (long n (unplaced qs)))
     where
-      go : (a b c : Bool) → atStep 0 (earliest (faults n qs)) (cond a (refuses 11 0) (cond b (refuses12 0 0) (cond c (refuses 13 0) (judged14 (ownRule mode n (unplaced qs))))))
-          ≡ cond (ltb (by a b c) 14) (refusedAt (by a b c) 0 (earliest (faults n qs))) (judged14 (ownRule mode n (unplaced qs)))
+      go : (a b c : Bool) → at_step 0 (earliest (faults n qs)) (cond a (refuses 11 0) (cond b (refuses12 0 0) (cond c (refuses 13 0) (judged14 (own_rule mode n (unplaced qs))))))
+          ≡ cond (ltb (by a b c) 14) (refused_at (by a b c) 0 (earliest (faults n qs))) (judged14 (own_rule mode n (unplaced qs)))
       go true b c = refl
       go false true c = refl
       go false false true = refl
-      go false false false = own-nowhere 0 (earliest (faults n qs)) (ownRule mode n (unplaced qs)) refl
+      go false false false = own-nowhere 0 (earliest (faults n qs)) (own_rule mode n (unplaced qs)) refl
 
-  pub judged-low : {x : Reply Step} → low.number < 14 → x ≡ refusedAt low.number 0 low.at → x ≡ namedReply mode n qs
+  pub judged-low : {x : Reply Step} → low.number < 14 → x ≡ refused_at low.number 0 low.at → x ≡ named_reply mode n qs
   judged-low h g = g ∙ same-refusal low.number low.at (earliest (faults n qs)) f.at ∙ sym (by-lowest ∙ rw (lt-ltb low.number 14 h))
 
-  pub judged-own : {x : Reply Step} → 14 ≤ low.number → x ≡ judged14 (ownRule mode n (unplaced qs)) → x ≡ namedReply mode n qs
+  pub judged-own : {x : Reply Step} → 14 ≤ low.number → x ≡ judged14 (own_rule mode n (unplaced qs)) → x ≡ named_reply mode n qs
   judged-own h g = g ∙ sym (by-lowest ∙ rw (le-ltb low.number 14 h))
 
 -- ---- the name
 
 -- a key among the parameters of a table is looked up wherever they stand
-pub in-places : {s : Bytes} (t : Parts) (key : Bytes) {v : Value} → Looks s (listed s t) key v → Looks s (unplaced (placedIn s t)) key v
+pub in-places : {s : Bytes} (t : Parts) (key : Bytes) {v : Value} → Looks s (listed s t) key v → Looks s (unplaced (placed_in s t)) key v
 in-places {s} t key m = rw (given-in s t) m
 
 module _ (mode : Mode) {s : Bytes} (qs : List Placed) {v : Value} (m : Looks s (unplaced qs) (ascii "_name") v) where
-  pub judged-unnamed : {x : Reply Step} → v.given ≡ false → x ≡ refuses 10 0 → x ≡ placedReply mode qs
-  unfolding placedReply atStep judged named judged10
+  pub judged-unnamed : {x : Reply Step} → v.given ≡ false → x ≡ refuses 10 0 → x ≡ placed_reply mode qs
+  unfolding placed_reply at_step judged named judged10
   judged-unnamed n h = h ∙ sym (rw (value_not m n))
 
   module _ (g : v.given ≡ true) where
@@ -115,10 +115,10 @@ module _ (mode : Mode) {s : Bytes} (qs : List Placed) {v : Value} (m : Looks s (
     unfolding named
     name-there = rw (value_there m g)
 
-    pub judged-other : {x : Reply Step} → name_of (part v.from v.to s) ≡ named-is.Not → x ≡ refuses 10 0 → x ≡ placedReply mode qs
-    unfolding placedReply atStep judged judged10
+    pub judged-other : {x : Reply Step} → name_of (part v.from v.to s) ≡ named-is.Not → x ≡ refuses 10 0 → x ≡ placed_reply mode qs
+    unfolding placed_reply at_step judged judged10
     judged-other e h = h ∙ sym (rw (name-there, e))
 
-    pub judged-named : {n : Name} {x : Reply Step} → name_of (part v.from v.to s) ≡ named-is.Is n → x ≡ namedReply mode n qs → x ≡ placedReply mode qs
-    unfolding placedReply namedReply offsetBy judged judged10
+    pub judged-named : {n : Name} {x : Reply Step} → name_of (part v.from v.to s) ≡ named-is.Is n → x ≡ named_reply mode n qs → x ≡ placed_reply mode qs
+    unfolding placed_reply named_reply offset_by judged judged10
     judged-named e h = h ∙ sym (rw (name-there, e))

@@ -17,7 +17,7 @@ use Rattle.laws_lists.specs.Lists.{drop-map}
 use Rattle.parameters.specs.Parts.{Parts, part_of, key_of, held, listed, Within, Good}
 use Rattle.parameters.specs.declared.table.Part.{Part}
 use Rattle.parameters.proofs.Places.{held-length, held_at, good-at}
-use Rattle.prepare.specs.Lookup.{given, valueIs, Looks}
+use Rattle.prepare.specs.Lookup.{given, value_is, Looks}
 use Rattle.prepare.specs.declared.values.Value.{Value}
 
 -- ---- the parameters of a table, one by one
@@ -53,7 +53,7 @@ module _ {s : Bytes} {t : Parts} {key : Bytes} {i : ℕ} (m : Looking s t key i)
 
     pub looking-here : same key (key_of s (get_or t.parts i d)) ≡ true
         → Looks s (listed s t) key (record { given = true; from = (get_or t.parts i d).value; to = (get_or t.parts i d).value_end })
-    unfolding value_of valueIs
+    unfolding value_of value_is
     looking-here e = record {
       is = sym (m.so_far ∙ rw (listed_next m.good i d h, e));
       ahead = looking-part.value-ahead;
@@ -76,22 +76,22 @@ module _ {s : Bytes} {t : Parts} {key : Bytes} {i : ℕ} (m : Looking s t key i)
       looking-past e = looking-more (ap (λ (q : Part). same key (key_of s q)) (sym r) ∙ e)
 
   pub looking-end : t.n ≤ i → Looks s (listed s t) key (record { given = false; from = 0; to = 0 })
-  unfolding value_of valueIs
+  unfolding value_of value_is
   looking-end h = record { is = sym (m.so_far ∙ rw (listed-end m.good i h)); ahead = omega arith; within = omega arith }
 
 -- ---- whether a key is given, and its value
 
 module _ {s : Bytes} {ps : List Parameter} {key : Bytes} {r : Value} (m : Looks s ps key r) where
   pub value_there : r.given ≡ true → value_of key ps ≡ some (part r.from r.to s)
-  unfolding valueIs
+  unfolding value_is
   value_there e = sym m.is ∙ rw e
 
   pub value_not : r.given ≡ false → value_of key ps ≡ none
-  unfolding valueIs
+  unfolding value_is
   value_not e = sym m.is ∙ rw e
 
   pub given_is : r.given ≡ given key ps
-  unfolding given valueIs is_none
+  unfolding given value_is is_none
   given_is = sym (ap (λ (o : Option Bytes). not (is_none o)) (sym m.is) ∙ go r.given)
     where
       go : (b : Bool) → not (is_none (cond b (some (part r.from r.to s)) none)) ≡ b

@@ -15,27 +15,27 @@ use Rattle.rules.specs.declared.Prepared.TheVariants as prepared-is
 use Rattle.rules.specs.declared.Step.{Step}
 use Rattle.rules.specs.declared.Table.{Table}
 use Rattle.prepare.specs.declared.Preparing.{Preparing}
-use Rattle.prepare.specs.Lent.{row, with_row, lentTo, offsetIf, refusing, answered}
-use Rattle.prepare.specs.Records.{refusedAt}
+use Rattle.prepare.specs.Lent.{row, with_row, lent_to, offset_if, refusing, answered}
+use Rattle.prepare.specs.Records.{refused_at}
 
 module _ (t : Table) where
   whole : row t ++ drop t.n t.steps ≡ t.steps
   whole = take-append-drop t.n t.steps
 
-  pub lent-refused : {reply : Reply (List Step)} {number place : ℕ} → reply ≡ refuses number place → refusing number place 0 t ≡ lentTo reply t
-  unfolding lentTo with_row lent prepared
+  pub lent-refused : {reply : Reply (List Step)} {number place : ℕ} → reply ≡ refuses number place → refusing number place 0 t ≡ lent_to reply t
+  unfolding lent_to with_row lent prepared
   lent-refused e = sym (rw (e, whole))
 
-  lent-refused12 : {reply : Reply (List Step)} {place offset : ℕ} → reply ≡ refuses12 place offset → refusing 12 place offset t ≡ lentTo reply t
-  unfolding lentTo with_row lent prepared
+  lent-refused12 : {reply : Reply (List Step)} {place offset : ℕ} → reply ≡ refuses12 place offset → refusing 12 place offset t ≡ lent_to reply t
+  unfolding lent_to with_row lent prepared
   lent-refused12 e = sym (rw (e, whole))
 
   -- by its number: only 12 has an offset
-  pub lent-refused-at : {reply : Reply (List Step)} (number place at : ℕ) → reply ≡ refusedAt number place at → refusing number place (offsetIf number at) t ≡ lentTo reply t
-  unfolding offsetIf
+  pub lent-refused-at : {reply : Reply (List Step)} (number place at : ℕ) → reply ≡ refused_at number place at → refusing number place (offset_if number at) t ≡ lent_to reply t
+  unfolding offset_if
   lent-refused-at {reply} number place at e = go (eqb number 12) refl e
     where
-      go : (b : Bool) → eqb number 12 ≡ b → reply ≡ cond b (refuses12 place at) (refuses number place) → refusing number place (cond b at 0) t ≡ lentTo reply t
+      go : (b : Bool) → eqb number 12 ≡ b → reply ≡ cond b (refuses12 place at) (refuses number place) → refusing number place (cond b at 0) t ≡ lent_to reply t
       go true z f = rw (eqb-true number 12 z) (lent-refused12 f)
       go false z f = lent-refused f
 
@@ -44,8 +44,8 @@ module _ (t : Table) where
   given steps n = record { answer = prepared-is.Steps n; table = record { steps = steps; n = t.n } }
 
   module _ (full : length t.steps ≡ 64) {reply : Reply (List Step)} {l : List Step} (e : reply ≡ answers l) (few : length l ≤ 64) where
-    lent-short : t.n < length l → refusing 7 0 0 t ≡ lentTo reply t
-    unfolding lentTo with_row lent prepared
+    lent-short : t.n < length l → refusing 7 0 0 t ≡ lent_to reply t
+    unfolding lent_to with_row lent prepared
     lent-short h =
         let k : length (row t) < length l = rw (length-take-le t.n t.steps (omega arith)) h in
         sym (rw (e, lt-ltb (length (row t)) (length l) k, whole))
@@ -59,8 +59,8 @@ module _ (t : Table) where
         append_assoc l (drop (length l) (row t)) (drop t.n t.steps)
         ∙ ap (λ (x : List Step). l ++ x) (sym (drop-append-le (length l) (row t) (drop t.n t.steps) (fits h)) ∙ ap (drop (length l)) whole)
 
-    lent-all : {steps : List Step} {n : ℕ} → length l ≤ t.n → n ≡ length l → steps ≡ l ++ drop n t.steps → given steps n ≡ lentTo reply t
-    unfolding lentTo with_row lent prepared
+    lent-all : {steps : List Step} {n : ℕ} → length l ≤ t.n → n ≡ length l → steps ≡ l ++ drop n t.steps → given steps n ≡ lent_to reply t
+    unfolding lent_to with_row lent prepared
     lent-all h c s = sym (rw (e, le-ltb (length (row t)) (length l) (fits h), behind h, s, c))
 
   -- ---- the answer after n steps
@@ -71,7 +71,7 @@ module _ (t : Table) where
     answered-many h = rw (lt-ltb 64 n h)
 
     module _ (h : n ≤ 64) where
-      pub answered-refused : (number ≡ 0 → ⊥) → answered t steps n number place at ≡ refusing number place (offsetIf number at) t
+      pub answered-refused : (number ≡ 0 → ⊥) → answered t steps n number place at ≡ refusing number place (offset_if number at) t
       unfolding answered
       answered-refused z = rw (le-ltb 64 n h, ne_eqb number 0 z)
 
@@ -86,12 +86,12 @@ module _ (t : Table) where
 
         -- it is what the reply of these records brings into the row
         pub answered-lent : length t.steps ≡ 64 → {reply : Reply (List Step)} {l : List Step} → reply ≡ answers l → length l ≡ n → steps ≡ l ++ drop n t.steps
-            → answered t steps n number place at ≡ lentTo reply t
+            → answered t steps n number place at ≡ lent_to reply t
         answered-lent full {reply} {l} e c s = go (ltb t.n n) refl
           where
             few : length l ≤ 64
             few = omega (arith, c)
 
-            go : (b : Bool) → ltb t.n n ≡ b → answered t steps n number place at ≡ lentTo reply t
+            go : (b : Bool) → ltb t.n n ≡ b → answered t steps n number place at ≡ lent_to reply t
             go true f = answered-short (ltb-true t.n n f) ∙ lent-short full e few (omega (arith, c, ltb-true t.n n f))
             go false f = answered-all (ltb-false t.n n f) ∙ lent-all full e few (omega (arith, c, ltb-false t.n n f)) (sym c) s

@@ -15,10 +15,10 @@ use Rattle.rules.specs.Text.Bytes.{Bytes}
 use Rattle.rules.specs.Text.Parameters.{Parameter}
 use Rattle.rules.specs.Operators.Arguments.{value_of}
 use Rattle.rules.specs.Operators.Descriptions as rules
-use Rattle.rules.specs.Operators.Stack.{Action, actions, actionThen, actionsGiven, exactlyOne}
+use Rattle.rules.specs.Operators.Stack.{Action, actions, action_then, actions_given, exactly_one}
 use Rattle.laws_lists.specs.Tests.{never}
 use Rattle.prepare.specs.Lookup.{given}
-use Rattle.prepare.specs.Actions.{lastAction, actionAt, key_at, NoAction, OneAction, Chosen}
+use Rattle.prepare.specs.Actions.{last_action, action_at, key_at, NoAction, OneAction, Chosen}
 use Rattle.prepare.specs.declared.own.Choice.{Choice}
 use Rattle.prepare.specs.declared.own.Choice.TheVariants.{None, One, More}
 
@@ -46,29 +46,29 @@ given-there key ps e = go (value_of key ps) refl e
 
 -- ---- the first k actions and the next
 
-then_append : (a : Action) (o : Option Bytes) (l m : List (Option rules.Chosen)) → actionThen a o (l ++ m) ≡ actionThen a o l ++ m
-unfolding actionThen
+then_append : (a : Action) (o : Option Bytes) (l m : List (Option rules.Chosen)) → action_then a o (l ++ m) ≡ action_then a o l ++ m
+unfolding action_then
 then_append a none l m = refl
 then_append a (some v) l m = refl
 
-given-append : (ps : List Parameter) (l m : List Action) → actionsGiven ps (l ++ m) ≡ actionsGiven ps l ++ actionsGiven ps m
-unfolding actionsGiven
+given-append : (ps : List Parameter) (l m : List Action) → actions_given ps (l ++ m) ≡ actions_given ps l ++ actions_given ps m
+unfolding actions_given
 given-append ps [] m = refl
 given-append ps (a ∷ l) m =
-    ap (actionThen a (value_of (ascii a.key) ps)) (given-append ps l m) ∙ then_append a (value_of (ascii a.key) ps) (actionsGiven ps l) (actionsGiven ps m)
+    ap (action_then a (value_of (ascii a.key) ps)) (given-append ps l m) ∙ then_append a (value_of (ascii a.key) ps) (actions_given ps l) (actions_given ps m)
 
 seven : length actions ≡ 7
 unfolding actions
 seven = refl
 
-next-action : (ps : List Parameter) (k : ℕ) → k < 7 → actionsGiven ps (take (k + 1) actions) ≡ actionsGiven ps (take k actions) ++ actionThen (actionAt k) (value_of (key_at k) ps) []
-unfolding actionAt key_at
+next-action : (ps : List Parameter) (k : ℕ) → k < 7 → actions_given ps (take (k + 1) actions) ≡ actions_given ps (take k actions) ++ action_then (action_at k) (value_of (key_at k) ps) []
+unfolding action_at key_at
 next-action ps k h =
-    let t : take (k + 1) actions ≡ take k actions ++ (get_or actions k lastAction ∷ []) = rw (add-one k) (take-suc actions k lastAction (omega (arith, seven))) in
-    ap (actionsGiven ps) t ∙ given-append ps (take k actions) (get_or actions k lastAction ∷ []) ∙ (unfold actionsGiven in refl)
+    let t : take (k + 1) actions ≡ take k actions ++ (get_or actions k last_action ∷ []) = rw (add-one k) (take-suc actions k last_action (omega (arith, seven))) in
+    ap (actions_given ps) t ∙ given-append ps (take k actions) (get_or actions k last_action ∷ []) ∙ (unfold actions_given in refl)
 
 pub chosen_none : (ps : List Parameter) → Chosen ps 0 None
-unfolding actionsGiven
+unfolding actions_given
 chosen_none ps = record { given = refl; others = λ j h. absurd (never (omega arith)) }
 
 -- ---- one more
@@ -76,9 +76,9 @@ chosen_none ps = record { given = refl; others = λ j h. absurd (never (omega ar
 module _ (ps : List Parameter) {k : ℕ} (h : k < 7) where
   -- it is not given
   module _ (z : value_of (key_at k) ps ≡ none) where
-    same : actionsGiven ps (take (k + 1) actions) ≡ actionsGiven ps (take k actions)
-    unfolding actionThen
-    same = next-action ps k h ∙ rw z (append-nil (actionsGiven ps (take k actions)))
+    same : actions_given ps (take (k + 1) actions) ≡ actions_given ps (take k actions)
+    unfolding action_then
+    same = next-action ps k h ∙ rw z (append-nil (actions_given ps (take k actions)))
 
     -- a fact of the first k, and of the next
     further : {P : ℕ → Type 0} → ((j : ℕ) → j < k → P j) → P k → (j : ℕ) → j < k + 1 → P j
@@ -101,8 +101,8 @@ module _ (ps : List Parameter) {k : ℕ} (h : k < 7) where
 
   -- it is given
   module _ {v : Bytes} (here : value_of (key_at k) ps ≡ some v) where
-    longer : actionsGiven ps (take (k + 1) actions) ≡ actionsGiven ps (take k actions) ++ (rules.choose (actionAt k).operator ((actionAt k).arguments v) ∷ [])
-    unfolding actionThen
+    longer : actions_given ps (take (k + 1) actions) ≡ actions_given ps (take k actions) ++ (rules.choose (action_at k).operator ((action_at k).arguments v) ∷ [])
+    unfolding action_then
     longer = next-action ps k h ∙ rw here
 
     chosen-one : NoAction ps k → OneAction ps (k + 1) (k + 2)
@@ -120,10 +120,10 @@ module _ (ps : List Parameter) {k : ℕ} (h : k < 7) where
         before : (j : ℕ) → j < k + 1 → (j ≡ k → ⊥) → j < k
         before j l n = omega (arith, n)
 
-    chosen-two : 0 < length (actionsGiven ps (take k actions)) → 1 < length (actionsGiven ps (take (k + 1) actions))
+    chosen-two : 0 < length (actions_given ps (take k actions)) → 1 < length (actions_given ps (take (k + 1) actions))
     chosen-two l =
         rw longer
-        (omega (arith, length-append (actionsGiven ps (take k actions)) (rules.choose (actionAt k).operator ((actionAt k).arguments v) ∷ [])))
+        (omega (arith, length-append (actions_given ps (take k actions)) (rules.choose (action_at k).operator ((action_at k).arguments v) ∷ [])))
 
 -- ---- the same, as the code goes: the action of an operator, by its number and its key
 
@@ -147,23 +147,23 @@ module _ (ps : List Parameter) {operator : ℕ} (c : Choice) (low : 2 ≤ operat
         let o : OneAction ps (operator - 2 + 1) (operator - 2 + 2) = chosen-one ps (omega arith) there.is (rw f at m) in
         rw (next, b) at o
 
-    pub with_two : {other : ℕ} → c ≡ One other → Chosen ps (operator - 1) More
-    with_two {other} f =
+    pub with-two : {other : ℕ} → c ≡ One other → Chosen ps (operator - 1) More
+    with-two {other} f =
         let o : OneAction ps (operator - 2) other = rw f at m in
-        let l : 0 < length (actionsGiven ps (take (operator - 2) actions)) = rw o.given (omega arith) in
-        let t : 1 < length (actionsGiven ps (take (operator - 2 + 1) actions)) = chosen-two ps (omega arith) there.is l in
+        let l : 0 < length (actions_given ps (take (operator - 2) actions)) = rw o.given (omega arith) in
+        let t : 1 < length (actions_given ps (take (operator - 2 + 1) actions)) = chosen-two ps (omega arith) there.is l in
         rw next at t
 
     pub with-more : c ≡ More → Chosen ps (operator - 1) More
     with-more f =
-        let o : 1 < length (actionsGiven ps (take (operator - 2) actions)) = rw f at m in
-        let t : 1 < length (actionsGiven ps (take (operator - 2 + 1) actions)) = chosen-two ps (omega arith) there.is (omega arith) in
+        let o : 1 < length (actions_given ps (take (operator - 2) actions)) = rw f at m in
+        let t : 1 < length (actions_given ps (take (operator - 2 + 1) actions)) = chosen-two ps (omega arith) there.is (omega arith) in
         rw next at t
 
 -- ---- all seven
 
-two_none : (l : List (Option rules.Chosen)) → 1 < length l → exactlyOne l ≡ none
-unfolding exactlyOne
+two_none : (l : List (Option rules.Chosen)) → 1 < length l → exactly_one l ≡ none
+unfolding exactly_one
 two_none [] h = refl
 two_none (x ∷ []) h = absurd (never (omega arith))
 two_none (x ∷ y ∷ l) h = refl
@@ -173,12 +173,12 @@ unfolding actions
 all-of = refl
 
 module _ (ps : List Parameter) where
-  pub none-chosen : Chosen ps 7 None → exactlyOne (actionsGiven ps actions) ≡ none
-  none-chosen m = ap exactlyOne (rw all-of at m.given) ∙ (unfold exactlyOne in refl)
+  pub none-chosen : Chosen ps 7 None → exactly_one (actions_given ps actions) ≡ none
+  none-chosen m = ap exactly_one (rw all-of at m.given) ∙ (unfold exactly_one in refl)
 
-  pub more-chosen : Chosen ps 7 More → exactlyOne (actionsGiven ps actions) ≡ none
-  more-chosen m = two_none (actionsGiven ps actions) (rw all-of at m)
+  pub more-chosen : Chosen ps 7 More → exactly_one (actions_given ps actions) ≡ none
+  more-chosen m = two_none (actions_given ps actions) (rw all-of at m)
 
   pub one-chosen : {operator : ℕ} (m : OneAction ps 7 operator)
-      → exactlyOne (actionsGiven ps actions) ≡ rules.choose (actionAt m.place).operator ((actionAt m.place).arguments m.value)
-  one-chosen m = ap exactlyOne (rw all-of at m.given) ∙ (unfold exactlyOne in refl)
+      → exactly_one (actions_given ps actions) ≡ rules.choose (action_at m.place).operator ((action_at m.place).arguments m.value)
+  one-chosen m = ap exactly_one (rw all-of at m.given) ∙ (unfold exactly_one in refl)

@@ -11,7 +11,7 @@ use lib.Dec.{leb}
 use Rattle.rules.specs.Text.Ascii.{is}
 use Rattle.rules.specs.Text.Lists.{any_of, all_of}
 use Rattle.rules.specs.Text.Bytes.{Bytes, before, behind}
-use Rattle.rules.specs.Text.Decimal.{digit, digitsTo, spelled, plainForm, plain, decimal}
+use Rattle.rules.specs.Text.Decimal.{digit, digits_to, spelled, plain_form, plain, decimal}
 use Rattle.rules.specs.declared.Number.TheVariants as number
 use Rattle.laws_lists.specs.Tests.{and_left, and_right, never}
 use Rattle.text.specs.Runs.{Run}
@@ -19,28 +19,28 @@ use Rattle.text.proofs.RunEnd.{other}
 use Rattle.text.proofs.Lead.{part-from}
 use Rattle.parameters.proofs.Cut.{run-before, run-behind, run-any, run_none}
 use Rattle.prepare.specs.declared.decimal.Spelled.TheVariants.{Are, Not}
-use Rattle.prepare.specs.SeriesRead.{spelledTo}
+use Rattle.prepare.specs.SeriesRead.{spelled_to}
 use Rattle.prepare.proofs.DigitsSpelt.{digit-high}
 
 -- ---- what digits tell
 
-pub not-digits : (most : ℕ) (t : Bytes) → Not ≡ spelledTo most t → digitsTo most t ≡ false
-unfolding spelledTo
-not-digits most t e = go (digitsTo most t) e
+pub not-digits : (most : ℕ) (t : Bytes) → Not ≡ spelled_to most t → digits_to most t ≡ false
+unfolding spelled_to
+not-digits most t e = go (digits_to most t) e
   where
     go : (b : Bool) → Not ≡ cond b (Are (spelled 0 t)) Not → b ≡ false
     go true f = absurd (never (cc f))
     go false f = refl
 
 pub record Told (most : ℕ) (t : Bytes) (v : ℕ) : Type 0 where
-  pub digits : digitsTo most t ≡ true
+  pub digits : digits_to most t ≡ true
   pub value : v ≡ spelled 0 t
 
-pub are-digits : (most : ℕ) (t : Bytes) (v : ℕ) → Are v ≡ spelledTo most t → Told most t v
-unfolding spelledTo
-are-digits most t v e = go (digitsTo most t) refl e
+pub are-digits : (most : ℕ) (t : Bytes) (v : ℕ) → Are v ≡ spelled_to most t → Told most t v
+unfolding spelled_to
+are-digits most t v e = go (digits_to most t) refl e
   where
-    go : (b : Bool) → digitsTo most t ≡ b → Are v ≡ cond b (Are (spelled 0 t)) Not → Told most t v
+    go : (b : Bool) → digits_to most t ≡ b → Are v ≡ cond b (Are (spelled 0 t)) Not → Told most t v
     go true d f = record { digits = d; value = cc f }
     go false d f = absurd (never (cc f))
 
@@ -59,7 +59,7 @@ pub record Few (most v k : ℕ) : Type 0 where
   pub small : v < 10 ^ k
 
 pub told-few : {most : ℕ} {t : Bytes} {v : ℕ} → Told most t v → Few most v (length t)
-unfolding digitsTo
+unfolding digits_to
 told-few {most} {t} {v} m =
     let r = and_right (leb 1 (length t)) (leb (length t) most && all_of digit t) m.digits in
     let z : 0 + length t ≡ length t = omega arith in
@@ -84,29 +84,29 @@ module _ (minus : Bool) (t : Bytes) {p : ℕ} (m : Run (other (is ".")) t 0 p) w
   front : before (is ".") t ≡ take p t
   front = let z : p - 0 ≡ p = omega arith in run-before (is ".") m ∙ ap (λ (k : ℕ). take k t) z
 
-  pub plain-not : Not ≡ spelledTo 9 (take p t) → number.Not ≡ plain minus t
-  unfolding plain plainForm
+  pub plain-not : Not ≡ spelled_to 9 (take p t) → number.Not ≡ plain minus t
+  unfolding plain plain_form
   plain-not e = sym (rw (front, not-digits 9 (take p t) e))
 
-  pub plain-whole : (v : ℕ) → Are v ≡ spelledTo 9 (take p t) → length t ≤ p → number.Is (record { minus = minus; whole = v; millionths = 0 }) ≡ plain minus t
-  unfolding plain plainForm spelled
+  pub plain-whole : (v : ℕ) → Are v ≡ spelled_to 9 (take p t) → length t ≤ p → number.Is (record { minus = minus; whole = v; millionths = 0 }) ≡ plain minus t
+  unfolding plain plain_form spelled
   plain-whole v e h =
       let w = are-digits 9 (take p t) v e in
       let n : any_of (is ".") t ≡ false = run_none (is ".") m h in
       sym (rw (front, w.digits, n, behind-none (is ".") t n, w.value))
 
-  module _ (v : ℕ) (e : Are v ≡ spelledTo 9 (take p t)) (h : p < length t) where
+  module _ (v : ℕ) (e : Are v ≡ spelled_to 9 (take p t)) (h : p < length t) where
     tail : take (length t - (p + 1)) (drop (p + 1) t) ≡ behind (is ".") t
     tail = part-from t (p + 1) ∙ sym (run-behind (is ".") m h)
 
-    pub plain-no-fraction : Not ≡ spelledTo 6 (take (length t - (p + 1)) (drop (p + 1) t)) → number.Not ≡ plain minus t
-    unfolding plain plainForm
+    pub plain-no-fraction : Not ≡ spelled_to 6 (take (length t - (p + 1)) (drop (p + 1) t)) → number.Not ≡ plain minus t
+    unfolding plain plain_form
     plain-no-fraction f =
         let w = are-digits 9 (take p t) v e in
-        let d : digitsTo 6 (behind (is ".") t) ≡ false = rw (← tail) (not-digits 6 (take (length t - (p + 1)) (drop (p + 1) t)) f) in
+        let d : digits_to 6 (behind (is ".") t) ≡ false = rw (← tail) (not-digits 6 (take (length t - (p + 1)) (drop (p + 1) t)) f) in
         sym (rw (front, w.digits, run-any (is ".") m h, d))
 
-    module _ (x : ℕ) (f : Are x ≡ spelledTo 6 (take (length t - (p + 1)) (drop (p + 1) t))) where
+    module _ (x : ℕ) (f : Are x ≡ spelled_to 6 (take (length t - (p + 1)) (drop (p + 1) t))) where
       size : length (behind (is ".") t) ≡ length t - (p + 1)
       size = ap length (run-behind (is ".") m h) ∙ length-drop (p + 1) t
 
@@ -117,7 +117,7 @@ module _ (minus : Bool) (t : Bytes) {p : ℕ} (m : Run (other (is ".")) t 0 p) w
       fraction-few = rw size at (told-few told)
 
       pub plain-both : {y : ℕ} → y ≡ x * 10 ^ (6 - (length t - (p + 1))) → number.Is (record { minus = minus; whole = v; millionths = y }) ≡ plain minus t
-      unfolding plain plainForm
+      unfolding plain plain_form
       plain-both {y} g =
           let w = are-digits 9 (take p t) v e in
           sym (rw (front, w.digits, run-any (is ".") m h, told.digits, size, w.value, ← told.value, g))

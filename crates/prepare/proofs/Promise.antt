@@ -11,13 +11,13 @@ use lib.Seq.{length-take-le, take_at, drop_at, take_all}
 use lib.Dec.{ltb}
 use Rattle.rules.specs.Text.Bytes.{Bytes}
 use Rattle.rules.specs.Text.Refusal.{Reply, answers, refuses, refuses12, lent, outcome, tested, prepared}
-use Rattle.rules.specs.Pipeline.Prepare.{prepareAs, PreparesAs}
+use Rattle.rules.specs.Pipeline.Prepare.{prepare_as, PreparesAs}
 use Rattle.rules.specs.declared.Mode.{Mode}
 use Rattle.rules.specs.declared.Prepared.{Prepared}
 use Rattle.rules.specs.declared.Reading.{Reading}
 use Rattle.rules.specs.declared.Step.{Step}
 use Rattle.rules.specs.declared.Table.{Table}
-use Rattle.prepare.specs.Lent.{row, with_row, lentTo, preparingAs}
+use Rattle.prepare.specs.Lent.{row, with_row, lent_to, preparing_as}
 
 -- a reply brought into a row keeps its length
 lent_length : (reply : Reply (List Step)) (l : List Step) → length (lent prepared reply l).1 ≡ length l
@@ -55,17 +55,17 @@ module _ (l new : List Step) (n : ℕ) (e : length new ≡ length (take n l)) wh
           let j : length new ≤ n = omega arith in
           rw (drop_of_length-le l k, append-nil new) (drop_of_length-le new j)
 
--- what a caller learns of `x ≡ preparingAs r mode text t`
+-- what a caller learns of `x ≡ preparing_as r mode text t`
 pub record Keeps (r : Reading) (mode : Mode) (text : Bytes) (t : Table) (answer : Prepared) (t' : Table) : Type 0 where
   pub promised : PreparesAs r mode text (row t) answer (row t')
   pub past : drop t.n t'.steps ≡ drop t.n t.steps
   pub many : t'.n ≡ t.n
 
-pub preparing-keeps : (r : Reading) (mode : Mode) (text : Bytes) (t : Table) → Keeps r mode text t (preparingAs r mode text t).answer (preparingAs r mode text t).table
-unfolding preparingAs lentTo with_row outcome
+pub preparing-keeps : (r : Reading) (mode : Mode) (text : Bytes) (t : Table) → Keeps r mode text t (preparing_as r mode text t).answer (preparing_as r mode text t).table
+unfolding preparing_as lent_to with_row outcome
 preparing-keeps r mode text t =
-    let x = lent prepared (tested (prepareAs r mode) text) (row t) in
-    let e : length x.1 ≡ length (row t) = lent_length (tested (prepareAs r mode) text) (row t) in
+    let x = lent prepared (tested (prepare_as r mode) text) (row t) in
+    let e : length x.1 ≡ length (row t) = lent_length (tested (prepare_as r mode) text) (row t) in
     record {
       promised = record { exactly = rw (row_is t.steps x.1 t.n e) };
       past = past_is t.steps x.1 t.n e;

@@ -14,49 +14,49 @@ use Rattle.rules.specs.Text.Ascii.{ascii}
 use Rattle.rules.specs.Text.Bytes.{Bytes}
 use Rattle.rules.specs.Text.Refusal.{answers}
 use Rattle.rules.specs.Text.Parameters.{Parameter}
-use Rattle.rules.specs.Operators.Arguments.{isGiven}
+use Rattle.rules.specs.Operators.Arguments.{is_given}
 use Rattle.rules.specs.Operators.Descriptions.{Operator, choose}
 use Rattle.rules.specs.Operators.PushPop.{flagged, axes}
 use Rattle.rules.specs.Operators.Table.{number_of}
-use Rattle.rules.specs.Pipeline.Record.{stepWith}
-use Rattle.rules.specs.Pipeline.Prepare.{mark, recordOf, recorded}
+use Rattle.rules.specs.Pipeline.Record.{step_with}
+use Rattle.rules.specs.Pipeline.Prepare.{mark, record_of, recorded}
 use Rattle.rules.specs.declared.Step.{Step}
 use Rattle.record.specs.Records.{mark_of}
 use Rattle.prepare.specs.Lookup.{given}
 use Rattle.prepare.specs.SeriesRead.{args_of, Good}
-use Rattle.prepare.specs.Records.{refusedAt, replyIs, recordAt, recordedAt, Axes, Extended, Flagged}
+use Rattle.prepare.specs.Records.{refused_at, reply_is, record_at, recorded_at, Axes, Extended, Flagged}
 use Rattle.prepare.specs.declared.series.Args.{Args}
 use Rattle.prepare.proofs.SeriesPieces.{zeros-more}
 
 -- ---- replies
 
-pub refused-is : (number at : ℕ) (step : Step) → 0 < number → replyIs (record { number = number; at = at; step = step }) ≡ refusedAt number 0 at
-unfolding replyIs
+pub refused-is : (number at : ℕ) (step : Step) → 0 < number → reply_is (record { number = number; at = at; step = step }) ≡ refused_at number 0 at
+unfolding reply_is
 refused-is number at step h = let n : number ≡ 0 → ⊥ = λ e. no_zero e in rw (ne_eqb number 0 n)
   where
     no_zero : number ≡ 0 → ⊥
     no_zero e = omega arith
 
-pub answered-is : (s : Step) {t : Step} → s ≡ t → replyIs (record { number = 0; at = 0; step = s }) ≡ answers t
-unfolding replyIs
+pub answered-is : (s : Step) {t : Step} → s ≡ t → reply_is (record { number = 0; at = 0; step = s }) ≡ answers t
+unfolding reply_is
 answered-is s e = ap answers e
 
 -- ---- the record
 
-pub record-so : (operator : ℕ) (ps : List Parameter) (l : List ℤ) (i f b : Bool) {s : Step} → s ≡ stepWith operator l (mark_of i) (mark_of f) (mark_of b)
-    → i ≡ given (ascii "inv") ps → f ≡ given (ascii "omit_fwd") ps → b ≡ given (ascii "omit_inv") ps → s ≡ recordAt operator ps l
-unfolding recordAt
+pub record-so : (operator : ℕ) (ps : List Parameter) (l : List ℤ) (i f b : Bool) {s : Step} → s ≡ step_with operator l (mark_of i) (mark_of f) (mark_of b)
+    → i ≡ given (ascii "inv") ps → f ≡ given (ascii "omit_fwd") ps → b ≡ given (ascii "omit_inv") ps → s ≡ record_at operator ps l
+unfolding record_at
 record-so operator ps l i f b e x y z = e ∙ rw (x, y, z)
 
-record_of : (o : Operator) (ps : List Parameter) (l : List ℤ) → recordAt (number_of o) ps l ≡ recordOf o ps l
-unfolding recordAt recordOf mark_of mark isGiven given
-record_of o ps l = refl
+record-of : (o : Operator) (ps : List Parameter) (l : List ℤ) → record_at (number_of o) ps l ≡ record_of o ps l
+unfolding record_at record_of mark_of mark is_given given
+record-of o ps l = refl
 
 -- an operator by its number, and as a step's parameters choose it
-pub recorded-of : (o : Operator) (ps : List Parameter) (r : Option (List ℤ)) → recordedAt (number_of o) ps r ≡ recorded ps (choose o r)
-unfolding recordedAt recorded choose
+pub recorded-of : (o : Operator) (ps : List Parameter) (r : Option (List ℤ)) → recorded_at (number_of o) ps r ≡ recorded ps (choose o r)
+unfolding recorded_at recorded choose
 recorded-of o ps none = refl
-recorded-of o ps (some l) = ap some (record_of o ps l)
+recorded-of o ps (some l) = ap some (record-of o ps l)
 
 -- ---- arguments
 
@@ -93,7 +93,7 @@ flag key axis ps = cond (given key ps) (axis ∷ []) []
 
 axes-is : (ps : List Parameter)
     → axes ps ≡ flag (ascii "v_1") (pos 1) ps ++ (flag (ascii "v_2") (pos 2) ps ++ (flag (ascii "v_3") (pos 3) ps ++ flag (ascii "v_4") (pos 4) ps))
-unfolding axes flagged isGiven given
+unfolding axes flagged is_given given
 axes-is ps = refl
 
 pub axes-so : (ps : List Parameter) {z a b c d : Args} → Axes [] z → Flagged z (given (ascii "v_1") ps) (pos 1) a → Flagged a (given (ascii "v_2") ps) (pos 2) b

@@ -15,9 +15,9 @@ use lib.IntN.{ℤ, pos}
 use Rattle.rules.specs.Text.Ascii.{is}
 use Rattle.rules.specs.Text.Lists.{any_of, all_of, is_none}
 use Rattle.rules.specs.Text.Bytes.{Bytes, before, behind, onto, cut}
-use Rattle.rules.specs.Text.Decimal.{decimal, pieces, numberThen, allNumbers, series, is_number, brokenFrom, signed, is_whole, whole_of}
+use Rattle.rules.specs.Text.Decimal.{decimal, pieces, number_then, all_numbers, series, is_number, broken_from, signed, is_whole, whole_of}
 use Rattle.rules.specs.Operators.Arguments.{size, wholes}
-use Rattle.rules.specs.Pipeline.Record.{nineDigits}
+use Rattle.rules.specs.Pipeline.Record.{nine_digits}
 use Rattle.rules.specs.Text.Reader.{part}
 use Rattle.rules.specs.declared.Decimal.{Decimal}
 use Rattle.rules.specs.declared.Number.TheVariants.{Is, Not}
@@ -65,12 +65,12 @@ left-more {v} {at} {e} h m =
     outside l = let k : length v < e + 1 = omega arith in rw (run_none (is ",") m l, lt-leb (e + 1) (length v) k)
 
 -- the first that breaks decimal form: here, or behind one that does not
-broken-here : (p : Bytes) (ps : List Bytes) → decimal p ≡ Not → brokenFrom (p ∷ ps) ≡ 0
-unfolding brokenFrom is_number
+broken-here : (p : Bytes) (ps : List Bytes) → decimal p ≡ Not → broken_from (p ∷ ps) ≡ 0
+unfolding broken_from is_number
 broken-here p ps e = rw e
 
-broken-behind : (p : Bytes) (ps : List Bytes) (d : Decimal) → decimal p ≡ Is d → brokenFrom (p ∷ ps) ≡ length p + 1 + brokenFrom ps
-unfolding brokenFrom is_number
+broken-behind : (p : Bytes) (ps : List Bytes) (d : Decimal) → decimal p ≡ Is d → broken_from (p ∷ ps) ≡ length p + 1 + broken_from ps
+unfolding broken_from is_number
 broken-behind p ps d e = rw e
 
 -- ---- numbers in front of others
@@ -84,8 +84,8 @@ unfolding prefixed
 prefixed-none none = refl
 prefixed-none (some es) = refl
 
-prefixed-more : (ds : List Decimal) (d : Decimal) (r : Option (List Decimal)) → prefixed ds (numberThen (Is d) r) ≡ prefixed (ds ++ (d ∷ [])) r
-unfolding prefixed numberThen
+prefixed-more : (ds : List Decimal) (d : Decimal) (r : Option (List Decimal)) → prefixed ds (number_then (Is d) r) ≡ prefixed (ds ++ (d ∷ [])) r
+unfolding prefixed number_then
 prefixed-more ds d none = refl
 prefixed-more ds d (some es) = ap some (sym (append_snoc ds d es))
 
@@ -114,9 +114,9 @@ pub record Reading (v : Bytes) (list : List ℤ) (whole : Bool) (n at : ℕ) : T
   pub kept : take n list ≡ map whole_of (take 8 done)
   pub zeros : drop n list ≡ replicate (8 - n) (pos 0)
   pub all_whole : whole ≡ all_of is_whole done
-  pub numbers : series v ≡ prefixed done (allNumbers (left v at))
+  pub numbers : series v ≡ prefixed done (all_numbers (left v at))
   pub many : length (pieces v) ≡ n + length (left v at)
-  pub passed : brokenFrom (pieces v) ≡ at + brokenFrom (left v at)
+  pub passed : broken_from (pieces v) ≡ at + broken_from (left v at)
 
 pub reading-none : (v : Bytes) → Reading v (replicate 8 (pos 0)) true 0 0
 unfolding series all_of
@@ -129,7 +129,7 @@ reading-none v = record {
   kept = refl;
   zeros = refl;
   all_whole = refl;
-  numbers = rw (left-first v) (prefixed-none (allNumbers (pieces v)));
+  numbers = rw (left-first v) (prefixed-none (all_numbers (pieces v)));
   many = rw (left-first v) (omega arith);
   passed = rw (left-first v) (omega arith);
 }
@@ -174,10 +174,10 @@ module _ {v : Bytes} {list : List ℤ} {whole : Bool} {n at : ℕ} (m : Reading 
   module _ {e : ℕ} (h : at ≤ length v) (p : Run (other (is ",")) v at e) where
     pub piece-not : decimal (part at e v) ≡ Not → (from : ℕ) {list' : List ℤ} {whole' : Bool} {n' : ℕ}
         → Reads v from (record { number = 12; at = from + at; whole = whole'; args = record { list = list'; n = n' } })
-    unfolding allNumbers numberThen prefixed lowest is_none
+    unfolding all_numbers number_then prefixed lowest is_none
     piece-not f from =
         let z : series v ≡ none = m.numbers ∙ rw (left-more h p, f) in
-        let b : brokenFrom (left v at) ≡ 0 = ap brokenFrom (left-more h p) ∙ broken-here (part at e v) (left v (e + 1)) f in
+        let b : broken_from (left v at) ≡ 0 = ap broken_from (left-more h p) ∙ broken-here (part at e v) (left v (e + 1)) f in
         record {
           number = sym (rw z);
           at = λ k. omega (arith, m.passed, b);
@@ -188,7 +188,7 @@ module _ {v : Bytes} {list : List ℤ} {whole : Bool} {n at : ℕ} (m : Reading 
     pub reading-more : {d : Decimal} {x : ℤ} {list' : List ℤ} {whole' : Bool} → decimal (part at e v) ≡ Is d → x ≡ signed d.minus d.whole
         → list' ≡ set list n x → whole' ≡ (whole && is_whole d)
         → Reading v list' whole' (n + 1) (e + 1)
-    unfolding allNumbers whole_of
+    unfolding all_numbers whole_of
     reading-more {d} {x} f q g w = record {
       within = omega (arith, p.within);
       few = omega (arith, m.few, p.ahead);
@@ -198,16 +198,16 @@ module _ {v : Bytes} {list : List ℤ} {whole : Bool} {n at : ℕ} (m : Reading 
       kept = rw g (kept_more list n x m.size m.done d q m.count m.kept);
       zeros = rw g (zeros-more list n x m.size m.zeros);
       all_whole = w ∙ rw m.all_whole (sym (all_snoc is_whole m.done d));
-      numbers = m.numbers ∙ rw (left-more h p, f) (prefixed-more m.done d (allNumbers (left v (e + 1))));
+      numbers = m.numbers ∙ rw (left-more h p, f) (prefixed-more m.done d (all_numbers (left v (e + 1))));
       many = m.many ∙ rw (left-more h p) (omega arith);
       passed =
-          let b = ap brokenFrom (left-more h p) ∙ broken-behind (part at e v) (left v (e + 1)) d f in
+          let b = ap broken_from (left-more h p) ∙ broken-behind (part at e v) (left v (e + 1)) d f in
           omega (arith, m.passed, b, length_part v at e p.ahead p.within, p.ahead);
     }
 
   module _ (h : length v < at) where
     all_read : series v ≡ some m.done
-    unfolding allNumbers prefixed
+    unfolding all_numbers prefixed
     all_read = m.numbers ∙ rw (left-none v at h) (ap some (append-nil m.done))
 
     so-many : length (pieces v) ≡ n
@@ -244,8 +244,8 @@ pub digits-fit : (p : Bytes) (d : Decimal) → decimal p ≡ Is d → d.whole �
 unfolding whole_of
 digits-fit p d h = rw (size-signed d.minus d.whole) at (nine-so (decimal-nine p d h))
   where
-    nine-so : nineDigits (whole_of d) ≡ true → size (whole_of d) ≤ 999999999
-    nine-so h = unfold nineDigits in leb-true (size (whole_of d)) 999999999 h
+    nine-so : nine_digits (whole_of d) ≡ true → size (whole_of d) ≤ 999999999
+    nine-so h = unfold nine_digits in leb-true (size (whole_of d)) 999999999 h
 
 -- the list and the mark after it
 pub list-room : (list : List ℤ) (n : ℕ) (x : ℤ) → length list ≡ 8 → 8 ≤ n → list ≡ set list n x

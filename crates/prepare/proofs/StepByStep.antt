@@ -13,10 +13,10 @@ use lib.Dec.{eqb, ltb}
 use Rattle.rules.specs.Text.Ascii.{ascii}
 use Rattle.rules.specs.Text.Bytes.{Bytes, Words, words}
 use Rattle.rules.specs.Text.Refusal.{Reply, answers, refuses, refuses12, and_then}
-use Rattle.rules.specs.Text.Split.{steps_of, stepText, line}
-use Rattle.rules.specs.Text.Reader.{next, part, spansOf}
-use Rattle.rules.specs.Pipeline.Record.{spanned, withSpans}
-use Rattle.rules.specs.Pipeline.Prepare.{prepareSteps}
+use Rattle.rules.specs.Text.Split.{steps_of, step_text, line}
+use Rattle.rules.specs.Text.Reader.{next, part, spans_of}
+use Rattle.rules.specs.Pipeline.Record.{spanned, with_spans}
+use Rattle.rules.specs.Pipeline.Prepare.{prepare_steps}
 use Rattle.rules.specs.declared.Cursor.{Cursor}
 use Rattle.rules.specs.declared.Found.TheVariants as found
 use Rattle.rules.specs.declared.Mode.{Mode}
@@ -25,16 +25,16 @@ use Rattle.rules.specs.declared.Step.{Step}
 use Rattle.rules.specs.declared.Table.{Table}
 use Rattle.laws_text.specs.Sizes.{weight}
 use Rattle.laws_text.specs.Walk.{walk_step, walk_end}
-use Rattle.laws_text.specs.Spans.{spanTo, spansAt, span-step, span-end}
+use Rattle.laws_text.specs.Spans.{span_to, spans_at, span-step, span-end}
 use Rattle.text.specs.Wrote.{WroteAt}
 use Rattle.text.proofs.Wrote.{wrote-fits}
 use Rattle.split.specs.Lines.{HasLine, IsLine}
 use Rattle.split.specs.declared.step.Line.{Line}
 use Rattle.split.specs.declared.step.Line.TheVariants as line-is
 use Rattle.split.proofs.StepsPassed.{Passed, passed_none, passed-many, passed-well, passed-only, passed-next}
-use Rattle.prepare.specs.Records.{refusedAt, replyIs}
-use Rattle.prepare.specs.StepReply.{Bare, Roomy, stepReply}
-use Rattle.prepare.specs.Lent.{lentTo, withTheirs, stepsReply, normalReply, refusing, answered}
+use Rattle.prepare.specs.Records.{refused_at, reply_is}
+use Rattle.prepare.specs.StepReply.{Bare, Roomy, step_reply}
+use Rattle.prepare.specs.Lent.{lent_to, with_theirs, steps_reply, normal_reply, refusing, answered}
 use Rattle.prepare.specs.declared.Preparing.{Preparing}
 use Rattle.prepare.specs.declared.own.Judged.{Judged}
 use Rattle.prepare.proofs.LentTable.{lent-refused, lent-refused-at, answered-many, answered-refused, answered-lent}
@@ -66,7 +66,7 @@ pub record Made (mode : Mode) (normalised : Bytes) (t : Table) (records : List S
   pub done : List Step
   pub count : length done ≡ n
   pub stored : records ≡ done ++ drop n t.steps
-  pub same : stepsReply mode normalised ≡ prefixed done (withTheirs (spansAt normalised at) (prepareSteps mode (suc n) (map stepText (steps_of (drop at normalised)))))
+  pub same : steps_reply mode normalised ≡ prefixed done (with_theirs (spans_at normalised at) (prepare_steps mode (suc n) (map step_text (steps_of (drop at normalised)))))
 
 -- Of a normalised text, n steps stand before `at`. As long as none of them is refused and they are not too many, their records are made; once one is
 -- refused, that is the reply. The buffers are as long as ever.
@@ -80,11 +80,11 @@ pub record Reaches (mode : Mode) (normalised : Bytes) (t : Table) (a₀ b₀ c�
   pub room-c : length c ≡ length c₀
   pub walked : Passed normalised at n
   pub made : number ≡ 0 → n ≤ 64 → Made mode normalised t records at n
-  pub refused : (number ≡ 0 → ⊥) → stepsReply mode normalised ≡ refusedAt number place fault
+  pub refused : (number ≡ 0 → ⊥) → steps_reply mode normalised ≡ refused_at number place fault
 
 pub reaches-none : (mode : Mode) (normalised : Bytes) (t : Table) (a b c : Bytes) → Bare normalised → length t.steps ≡ 64 → Roomy (length normalised) (length a) (length b)
     → length normalised < length c → Reaches mode normalised t a b c a b c t.steps 0 0 0 0 0
-unfolding stepsReply spansOf
+unfolding steps_reply spans_of
 reaches-none mode normalised t a b c h f r k = record {
   bare = h;
   full = f;
@@ -94,7 +94,7 @@ reaches-none mode normalised t a b c h f r k = record {
   room-b = refl;
   room-c = refl;
   walked = passed_none normalised;
-  made = λ z few. record { done = []; count = refl; stored = refl; same = prefixed-none (stepsReply mode normalised) };
+  made = λ z few. record { done = []; count = refl; stored = refl; same = prefixed-none (steps_reply mode normalised) };
   refused = λ n. absurd (n refl);
 }
 
@@ -103,22 +103,22 @@ module _ {mode : Mode} {normalised : Bytes} {t : Table} {a₀ b₀ c₀ a b c : 
   -- ---- the end
 
   module _ (f : next normalised at ≡ found.End) where
-    too_many : 64 < n → normalReply mode normalised ≡ refuses 8 0
-    unfolding normalReply withTheirs and_then
+    too_many : 64 < n → normal_reply mode normalised ≡ refuses 8 0
+    unfolding normal_reply with_theirs and_then
     too_many h = rw (passed-many m.walked f h)
 
-    by-steps : n ≤ 64 → normalReply mode normalised ≡ stepsReply mode normalised
-    unfolding normalReply stepsReply and_then
+    by-steps : n ≤ 64 → normal_reply mode normalised ≡ steps_reply mode normalised
+    unfolding normal_reply steps_reply and_then
     by-steps h = rw (passed-well m.walked f h)
 
-    all_made : (k : Made mode normalised t records at n) → stepsReply mode normalised ≡ answers k.done
-    unfolding prepareSteps prefixed withTheirs withSpans and_then
+    all_made : (k : Made mode normalised t records at n) → steps_reply mode normalised ≡ answers k.done
+    unfolding prepare_steps prefixed with_theirs with_spans and_then
     all_made k = k.same ∙ rw (walk_end normalised at f, span-end normalised at f) (ap answers (append-nil k.done))
 
-    pub reaches_end : {r : Preparing} → r ≡ answered t records n number place fault → r ≡ lentTo (normalReply mode normalised) t
+    pub reaches_end : {r : Preparing} → r ≡ answered t records n number place fault → r ≡ lent_to (normal_reply mode normalised) t
     reaches_end e = e ∙ go (ltb 64 n) refl (eqb number 0) refl
       where
-        go : (many : Bool) → ltb 64 n ≡ many → (none : Bool) → eqb number 0 ≡ none → answered t records n number place fault ≡ lentTo (normalReply mode normalised) t
+        go : (many : Bool) → ltb 64 n ≡ many → (none : Bool) → eqb number 0 ≡ none → answered t records n number place fault ≡ lent_to (normal_reply mode normalised) t
         go true h none z = answered-many t records n number place fault (ltb-true 64 n h) ∙ lent-refused t (too_many (ltb-true 64 n h))
         go false h false z =
             let few = ltb-false 64 n h in
@@ -137,13 +137,13 @@ module _ {mode : Mode} {normalised : Bytes} {t : Table} {a₀ b₀ c₀ a b c : 
     abbrev here : Words
     here = words (part from to normalised)
 
-    pub reaches-room : 0 + length (line (stepText here)) ≤ length c
+    pub reaches-room : 0 + length (line (step_text here)) ≤ length c
     reaches-room = omega (arith, line-length normalised at from to then f, m.room, m.room-c)
 
     module _ (r : Line) (c' : Bytes) (w : IsLine here c 0 r c') where
       -- it is modifiers alone
-      pub reaches-only : {p : Preparing} → r ≡ line-is.Modifiers → p ≡ refusing 6 (n + 1) 0 t → p ≡ lentTo (normalReply mode normalised) t
-      unfolding normalReply withTheirs and_then
+      pub reaches-only : {p : Preparing} → r ≡ line-is.Modifiers → p ≡ refusing 6 (n + 1) 0 t → p ≡ lent_to (normal_reply mode normalised) t
+      unfolding normal_reply with_theirs and_then
       reaches-only e h = h ∙ lent-refused t (rw (passed-only m.walked f (rw e at w)))
 
       -- it has a line
@@ -188,54 +188,54 @@ module _ {mode : Mode} {normalised : Bytes} {t : Table} {a₀ b₀ c₀ a b c : 
             too_few few = omega arith
 
       -- its text is no longer than the whole
-      text-length : length (stepText here) ≤ length normalised
+      text-length : length (step_text here) ≤ length normalised
       unfolding line ascii
-      text-length = omega (arith, line-length normalised at from to then f, length-append (stepText here) (10 ∷ []))
+      text-length = omega (arith, line-length normalised at from to then f, length-append (step_text here) (10 ∷ []))
 
       pub reaches-short : end - 1 ≤ length normalised
-      reaches-short = omega (arith, line-end (stepText here) l.wrote, text-length)
+      reaches-short = omega (arith, line-end (step_text here) l.wrote, text-length)
 
       -- it is judged: its text has room
       pub reaches-roomy : (weight (take (end - 1) c') ≤ length (take (end - 1) c')) × Roomy (length (take (end - 1) c')) (length a) (length b)
       reaches-roomy =
-          rw (line-front (stepText here) l.wrote) (step-weight from to m.bare, roomy-for (length (stepText here)) text-length m.room-a m.room-b m.roomy)
+          rw (line-front (step_text here) l.wrote) (step-weight from to m.bare, roomy-for (length (step_text here)) text-length m.room-a m.room-b m.roomy)
 
-      module _ (z : number ≡ 0) (few : n + 1 ≤ 64) (j : Judged) (g : replyIs j ≡ stepReply mode (take (end - 1) c')) where
+      module _ (z : number ≡ 0) (few : n + 1 ≤ 64) (j : Judged) (g : reply_is j ≡ step_reply mode (take (end - 1) c')) where
         abbrev so_far : Made mode normalised t records at n
         so_far = m.made z (omega arith)
 
         -- its record
         abbrev made-now : Step
-        made-now = spanned (spanTo from to) j.step
+        made-now = spanned (span_to from to) j.step
 
         -- the spans and the replies behind it
         abbrev spans-left : List Span
-        spans-left = spansAt normalised then.at
+        spans-left = spans_at normalised then.at
 
         abbrev rest : Reply (List Step)
-        rest = prepareSteps mode (suc (suc n)) (map stepText (steps_of (drop then.at normalised)))
+        rest = prepare_steps mode (suc (suc n)) (map step_text (steps_of (drop then.at normalised)))
 
         -- a reply for it, with those behind it
         abbrev followed : Reply Step → Reply (List Step)
-        followed r = withTheirs (spanTo from to ∷ spans-left) (and_then r (λ s. and_then rest (λ l. answers (s ∷ l))))
+        followed r = with_theirs (span_to from to ∷ spans-left) (and_then r (λ s. and_then rest (λ l. answers (s ∷ l))))
 
-        judged-is : replyIs j ≡ stepReply mode (stepText here)
-        judged-is = g ∙ ap (stepReply mode) (line-front (stepText here) l.wrote)
+        judged-is : reply_is j ≡ step_reply mode (step_text here)
+        judged-is = g ∙ ap (step_reply mode) (line-front (step_text here) l.wrote)
 
-        next-reply : stepsReply mode normalised ≡ prefixed so_far.done (followed (at_place (suc n) (replyIs j)))
-        unfolding prepareSteps
-        next-reply = so_far.same ∙ rw (walk_step normalised at from to then f, span-step normalised at from to then f, step-at mode (suc n) (stepText here), ← judged-is)
+        next-reply : steps_reply mode normalised ≡ prefixed so_far.done (followed (at_place (suc n) (reply_is j)))
+        unfolding prepare_steps
+        next-reply = so_far.same ∙ rw (walk_step normalised at from to then f, span-step normalised at from to then f, step-at mode (suc n) (step_text here), ← judged-is)
 
-        now-refused : (j.number ≡ 0 → ⊥) → stepsReply mode normalised ≡ refusedAt j.number (n + 1) j.at
+        now-refused : (j.number ≡ 0 → ⊥) → steps_reply mode normalised ≡ refused_at j.number (n + 1) j.at
         now-refused h = next-reply ∙ rw (refusal_is j h, refused-there j.number (suc n) j.at, add-one n) (go (eqb j.number 12))
           where
             go : (b : Bool) → prefixed so_far.done (followed (cond b (refuses12 (suc n) j.at) (refuses j.number (suc n)))) ≡ cond b (refuses12 (suc n) j.at) (refuses j.number (suc n))
-            go true = unfold withTheirs and_then prefixed in refl
-            go false = unfold withTheirs and_then prefixed in refl
+            go true = unfold with_theirs and_then prefixed in refl
+            go false = unfold with_theirs and_then prefixed in refl
 
-        more-reply : prefixed so_far.done (followed (at_place (suc n) (answers j.step))) ≡ prefixed (so_far.done ++ (made-now ∷ [])) (withTheirs spans-left rest)
+        more-reply : prefixed so_far.done (followed (at_place (suc n) (answers j.step))) ≡ prefixed (so_far.done ++ (made-now ∷ [])) (with_theirs spans-left rest)
         unfolding at_place and_then
-        more-reply = prefixed-more so_far.done (spanTo from to) spans-left j.step rest
+        more-reply = prefixed-more so_far.done (span_to from to) spans-left j.step rest
 
         now-made : j.number ≡ 0 → Made mode normalised t (set records n made-now) then.at (n + 1)
         now-made h =

@@ -11,15 +11,15 @@ use lib.ListN.{length, take, length-map, length-append}
 use lib.Seq.{take_at}
 use lib.Dec.{ltb}
 use Rattle.rules.specs.Text.Ascii.{ascii, is}
-use Rattle.rules.specs.Text.Lists.{any_of, all_of, nonEmpty}
+use Rattle.rules.specs.Text.Lists.{any_of, all_of, non_empty}
 use Rattle.rules.specs.Text.Bytes.{Bytes, Words, white, same, trimmed, words, joined}
 use Rattle.rules.specs.Text.Normal.{normal}
 use Rattle.rules.specs.Text.Refusal.{Reply, answers, refuses, and_then}
-use Rattle.rules.specs.Text.Split.{modifier, onlyModifiers, leading, following, turned, stepText, line}
-use Rattle.rules.specs.Text.Parameters.{name, elements, enteredAllBy, table_of, placedElements, placedTable, stepTable, textTable}
-use Rattle.rules.specs.Operators.Table.{wordingOf, names, nameIn, name_of}
+use Rattle.rules.specs.Text.Split.{modifier, only_modifiers, leading, following, turned, step_text, line}
+use Rattle.rules.specs.Text.Parameters.{name, elements, entered_all_by, table_of, placed_elements, placed_table, step_table, text_table}
+use Rattle.rules.specs.Operators.Table.{wording_of, names, name_in, name_of}
 use Rattle.rules.specs.Operators.Arguments.{value_of}
-use Rattle.rules.specs.Pipeline.Prepare.{named, judged10, judged, offset_of, atStep}
+use Rattle.rules.specs.Pipeline.Prepare.{named, judged10, judged, offset_of, at_step}
 use Rattle.rules.specs.declared.Mode.{Mode}
 use Rattle.rules.specs.declared.Name.{Name}
 use Rattle.rules.specs.declared.Named.TheVariants.{Not}
@@ -37,12 +37,12 @@ use Rattle.split.specs.Lines.{HasLine, IsLine}
 use Rattle.split.specs.declared.step.Line.{Line}
 use Rattle.split.specs.declared.step.Line.TheVariants as line-is
 use Rattle.split.proofs.Lengths.{line-within}
-use Rattle.parameters.specs.Parts.{Entered, placed_of, held, placedIn}
+use Rattle.parameters.specs.Parts.{Entered, placed_of, held, placed_in}
 use Rattle.parameters.proofs.Places.{held-length}
-use Rattle.parameters.specs.Elements.{Spelt, placedAll, Cut}
+use Rattle.parameters.specs.Elements.{Spelt, placed_all, Cut}
 use Rattle.parameters.proofs.Cut.{run-any, run_none}
 use Rattle.parameters.proofs.Spelt.{spelled, spelt-behind}
-use Rattle.prepare.specs.StepReply.{Roomy, placedReply, cutReply, textReply, stepReply}
+use Rattle.prepare.specs.StepReply.{Roomy, placed_reply, cut_reply, text_reply, step_reply}
 use Rattle.prepare.proofs.StepByStep.{line-end, line-front}
 use Rattle.prepare.proofs.StepWeight.{normal-fits}
 
@@ -57,13 +57,13 @@ differs u w e f = go (same u w) refl
 
 -- does the name of an operator have one?
 separated : Name → Bool
-separated n = any_of (is "|") (ascii (wordingOf n).name)
+separated n = any_of (is "|") (ascii (wording_of n).name)
 
-no-name-in : (u : Bytes) → any_of (is "|") u ≡ true → (ns : List Name) → any_of separated ns ≡ false → nameIn ns u ≡ Not
-unfolding nameIn any_of separated
+no-name-in : (u : Bytes) → any_of (is "|") u ≡ true → (ns : List Name) → any_of separated ns ≡ false → name_in ns u ≡ Not
+unfolding name_in any_of separated
 no-name-in u e [] f = refl
 no-name-in u e (n ∷ ns) f =
-    rw (differs u (ascii (wordingOf n).name) e (or_left (separated n) (any_of separated ns) f))
+    rw (differs u (ascii (wording_of n).name) e (or_left (separated n) (any_of separated ns) f))
     (no-name-in u e ns (or_right (separated n) (any_of separated ns) f))
 
 no_name : (u : Bytes) → any_of (is "|") u ≡ true → name_of u ≡ Not
@@ -102,8 +102,8 @@ following-words (w ∷ ws) h = go (modifier w) (following-words ws (and_right (p
     go false k = h
 
 -- the words of a step's text as it is cut
-pub turned-words : (t : Bytes) → words (stepText (words t)) ≡ turned (words t)
-unfolding stepText turned
+pub turned-words : (t : Bytes) → words (step_text (words t)) ≡ turned (words t)
+unfolding step_text turned
 turned-words t =
     let ws = words t in
     words-joined (following ws ++ leading ws) (all_append plain (following ws) (leading ws) (following-words ws (words-plain t)) (leading-words ws (words-plain t)))
@@ -111,67 +111,67 @@ turned-words t =
 -- ---- a normalised text
 
 module _ (mode : Mode) {s : Bytes} {e : ℕ} (r : Run (other (is "|")) s 0 e) where
-  pub text-parted : {x : Reply Step} → e < length s → x ≡ refuses 10 0 → x ≡ textReply mode s
-  unfolding textReply textTable and_then atStep
+  pub text-parted : {x : Reply Step} → e < length s → x ≡ refuses 10 0 → x ≡ text_reply mode s
+  unfolding text_reply text_table and_then at_step
   text-parted h f =
       let a : any_of (is "|") s ≡ true = run-any (is "|") r h in
       f ∙ sym (rw (a, unnamed mode s (no_name s a)))
 
   module _ (h : length s ≤ e) where
-    one-step : textTable s ≡ stepTable (words s)
-    unfolding textTable
+    one-step : text_table s ≡ step_table (words s)
+    unfolding text_table
     one-step = let a : any_of (is "|") s ≡ false = run_none (is "|") r h in rw a
 
-    pub text-blank : {x : Reply Step} → all_of white s ≡ true → x ≡ refuses 10 0 → x ≡ textReply mode s
-    unfolding textReply and_then stepTable table_of turned following leading elements enteredAllBy onlyModifiers nonEmpty atStep
+    pub text-blank : {x : Reply Step} → all_of white s ≡ true → x ≡ refuses 10 0 → x ≡ text_reply mode s
+    unfolding text_reply and_then step_table table_of turned following leading elements entered_all_by only_modifiers non_empty at_step
     text-blank w f = f ∙ sym (rw (one-step, words-none s w, nothing-named mode))
 
     module _ (w : all_of white s ≡ false) where
-      pub text-modifiers : {x : Reply Step} → all_of modifier (words s) ≡ true → x ≡ refuses 6 0 → x ≡ textReply mode s
-      unfolding textReply and_then stepTable onlyModifiers atStep
+      pub text-modifiers : {x : Reply Step} → all_of modifier (words s) ≡ true → x ≡ refuses 6 0 → x ≡ text_reply mode s
+      unfolding text_reply and_then step_table only_modifiers at_step
       text-modifiers m f = f ∙ sym (rw (one-step, words-blank s, w, m))
 
       module _ (m : all_of modifier (words s) ≡ false) where
-        other_step : onlyModifiers (words s) ≡ false
-        unfolding onlyModifiers
-        other_step = rw m (and-false (nonEmpty (words s)))
+        other_step : only_modifiers (words s) ≡ false
+        unfolding only_modifiers
+        other_step = rw m (and-false (non_empty (words s)))
 
         -- what its words as they are cut give
-        pub text-cut : {x : Reply Step} {us : Words} → us ≡ turned (words s) → x ≡ cutReply mode us → x ≡ textReply mode s
-        unfolding textReply stepTable cutReply
-        text-cut {x} {us} u f = f ∙ ap (cutReply mode) u ∙ sym whole
+        pub text-cut : {x : Reply Step} {us : Words} → us ≡ turned (words s) → x ≡ cut_reply mode us → x ≡ text_reply mode s
+        unfolding text_reply step_table cut_reply
+        text-cut {x} {us} u f = f ∙ ap (cut_reply mode) u ∙ sym whole
           where
             ws : Words
             ws = words s
 
-            many : length (placedTable ws) ≡ length (table_of ws)
-            many = sym (length-map (placedTable ws) given) ∙ ap length (given-table ws)
+            many : length (placed_table ws) ≡ length (table_of ws)
+            many = sym (length-map (placed_table ws) given) ∙ ap length (given-table ws)
 
-            go : (b : Bool) → atStep 0 (offset_of ws) (and_then (cond b (refuses 9 0) (answers (table_of ws))) (judged mode)) ≡ cond b (refuses 9 0) (placedReply mode (placedTable ws))
-            go true = unfold atStep and_then in refl
-            go false = unfold and_then placedReply offset_of in rw (given-table ws)
+            go : (b : Bool) → at_step 0 (offset_of ws) (and_then (cond b (refuses 9 0) (answers (table_of ws))) (judged mode)) ≡ cond b (refuses 9 0) (placed_reply mode (placed_table ws))
+            go true = unfold at_step and_then in refl
+            go false = unfold and_then placed_reply offset_of in rw (given-table ws)
 
-            whole : textReply mode s ≡ cutReply mode (turned ws)
+            whole : text_reply mode s ≡ cut_reply mode (turned ws)
             whole =
                 rw (one-step, other_step)
-                (ap (λ (k : ℕ). atStep 0 (offset_of ws) (and_then (cond (ltb 32 k) (refuses 9 0) (answers (table_of ws))) (judged mode))) (sym many)
-                ∙ go (ltb 32 (length (placedTable ws))) ∙ unfold placedTable in refl)
+                (ap (λ (k : ℕ). at_step 0 (offset_of ws) (and_then (cond (ltb 32 k) (refuses 9 0) (answers (table_of ws))) (judged mode))) (sym many)
+                ∙ go (ltb 32 (length (placed_table ws))) ∙ unfold placed_table in refl)
 
 -- ---- as it stands in a buffer, with `_nametrue` behind it
 
 module _ (mode : Mode) {s : Bytes} (n : ℕ) {t : Entered} (k : Cut s (words (take n s)) t) where
-  pub cut-full : {x : Reply Step} → t.full ≡ true → x ≡ refuses 9 0 → x ≡ cutReply mode (words (take n s))
-  unfolding cutReply
+  pub cut-full : {x : Reply Step} → t.full ≡ true → x ≡ refuses 9 0 → x ≡ cut_reply mode (words (take n s))
+  unfolding cut_reply
   cut-full h f = f ∙ sym (rw (lt-ltb 32 _ (k.no_room h)))
 
-  pub cut-table : {x : Reply Step} → t.full ≡ false → x ≡ placedReply mode (placedIn s t.table) → x ≡ cutReply mode (words (take n s))
-  unfolding cutReply
+  pub cut-table : {x : Reply Step} → t.full ≡ false → x ≡ placed_reply mode (placed_in s t.table) → x ≡ cut_reply mode (words (take n s))
+  unfolding cut_reply
   cut-table h f =
-      let l : length (placedAll (placedElements (words (take n s))) []) ≤ 32 =
+      let l : length (placed_all (placed_elements (words (take n s))) []) ≤ 32 =
       rw (← k.table h) (omega (arith, length-map (held t.table) (placed_of s), held-length (k.good h), (k.good h).fits)) in
       f ∙ rw (k.table h) (sym (rw (le-ltb 32 _ l)))
 
-pub line-room : (t : Bytes) {b : ℕ} → length t + 9 ≤ b → 0 + length (line (stepText (words t))) ≤ b
+pub line-room : (t : Bytes) {b : ℕ} → length t + 9 ≤ b → 0 + length (line (step_text (words t))) ≤ b
 line-room t h = omega (arith, line-within t, h)
 
 -- what `line_at` leaves, by what it returned
@@ -183,32 +183,32 @@ no_line ws b₀ r b₁ l e = rw e at l
 
 -- a step's line in a buffer, and `_nametrue` in the place of its newline
 module _ (t : Bytes) {b₀ b₁ : Bytes} {end : ℕ} (l : HasLine (words t) b₀ 0 end b₁) where
-  text-length : end ≡ suc (length (stepText (words t)))
-  text-length = line-end (stepText (words t)) l.wrote
+  text-length : end ≡ suc (length (step_text (words t)))
+  text-length = line-end (step_text (words t)) l.wrote
 
   -- there is room for it
   pub behind-room : {x : ℕ} → length t + 9 ≤ x → length b₁ ≡ x → end - 1 + 9 ≤ length b₁
-  behind-room h e = unfold line ascii in omega (arith, h, e, line-within t, text-length, length-append (stepText (words t)) (10 ∷ []))
+  behind-room h e = unfold line ascii in omega (arith, h, e, line-within t, text-length, length-append (step_text (words t)) (10 ∷ []))
 
   module _ {m : ℕ} {b₂ : Bytes} (w : Wrote (take (end - 1) b₁ ++ spelled) b₁ m b₂) where
-    pub cut-front : take m b₂ ≡ stepText (words t) ++ spelled
-    cut-front = wrote-front w ∙ ap (λ (u : Bytes). u ++ spelled) (line-front (stepText (words t)) l.wrote)
+    pub cut-front : take m b₂ ≡ step_text (words t) ++ spelled
+    cut-front = wrote-front w ∙ ap (λ (u : Bytes). u ++ spelled) (line-front (step_text (words t)) l.wrote)
 
     pub cut-spelt : Spelt (take m b₂) (end - 1)
-    cut-spelt = rw cut-front (spelt-behind (stepText (words t)) (end - 1) (omega (arith, text-length)))
+    cut-spelt = rw cut-front (spelt-behind (step_text (words t)) (end - 1) (omega (arith, text-length)))
 
     pub cut_short : length t ≤ 4096 → length (take m b₂) ≤ 4105
-    cut_short h = unfold line ascii in omega (arith, h, ap length cut-front, length-append (stepText (words t)) spelled, line-within t, length-append (stepText (words t)) (10 ∷ []))
+    cut_short h = unfold line ascii in omega (arith, h, ap length cut-front, length-append (step_text (words t)) spelled, line-within t, length-append (step_text (words t)) (10 ∷ []))
 
-    cut-text : take (end - 1) (take m b₂) ≡ stepText (words t)
-    cut-text = ap (take (end - 1)) cut-front ∙ take_at (stepText (words t)) spelled (end - 1) (omega (arith, text-length))
+    cut-text : take (end - 1) (take m b₂) ≡ step_text (words t)
+    cut-text = ap (take (end - 1)) cut-front ∙ take_at (step_text (words t)) spelled (end - 1) (omega (arith, text-length))
 
     -- its words are the text's, turned
     pub cut-words : words (take (end - 1) (take m b₂)) ≡ turned (words t)
     cut-words = ap words cut-text ∙ turned-words t
 
     pub cut-joined : take (end - 1) (take m b₂) ≡ joined (words (take (end - 1) (take m b₂)))
-    cut-joined = cut-text ∙ unfold stepText in ap joined (sym cut-words)
+    cut-joined = cut-text ∙ unfold step_text in ap joined (sym cut-words)
 
 -- ---- a step's text, normalised again
 
@@ -219,18 +219,18 @@ module _ (t : Bytes) {n : ℕ} {a : Bytes} (w : Holds (normal t) n a) where
   pub normal-room : {x y : ℕ} → weight t ≤ 4096 → weight t + 9 ≤ x → y ≡ x → (length (take n a) ≤ 4096) × (length (take n a) + 9 ≤ y)
   normal-room h l e = (omega (arith, ap length (wrote-front w), normal-fits t, h), omega (arith, ap length (wrote-front w), normal-fits t, l, e))
 
-  pub text-so : (mode : Mode) {x : Reply Step} → x ≡ textReply mode (take n a) → x ≡ textReply mode (normal t)
-  text-so mode h = h ∙ ap (textReply mode) (wrote-front w)
+  pub text-so : (mode : Mode) {x : Reply Step} → x ≡ text_reply mode (take n a) → x ≡ text_reply mode (normal t)
+  text-so mode h = h ∙ ap (text_reply mode) (wrote-front w)
 
 -- ---- a step's text of any length
 
 module _ (t : Bytes) where
-  pub step-long : (mode : Mode) {x : Reply Step} → 4096 < length t → x ≡ refuses 1 0 → x ≡ stepReply mode t
-  unfolding stepReply
+  pub step-long : (mode : Mode) {x : Reply Step} → 4096 < length t → x ≡ refuses 1 0 → x ≡ step_reply mode t
+  unfolding step_reply
   step-long mode h f = f ∙ sym (rw (lt-ltb 4096 (length t) h))
 
-  pub step_so : (mode : Mode) {x : Reply Step} → length t ≤ 4096 → x ≡ textReply mode (normal t) → x ≡ stepReply mode t
-  unfolding stepReply
+  pub step_so : (mode : Mode) {x : Reply Step} → length t ≤ 4096 → x ≡ text_reply mode (normal t) → x ≡ step_reply mode t
+  unfolding step_reply
   step_so mode h f = f ∙ sym (rw (le-ltb 4096 (length t) h))
 
   -- its weight is its length, so its normal form has room

@@ -8,10 +8,10 @@ use native.Mathlib.Nat.{le_trans, le-min, min-le_left, min-le_right}
 use native.Mathlib.Omega.{arith}
 use lib.ListN.{length, take, drop, length-append, length-drop}
 use Rattle.rules.specs.Text.Ascii.{is}
-use Rattle.rules.specs.Text.Lists.{any_of, kept, nonEmpty}
-use Rattle.rules.specs.Text.Bytes.{Bytes, Words, white, trimStart, cut, words, afterEach, joinedBy, joined}
+use Rattle.rules.specs.Text.Lists.{any_of, kept, non_empty}
+use Rattle.rules.specs.Text.Bytes.{Bytes, Words, white, trim_start, cut, words, after_each, joined_by, joined}
 use Rattle.rules.specs.Text.Normal.{normal}
-use Rattle.rules.specs.Text.Split.{modifier, leading, following, turned, steps_of, stepText, line}
+use Rattle.rules.specs.Text.Split.{modifier, leading, following, turned, steps_of, step_text, line}
 use Rattle.rules.specs.Text.Reader.{next, part}
 use Rattle.rules.specs.declared.Cursor.{Cursor}
 use Rattle.rules.specs.declared.Found.TheVariants.{Step}
@@ -19,7 +19,7 @@ use Rattle.laws_lists.specs.Lists.{Every}
 use Rattle.laws_lists.specs.Tests.{or_left, or_right}
 use Rattle.laws_text.specs.Passes.{in_word, grow, words-cons}
 use Rattle.laws_text.specs.Separators.{no_more, no_less}
-use Rattle.laws_text.specs.Sizes.{weightOf, weight, length-weight, normal-weight}
+use Rattle.laws_text.specs.Sizes.{weight_of, weight, length-weight, normal-weight}
 use Rattle.laws_text.specs.Walk.{walk_step}
 use Rattle.split.specs.Lines.{lines_of}
 use Rattle.split.proofs.Lengths.{lines-length}
@@ -60,7 +60,7 @@ module _ (test : ℕ → Bool) where
 
   words-free : (t : Bytes) → any_of test t ≡ false → Free (words t)
   unfolding any_of
-  words-free [] e = unfold words kept cut nonEmpty Every in tt
+  words-free [] e = unfold words kept cut non_empty Every in tt
   words-free (x ∷ t) e = rw (words-cons x t) (go (white x) (words-free t (or_right (test x) (any_of test t) e)))
     where
       go : (b : Bool) → Free (words t) → Free (cond b (words t) (grow x (in_word t) (words t)))
@@ -91,18 +91,18 @@ module _ (test : ℕ → Bool) where
       go false g = tt
 
   module _ (s : test 32 ≡ false) where
-    after_free : (ws : Words) → Free ws → any_of test (afterEach (32 ∷ []) ws) ≡ false
-    unfolding Every any_of afterEach
+    after_free : (ws : Words) → Free ws → any_of test (after_each (32 ∷ []) ws) ≡ false
+    unfolding Every any_of after_each
     after_free [] f = refl
-    after_free (w ∷ ws) f = rw s (any_append w (afterEach (32 ∷ []) ws) f.0 (after_free ws f.1))
+    after_free (w ∷ ws) f = rw s (any_append w (after_each (32 ∷ []) ws) f.0 (after_free ws f.1))
 
     joined_free : (ws : Words) → Free ws → any_of test (joined ws) ≡ false
-    unfolding Every any_of joined joinedBy
+    unfolding Every any_of joined joined_by
     joined_free [] f = refl
-    joined_free (w ∷ ws) f = any_append w (afterEach (32 ∷ []) ws) f.0 (after_free ws f.1)
+    joined_free (w ∷ ws) f = any_append w (after_each (32 ∷ []) ws) f.0 (after_free ws f.1)
 
-    step-free : (from to : ℕ) (t : Bytes) → any_of test t ≡ false → any_of test (stepText (words (part from to t))) ≡ false
-    unfolding stepText turned
+    step-free : (from to : ℕ) (t : Bytes) → any_of test t ≡ false → any_of test (step_text (words (part from to t))) ≡ false
+    unfolding step_text turned
     step-free from to t e =
         let f = words-free (part from to t) (any-take (to - from) (drop from t) (any-drop from t e)) in
         let ws = words (part from to t) in
@@ -111,24 +111,24 @@ module _ (test : ℕ → Bool) where
 -- ---- weights
 
 bare-weight : (t : Bytes) → any_of (is ">") t ≡ false → any_of (is "<") t ≡ false → weight t ≡ length t
-unfolding weight weightOf any_of
+unfolding weight weight_of any_of
 bare-weight [] e f = refl
 bare-weight (x ∷ t) e f =
     rw (or_left (is ">" x) (any_of (is ">") t) e, or_left (is "<" x) (any_of (is "<") t) f)
     (omega (arith, bare-weight t (or_right (is ">" x) (any_of (is ">") t) e) (or_right (is "<" x) (any_of (is "<") t) f)))
 
-pub step-weight : {t : Bytes} (from to : ℕ) → Bare t → weight (stepText (words (part from to t))) ≤ length (stepText (words (part from to t)))
+pub step-weight : {t : Bytes} (from to : ℕ) → Bare t → weight (step_text (words (part from to t))) ≤ length (step_text (words (part from to t)))
 step-weight {t} from to b =
-    let u = stepText (words (part from to t)) in
+    let u = step_text (words (part from to t)) in
     omega (arith, bare-weight u (step-free (is ">") refl from to t b.no_more) (step-free (is "<") refl from to t b.no_less))
 
 -- white space at its front weighs something
-front-weight : (t : Bytes) → weight (trimStart white t) ≤ weight t
-unfolding weight trimStart
+front-weight : (t : Bytes) → weight (trim_start white t) ≤ weight t
+unfolding weight trim_start
 front-weight [] = omega arith
 front-weight (x ∷ t) = go (white x) (front-weight t)
   where
-    go : (b : Bool) → weight (trimStart white t) ≤ weight t → weight (cond b (trimStart white t) (x ∷ t)) ≤ weightOf x + weight t
+    go : (b : Bool) → weight (trim_start white t) ≤ weight t → weight (cond b (trim_start white t) (x ∷ t)) ≤ weight_of x + weight t
     go true h = omega arith
     go false h = omega arith
 
@@ -137,15 +137,15 @@ normal-fits t = omega (arith, length-weight (normal t), normal-weight t, front-w
 
 -- ---- a step's line is at most a byte longer than the text that it is a step of
 
-pub line-length : (t : Bytes) (at from to : ℕ) (then : Cursor) → next t at ≡ Step from to then → length (line (stepText (words (part from to t)))) ≤ suc (length t)
+pub line-length : (t : Bytes) (at from to : ℕ) (then : Cursor) → next t at ≡ Step from to then → length (line (step_text (words (part from to t)))) ≤ suc (length t)
 line-length t at from to then f =
     let here = words (part from to t) in
     let others = steps_of (drop then.at t) in
     let l : length (lines_of (steps_of (drop at t))) ≡ length (lines_of (here ∷ others)) = ap (λ ss. length (lines_of ss)) (walk_step t at from to then f) in
     omega (arith, l, lines-length (drop at t), length-drop at t, first-line here others)
   where
-    first-line : (ws : Words) (ss : List Words) → length (line (stepText ws)) ≤ length (lines_of (ws ∷ ss))
-    first-line ws ss = unfold flat_map in omega (arith, length-append (line (stepText ws)) (lines_of ss))
+    first-line : (ws : Words) (ss : List Words) → length (line (step_text ws)) ≤ length (lines_of (ws ∷ ss))
+    first-line ws ss = unfold flat_map in omega (arith, length-append (line (step_text ws)) (lines_of ss))
 
 -- ---- room for a shorter text
 

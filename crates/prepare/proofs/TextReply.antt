@@ -7,36 +7,36 @@ use native.Mathlib.Omega.{arith}
 use borrow.Author.Tests.{le-ltb}
 use lib.ListN.{length, take}
 use lib.Dec.{ltb}
-use Rattle.rules.specs.Text.Bytes.{Bytes, inDomain}
+use Rattle.rules.specs.Text.Bytes.{Bytes, in_domain}
 use Rattle.rules.specs.Text.Refusal.{refuses, tested}
 use Rattle.rules.specs.Text.Normal.{normal}
 use Rattle.rules.specs.Text.Comments.{stripped}
 use Rattle.rules.specs.Text.Split.{steps}
 use Rattle.rules.specs.Text.Reader.{definition, spans}
-use Rattle.rules.specs.Pipeline.Prepare.{prepareSplit, prepareIn}
+use Rattle.rules.specs.Pipeline.Prepare.{prepare_split, prepare_in}
 use Rattle.rules.specs.declared.Mode.{Mode}
 use Rattle.rules.specs.declared.Table.{Table}
-use Rattle.laws_text.specs.Entry.{RefusedFirst, firstRefusal}
+use Rattle.laws_text.specs.Entry.{RefusedFirst, first_refusal}
 use Rattle.laws_text.specs.Sizes.{steps-length}
 use Rattle.text.specs.Wrote.{Holds}
 use Rattle.text.proofs.Wrote.{wrote-front}
 use Rattle.prepare.specs.StepReply.{Bare, Roomy}
-use Rattle.prepare.specs.Lent.{lentTo, preparing, withTheirs, normalReply, refusing}
+use Rattle.prepare.specs.Lent.{lent_to, preparing, with_theirs, normal_reply, refusing}
 use Rattle.prepare.specs.declared.Preparing.{Preparing}
 use Rattle.prepare.proofs.LentTable.{lent-refused}
 use Rattle.prepare.proofs.StepWeight.{normal-bare, roomy-for}
 
-is-prepare : (mode : Mode) (t : Bytes) → prepareIn mode t ≡ normalReply mode (normal (stripped t))
-unfolding prepareIn prepareSplit steps spans definition normalReply withTheirs
+is-prepare : (mode : Mode) (t : Bytes) → prepare_in mode t ≡ normal_reply mode (normal (stripped t))
+unfolding prepare_in prepare_split steps spans definition normal_reply with_theirs
 is-prepare mode t = refl
 
 module _ (text : Bytes) (t : Table) where
   -- 1 and 2
-  first-is : (mode : Mode) {number : ℕ} → RefusedFirst text number → (number ≡ 0 → ⊥) → tested (prepareIn mode) text ≡ refuses number 0
-  unfolding tested firstRefusal
-  first-is mode {number} f n = go (ltb 4096 (length text)) (inDomain text) f.exactly
+  first-is : (mode : Mode) {number : ℕ} → RefusedFirst text number → (number ≡ 0 → ⊥) → tested (prepare_in mode) text ≡ refuses number 0
+  unfolding tested first_refusal
+  first-is mode {number} f n = go (ltb 4096 (length text)) (in_domain text) f.exactly
     where
-      go : (long fine : Bool) → number ≡ cond long 1 (cond (not fine) 2 0) → cond long (refuses 1 0) (cond (not fine) (refuses 2 0) (prepareIn mode text)) ≡ refuses number 0
+      go : (long fine : Bool) → number ≡ cond long 1 (cond (not fine) 2 0) → cond long (refuses 1 0) (cond (not fine) (refuses 2 0) (prepare_in mode text)) ≡ refuses number 0
       go true fine e = rw e
       go false true e = absurd (n e)
       go false false e = rw e
@@ -63,7 +63,7 @@ module _ (text : Bytes) (t : Table) where
     normal-roomy {x} {y} h l e =
         roomy-for (length (take n a)) normal-short e refl (record { first = omega (arith, l, min-le_left (10 * length text) 4096); second = h })
 
-    pub prepare-so : (mode : Mode) {r : Preparing} → length text ≤ 4096 → inDomain text ≡ true → r ≡ lentTo (normalReply mode (take n a)) t
+    pub prepare-so : (mode : Mode) {r : Preparing} → length text ≤ 4096 → in_domain text ≡ true → r ≡ lent_to (normal_reply mode (take n a)) t
         → r ≡ preparing mode text t
     unfolding preparing tested
     prepare-so mode h d f = f ∙ rw (wrote-front w) (sym (rw (le-ltb 4096 (length text) h, d, is-prepare mode text)))

@@ -5,12 +5,12 @@ use Rattle.rules.specs.Text.Ascii.{ascii}
 use Rattle.rules.specs.Text.Lists.{any_of}
 use Rattle.rules.specs.Text.Bytes.{Bytes, same}
 use Rattle.rules.specs.Text.Parameters.{Parameter, Placed}
-use Rattle.rules.specs.Pipeline.Keys.{kind_of, unknown, misspelt, tooLong}
+use Rattle.rules.specs.Pipeline.Keys.{kind_of, unknown, misspelt, too_long}
 use Rattle.rules.specs.Pipeline.Offsets.{faults, earliest}
 use Rattle.rules.specs.declared.Kind.{Kind}
 use Rattle.rules.specs.declared.Kind.TheVariants as kind
 use Rattle.rules.specs.declared.Name.{Name}
-use Rattle.prepare.specs.SeriesRead.{Reads, noNumbers}
+use Rattle.prepare.specs.SeriesRead.{Reads, no_numbers}
 use Rattle.prepare.specs.declared.faults.Lowest.{Lowest}
 
 -- "its lowest number of .. 9 to 14": 11, 12, 13, then 14
@@ -28,8 +28,8 @@ abbrev pub unplaced : List Placed → List Parameter
 unplaced qs = map (λ (q : Placed). q.given) qs
 
 -- of a flag
-unfoldable pub flagFault : Bytes → ℕ
-flagFault value = cond (same value (ascii "true")) 14 12
+unfoldable pub flag_fault : Bytes → ℕ
+flag_fault value = cond (same value (ascii "true")) 14 12
 
 -- the lower of two
 unfoldable pub lower : ℕ → ℕ → ℕ
@@ -40,27 +40,27 @@ unfoldable pub earlier : ℕ → ℕ → ℕ → ℕ → ℕ
 earlier a x b y = cond (eqb a 12) (cond (eqb b 12) (cond (ltb x y) x y) x) y
 
 -- of all of a step
-unfoldable pub lowestOf : Name → List Parameter → ℕ
-lowestOf n ps =
-    by (any_of (unknown n) ps) (any_of (λ (p : Parameter). misspelt (kind_of n p) p.value) ps) (any_of (λ (p : Parameter). tooLong (kind_of n p) p.value) ps)
+unfoldable pub lowest_of : Name → List Parameter → ℕ
+lowest_of n ps =
+    by (any_of (unknown n) ps) (any_of (λ (p : Parameter). misspelt (kind_of n p) p.value) ps) (any_of (λ (p : Parameter). too_long (kind_of n p) p.value) ps)
 
 -- does a key take a series?
-unfoldable pub isSeries : Kind → Bool
-isSeries kind.Flag = false
-isSeries kind.Series = true
-isSeries kind.Word = false
-isSeries kind.Lacking = false
+unfoldable pub is_series : Kind → Bool
+is_series kind.Flag = false
+is_series kind.Series = true
+is_series kind.Word = false
+is_series kind.Lacking = false
 
 -- the value of the first key that does
-unfoldable pub firstSeries : Name → List Parameter → Option Bytes
-firstSeries n [] = none
-firstSeries n (p ∷ ps) = cond (isSeries (kind_of n p)) (some p.value) (firstSeries n ps)
+unfoldable pub first_series : Name → List Parameter → Option Bytes
+first_series n [] = none
+first_series n (p ∷ ps) = cond (is_series (kind_of n p)) (some p.value) (first_series n ps)
 
 -- ---- as the code has them
 
 -- a number at a byte, and no series
 unfoldable pub without : ℕ → ℕ → Lowest
-without number at = record { number = number; at = at; found = false; numbers = noNumbers }
+without number at = record { number = number; at = at; found = false; numbers = no_numbers }
 
 -- the lower number of two, the earlier byte, and the first series
 unfoldable pub joined : Lowest → Lowest → Lowest
@@ -80,15 +80,15 @@ pub record Kept (v : Bytes) (r : Lowest) : Type 0 where
 
 pub record NoneKept (r : Lowest) : Type 0 where
   pub found : r.found ≡ false
-  pub read : r.numbers ≡ noNumbers
+  pub read : r.numbers ≡ no_numbers
 
 abbrev pub Keeps : Option Bytes → Lowest → Type 0
 Keeps none r = NoneKept r
 Keeps (some v) r = Kept v r
 
 pub record Lowers (n : Name) (ps : List Parameter) (r : Lowest) : Type 0 where
-  pub number : r.number ≡ lowestOf n ps
-  pub series : Keeps (firstSeries n ps) r
+  pub number : r.number ≡ lowest_of n ps
+  pub series : Keeps (first_series n ps) r
 
 -- the same of parameters in their places, and where 12 is
 pub record Finds (n : Name) (qs : List Placed) (r : Lowest) : Type 0 where

@@ -11,25 +11,25 @@ use Rattle.prepare.specs.declared.values.Value.{Value}
 
 -- the first n parts of a row lie in the text; these are the parameters
 abbrev pub IsTable : Bytes → List ℕ → ℕ → Type 0
-IsTable s row n = parts.Good s (parts.tableIn row n)
+IsTable s row n = parts.Good s (parts.table_in row n)
 
-abbrev pub paramsIn : Bytes → List ℕ → ℕ → List Parameter
-paramsIn s row n = parts.listed s (parts.tableIn row n)
+abbrev pub params_in : Bytes → List ℕ → ℕ → List Parameter
+params_in s row n = parts.listed s (parts.table_in row n)
 
 -- the same in their places
-abbrev pub placedIn : Bytes → List ℕ → ℕ → List Placed
-placedIn s row n = parts.placedIn s (parts.tableIn row n)
+abbrev pub placed_in : Bytes → List ℕ → ℕ → List Placed
+placed_in s row n = parts.placed_in s (parts.table_in row n)
 
 -- is the key given?
 unfoldable pub given : Bytes → List Parameter → Bool
 given key ps = not (is_none (value_of key ps))
 
 -- a value as a part of a text
-unfoldable pub valueIs : Bytes → Value → Option Bytes
-valueIs s v = cond v.given (some (part v.from v.to s)) none
+unfoldable pub value_is : Bytes → Value → Option Bytes
+value_is s v = cond v.given (some (part v.from v.to s)) none
 
 -- what looking a key up gives
 pub record Looks (s : Bytes) (ps : List Parameter) (key : Bytes) (r : Value) : Type 0 where
-  pub is : valueIs s r ≡ value_of key ps
+  pub is : value_is s r ≡ value_of key ps
   pub ahead : r.from ≤ r.to
   pub within : r.to ≤ length s

@@ -4,8 +4,8 @@ use Rattle.std.proofs.Math.Option.{Option, none, some}
 use Rattle.rules.specs.Text.Ascii.{ascii}
 use Rattle.rules.specs.Text.Refusal.{Reply, answers, refuses, refuses12}
 use Rattle.rules.specs.Text.Parameters.{Parameter}
-use Rattle.rules.specs.Operators.Table.{operatorOf, isArgs}
-use Rattle.rules.specs.Pipeline.Record.{stepWith}
+use Rattle.rules.specs.Operators.Table.{operator_of, is_args}
+use Rattle.rules.specs.Pipeline.Record.{step_with}
 use Rattle.rules.specs.declared.Step.{Step}
 use Rattle.record.specs.Records.{mark_of}
 use Rattle.prepare.specs.Lookup.{given}
@@ -15,25 +15,25 @@ use Rattle.prepare.specs.declared.series.Args.{Args}
 use Rattle.prepare.specs.declared.series.Numbers.{Numbers}
 
 -- a refusal by its number, at a place; where it is 12, at a byte
-abbrev pub refusedAt : {A : Type 0} → ℕ → ℕ → ℕ → Reply A
-refusedAt number place at = cond (eqb number 12) (refuses12 place at) (refuses number place)
+abbrev pub refused_at : {A : Type 0} → ℕ → ℕ → ℕ → Reply A
+refused_at number place at = cond (eqb number 12) (refuses12 place at) (refuses number place)
 
 -- what judging gives, as a reply
-unfoldable pub replyIs : Judged → Reply Step
-replyIs r = cond (eqb r.number 0) (answers r.step) (refusedAt r.number 0 r.at)
+unfoldable pub reply_is : Judged → Reply Step
+reply_is r = cond (eqb r.number 0) (answers r.step) (refused_at r.number 0 r.at)
 
 -- the record of the operator of that number
-unfoldable pub recordAt : ℕ → List Parameter → List ℤ → Step
-recordAt operator ps l =
-    stepWith operator l (mark_of (given (ascii "inv") ps)) (mark_of (given (ascii "omit_fwd") ps)) (mark_of (given (ascii "omit_inv") ps))
+unfoldable pub record_at : ℕ → List Parameter → List ℤ → Step
+record_at operator ps l =
+    step_with operator l (mark_of (given (ascii "inv") ps)) (mark_of (given (ascii "omit_fwd") ps)) (mark_of (given (ascii "omit_inv") ps))
 
-unfoldable pub recordedAt : ℕ → List Parameter → Option (List ℤ) → Option Step
-recordedAt operator ps none = none
-recordedAt operator ps (some l) = some (recordAt operator ps l)
+unfoldable pub recorded_at : ℕ → List Parameter → Option (List ℤ) → Option Step
+recorded_at operator ps none = none
+recorded_at operator ps (some l) = some (record_at operator ps l)
 
 -- the numbers of a series, if they are whole and keep the rule of the operator of that number
-abbrev pub keptBy : ℕ → Numbers → Option (List ℤ)
-keptBy operator r = cond (r.whole && isArgs (operatorOf operator) (args_of r.args)) (some (args_of r.args)) none
+abbrev pub kept_by : ℕ → Numbers → Option (List ℤ)
+kept_by operator r = cond (r.whole && is_args (operator_of operator) (args_of r.args)) (some (args_of r.args)) none
 
 -- these are the arguments
 pub record Axes (l : List ℤ) (r : Args) : Type 0 where
@@ -50,5 +50,5 @@ pub record Flagged (a : Args) (flag : Bool) (axis : ℤ) (r : Args) : Type 0 whe
   pub few : r.n ≤ a.n + 1
 
 -- "Default 1,2,3,4."
-abbrev pub fourAxes : List ℤ
-fourAxes = pos 1 ∷ pos 2 ∷ pos 3 ∷ pos 4 ∷ []
+abbrev pub four_axes : List ℤ
+four_axes = pos 1 ∷ pos 2 ∷ pos 3 ∷ pos 4 ∷ []

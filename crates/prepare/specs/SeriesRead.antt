@@ -3,7 +3,7 @@ use Rattle.std.specs.Prelude.{◌≡◌, ℕ, ◌+◌, ◌-◌, ◌≤◌, Bool,
 use Rattle.std.proofs.Math.Option.{none, some}
 use Rattle.rules.specs.Text.Lists.{is_none}
 use Rattle.rules.specs.Text.Bytes.{Bytes}
-use Rattle.rules.specs.Text.Decimal.{digitsTo, spelled, pieces, series, brokenFrom}
+use Rattle.rules.specs.Text.Decimal.{digits_to, spelled, pieces, series, broken_from}
 use Rattle.rules.specs.Operators.Arguments.{wholes}
 use Rattle.prepare.specs.declared.decimal.Spelled.{Spelled}
 use Rattle.prepare.specs.declared.decimal.Spelled.TheVariants.{Are, Not}
@@ -11,8 +11,8 @@ use Rattle.prepare.specs.declared.series.Args.{Args}
 use Rattle.prepare.specs.declared.series.Numbers.{Numbers}
 
 -- the number that at most so many digits spell
-unfoldable pub spelledTo : ℕ → Bytes → Spelled
-spelledTo most t = cond (digitsTo most t) (Are (spelled 0 t)) Not
+unfoldable pub spelled_to : ℕ → Bytes → Spelled
+spelled_to most t = cond (digits_to most t) (Are (spelled 0 t)) Not
 
 -- ---- arguments
 
@@ -37,11 +37,11 @@ lowest v = cond (is_none (series v)) 12 (cond (ltb 8 (length (pieces v))) 13 14)
 -- whole and keep a rule.
 pub record Reads (v : Bytes) (from : ℕ) (r : Numbers) : Type 0 where
   pub number : r.number ≡ lowest v
-  pub at : r.number ≡ 12 → r.at ≡ from + brokenFrom (pieces v)
+  pub at : r.number ≡ 12 → r.at ≡ from + broken_from (pieces v)
   pub good : r.number ≡ 14 → Good r.args
   pub args : r.number ≡ 14 → (rule : List ℤ → Bool)
       → wholes rule (series v) ≡ cond (r.whole && rule (args_of r.args)) (some (args_of r.args)) none
 
 -- no numbers at all
-abbrev pub noNumbers : Numbers
-noNumbers = record { number = 14; at = 0; whole = true; args = record { list = replicate 8 (pos 0); n = 0 } }
+abbrev pub no_numbers : Numbers
+no_numbers = record { number = 14; at = 0; whole = true; args = record { list = replicate 8 (pos 0); n = 0 } }

@@ -5,14 +5,14 @@ use Rattle.rules.specs.Text.Lists.{any_of}
 use Rattle.rules.specs.Text.Bytes.{Bytes, Words, words}
 use Rattle.rules.specs.Text.Normal.{normal}
 use Rattle.rules.specs.Text.Refusal.{Reply, refuses, and_then}
-use Rattle.rules.specs.Text.Parameters.{Placed, placedElements, textTable}
+use Rattle.rules.specs.Text.Parameters.{Placed, placed_elements, text_table}
 use Rattle.rules.specs.Operators.Arguments.{value_of}
-use Rattle.rules.specs.Pipeline.Offsets.{faults, earliest, offsetBy}
-use Rattle.rules.specs.Pipeline.Prepare.{judged11, named, judged, offset_of, atStep}
+use Rattle.rules.specs.Pipeline.Offsets.{faults, earliest, offset_by}
+use Rattle.rules.specs.Pipeline.Prepare.{judged11, named, judged, offset_of, at_step}
 use Rattle.rules.specs.declared.Mode.{Mode}
 use Rattle.rules.specs.declared.Name.{Name}
 use Rattle.rules.specs.declared.Step.{Step}
-use Rattle.parameters.specs.Elements.{placedAll}
+use Rattle.parameters.specs.Elements.{placed_all}
 use Rattle.prepare.specs.Faults.{unplaced}
 
 -- a text without the separators that normalising takes away
@@ -29,20 +29,20 @@ pub record Roomy (n a b : ℕ) : Type 0 where
 -- ---- replies, each with its offset where it is 12, and at no place yet
 
 -- of the parameters of a step of that name, and of any name
-unfoldable pub namedReply : Mode → Name → List Placed → Reply Step
-namedReply mode n qs = atStep 0 (earliest (faults n qs)) (judged11 mode n (unplaced qs))
+unfoldable pub named_reply : Mode → Name → List Placed → Reply Step
+named_reply mode n qs = at_step 0 (earliest (faults n qs)) (judged11 mode n (unplaced qs))
 
-unfoldable pub placedReply : Mode → List Placed → Reply Step
-placedReply mode qs = atStep 0 (offsetBy (named (value_of (ascii "_name") (unplaced qs))) qs) (judged mode (unplaced qs))
+unfoldable pub placed_reply : Mode → List Placed → Reply Step
+placed_reply mode qs = at_step 0 (offset_by (named (value_of (ascii "_name") (unplaced qs))) qs) (judged mode (unplaced qs))
 
 -- of the words of a step's text as it is cut: 9, then what they give
-unfoldable pub cutReply : Mode → Words → Reply Step
-cutReply mode ws = let table = placedAll (placedElements ws) [] in cond (ltb 32 (length table)) (refuses 9 0) (placedReply mode table)
+unfoldable pub cut_reply : Mode → Words → Reply Step
+cut_reply mode ws = let table = placed_all (placed_elements ws) [] in cond (ltb 32 (length table)) (refuses 9 0) (placed_reply mode table)
 
 -- of a normalised text
-unfoldable pub textReply : Mode → Bytes → Reply Step
-textReply mode normalised = atStep 0 (offset_of (words normalised)) (and_then (textTable normalised) (judged mode))
+unfoldable pub text_reply : Mode → Bytes → Reply Step
+text_reply mode normalised = at_step 0 (offset_of (words normalised)) (and_then (text_table normalised) (judged mode))
 
 -- of a step's text: 1, then what its parameters give in a mode
-unfoldable pub stepReply : Mode → Bytes → Reply Step
-stepReply mode t = cond (ltb 4096 (length t)) (refuses 1 0) (textReply mode (normal t))
+unfoldable pub step_reply : Mode → Bytes → Reply Step
+step_reply mode t = cond (ltb 4096 (length t)) (refuses 1 0) (text_reply mode (normal t))

@@ -2,7 +2,7 @@
 ghost use Rattle.std.specs.Prelude.{◌≡◌, not, ◌-◌, ◌*◌, ◌^◌, ◌≤◌, ◌<◌, length, eqb};
 ghost use Rattle.rules.specs.Text.Decimal.{digit, plain, decimal};
 ghost use Rattle.text.specs.Runs.{Run};
-ghost use Rattle.prepare.specs.SeriesRead.{spelledTo};
+ghost use Rattle.prepare.specs.SeriesRead.{spelled_to};
 
 use rules::{Decimal, Number};
 
@@ -41,7 +41,7 @@ pub fn byte_end(b: u8, s: &[u8], at: usize) -> usize
 // The number that t spells: "1 to 9 digits", or 1 to as many as `most` says.
 fn digits(t: &[u8], most: usize) -> Spelled
     requires { most ≤ 9 }
-    ensures { result ≡ spelledTo most t.now }
+    ensures { result ≡ spelled_to most t.now }
 {
     if t.len() < 1 {
         return Spelled::Not;

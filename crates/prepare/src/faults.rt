@@ -1,8 +1,8 @@
 // The refusals 11 to 13 of a step's parameters, and where 12 is; and the series among them, which is read once.
 ghost use Rattle.std.specs.Prelude.{◌≡◌, [], ◌∷◌, ◌+◌, ◌≤◌, length};
-ghost use Rattle.prepare.specs.Lookup.{IsTable, placedIn};
-ghost use Rattle.prepare.specs.SeriesRead.{noNumbers};
-ghost use Rattle.prepare.specs.Faults.{placed, flagFault, lower, earlier, without, joined, Finds};
+ghost use Rattle.prepare.specs.Lookup.{IsTable, placed_in};
+ghost use Rattle.prepare.specs.SeriesRead.{no_numbers};
+ghost use Rattle.prepare.specs.Faults.{placed, flag_fault, lower, earlier, without, joined, Finds};
 
 use crate::keys::kind_of;
 use crate::series::{Args, Numbers, series};
@@ -22,7 +22,7 @@ pub struct Lowest {
 
 // A series of no numbers: what stands where there is none.
 fn no_numbers() -> Numbers
-    ensures { result ≡ noNumbers }
+    ensures { result ≡ no_numbers }
 {
     Numbers {
         number: 14,
@@ -46,7 +46,7 @@ fn without_series(number: u8, at: usize) -> Lowest
 
 // A flag is "bare or `=true`".
 fn fault_of_flag(value: &[u8]) -> u8
-    ensures { result ≡ flagFault value.now }
+    ensures { result ≡ flag_fault value.now }
 {
     if is_same(value, b"true") {
         return 14;
@@ -130,7 +130,7 @@ fn both(first: Lowest, rest: Lowest) -> Lowest
 pub fn lowest_of(s: &[u8], row: &[usize; 128], n: usize, name: Name) -> Lowest
     requires table { IsTable s.now row.now n }
     requires s_len_bound { length s.now ≤ 4105 }
-    ensures { Finds name (placedIn s.now row.now n) result }
+    ensures { Finds name (placed_in s.now row.now n) result }
 {
     let mut i = n;
     let mut low = without_series(14, 0);

@@ -4,9 +4,9 @@ ghost use Rattle.rules.specs.Text.Bytes.{words, joined};
 ghost use Rattle.rules.specs.Text.Normal.{normal};
 ghost use Rattle.laws_text.specs.Sizes.{weight};
 ghost use Rattle.parameters.specs.Elements.{Spelt};
-ghost use Rattle.prepare.specs.Lookup.{IsTable, placedIn};
-ghost use Rattle.prepare.specs.Records.{replyIs};
-ghost use Rattle.prepare.specs.StepReply.{Roomy, namedReply, placedReply, cutReply, textReply, stepReply};
+ghost use Rattle.prepare.specs.Lookup.{IsTable, placed_in};
+ghost use Rattle.prepare.specs.Records.{reply_is};
+ghost use Rattle.prepare.specs.StepReply.{Roomy, named_reply, placed_reply, cut_reply, text_reply, step_reply};
 
 use crate::faults::lowest_of;
 use crate::keys::name_of;
@@ -25,7 +25,7 @@ const MOST: usize = 4096;
 fn judge_named(s: &[u8], row: &[usize; 128], n: usize, name: Name, mode: Mode) -> Judged
     requires table { IsTable s.now row.now n }
     requires s_len_bound { length s.now ≤ 4105 }
-    ensures { replyIs result ≡ namedReply mode name (placedIn s.now row.now n) }
+    ensures { reply_is result ≡ named_reply mode name (placed_in s.now row.now n) }
 {
     let low = lowest_of(s, row, n, name);
     let number = low.number;
@@ -39,7 +39,7 @@ fn judge_named(s: &[u8], row: &[usize; 128], n: usize, name: Name, mode: Mode) -
 fn judge(s: &[u8], row: &[usize; 128], n: usize, mode: Mode) -> Judged
     requires table { IsTable s.now row.now n }
     requires s_len_bound { length s.now ≤ 4105 }
-    ensures { replyIs result ≡ placedReply mode (placedIn s.now row.now n) }
+    ensures { reply_is result ≡ placed_reply mode (placed_in s.now row.now n) }
 {
     let v = value_of(s, row, n, b"_name");
     if !v.given {
@@ -59,7 +59,7 @@ fn judge_cut(s: &[u8], n: usize, mode: Mode) -> Judged
     requires spelt { Spelt s.now n }
     requires s_len_bound { length s.now ≤ 4105 }
     requires s_value { take n s.now ≡ joined (words (take n s.now)) }
-    ensures { replyIs result ≡ cutReply mode (words (take n s.now)) }
+    ensures { reply_is result ≡ cut_reply mode (words (take n s.now)) }
 {
     let mut row = [0; 128];
     let t = words_into(s, n, &mut row);
@@ -74,7 +74,7 @@ fn judge_cut(s: &[u8], n: usize, mode: Mode) -> Judged
 fn judge_text(s: &[u8], mode: Mode, b: &mut [u8]) -> Judged
     requires s_len_bound { length s.now ≤ 4096 }
     requires s_in_bounds { length s.now + 9 ≤ length b.old }
-    ensures { replyIs result ≡ textReply mode s.now }
+    ensures { reply_is result ≡ text_reply mode s.now }
 {
     let e = run_end(Kind::Piece, s, 0);
     if e < s.len() {
@@ -97,7 +97,7 @@ fn prepare_text(text: &[u8], mode: Mode, a: &mut [u8], b: &mut [u8]) -> Judged
     requires text_bound { weight text.now ≤ 4096 }
     requires text_in_bounds { weight text.now ≤ length a.old }
     requires text_in_bounds_2 { weight text.now + 9 ≤ length b.old }
-    ensures { replyIs result ≡ textReply mode (normal text.now) }
+    ensures { reply_is result ≡ text_reply mode (normal text.now) }
 {
     let n = normal_of(text, a, b);
     judge_text(&a[..n], mode, b)
@@ -107,7 +107,7 @@ fn prepare_text(text: &[u8], mode: Mode, a: &mut [u8], b: &mut [u8]) -> Judged
 pub fn prepare_step(text: &[u8], mode: Mode, a: &mut [u8], b: &mut [u8]) -> Judged
     requires text_in_bounds { weight text.now ≤ length text.now }
     requires roomy { Roomy (length text.now) (length a.old) (length b.old) }
-    ensures { replyIs result ≡ stepReply mode text.now }
+    ensures { reply_is result ≡ step_reply mode text.now }
 {
     if MOST < text.len() {
         return refused(1, 0);

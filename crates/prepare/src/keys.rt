@@ -1,8 +1,8 @@
 // The operators by their names, and what their keys take: those that every operator has, and its own, which it knows itself.
 ghost use Rattle.std.specs.Prelude.{◌≡◌, ◌++◌};
-ghost use Rattle.rules.specs.Operators.Keys.{kindIn};
+ghost use Rattle.rules.specs.Operators.Keys.{kind_in};
 ghost use Rattle.rules.specs.Operators.Table.{name_of};
-ghost use Rattle.rules.specs.Pipeline.Keys.{everyKey, ownKeys};
+ghost use Rattle.rules.specs.Pipeline.Keys.{every_key, own_keys};
 
 use rules::{Kind, Name, Named};
 use text::is_same;
@@ -31,7 +31,7 @@ pub fn name_of(word: &[u8]) -> Named
 
 // The name, and "Every operator also takes `inv`, `omit_fwd`, `omit_inv`."
 fn every_kind(key: &[u8]) -> Kind
-    ensures { result ≡ kindIn everyKey key.now }
+    ensures { result ≡ kind_in every_key key.now }
 {
     if is_same(key, b"_name") {
         return Kind::Word;
@@ -50,7 +50,7 @@ fn every_kind(key: &[u8]) -> Kind
 
 // What a key of its own takes.
 fn own_kind(name: Name, key: &[u8]) -> Kind
-    ensures { result ≡ kindIn (ownKeys name) key.now }
+    ensures { result ≡ kind_in (own_keys name) key.now }
 {
     match name {
         Name::Push => pushpop::kind_of(key),
@@ -63,7 +63,7 @@ fn own_kind(name: Name, key: &[u8]) -> Kind
 
 // What a key takes, if the operator has it.
 pub fn kind_of(name: Name, key: &[u8]) -> Kind
-    ensures { result ≡ kindIn (everyKey ++ ownKeys name) key.now }
+    ensures { result ≡ kind_in (every_key ++ own_keys name) key.now }
 {
     let every = every_kind(key);
     match every {

@@ -8,9 +8,9 @@ mod series;
 mod values;
 
 ghost use Rattle.std.specs.Prelude.{◌≡◌, true, ◌+◌, ◌*◌, ◌<◌, ◌≤◌, min, length};
-ghost use Rattle.rules.specs.Text.Bytes.{inDomain};
+ghost use Rattle.rules.specs.Text.Bytes.{in_domain};
 ghost use Rattle.prepare.specs.StepReply.{Bare, Roomy};
-ghost use Rattle.prepare.specs.Lent.{normalReply, lentTo, preparing, preparingAs, offsetIf, refusing, answered, firstNamed};
+ghost use Rattle.prepare.specs.Lent.{normal_reply, lent_to, preparing, preparing_as, offset_if, refusing, answered, first_named};
 
 use crate::judge::prepare_step;
 use normalise::clean_into;
@@ -50,7 +50,7 @@ fn refusing(number: u8, place: usize, offset: usize, table: Table) -> Preparing
 
 // "12 gains the offset": the byte of a fault, or 0 for any other number.
 fn offset_of(number: u8, at: usize) -> usize
-    ensures { result ≡ offsetIf number at }
+    ensures { result ≡ offset_if number at }
 {
     if number == 12 {
         return at;
@@ -104,7 +104,7 @@ fn prepare_steps(
     requires steps_len { length table.steps ≡ 64 }
     requires roomy { Roomy (length normal.now) (length a.old) (length b.old) }
     requires normal_in_bounds { length normal.now < length c.old }
-    ensures { result ≡ lentTo (normalReply mode normal.now) table }
+    ensures { result ≡ lent_to (normal_reply mode normal.now) table }
 {
     let mut steps = table.steps;
     let mut at = 0;
@@ -152,7 +152,7 @@ fn answer(
     d: &mut [u8],
 ) -> Preparing
     requires text_len_bound { length text.now ≤ 4096 }
-    requires text_value { inDomain text.now ≡ true }
+    requires text_value { in_domain text.now ≡ true }
     requires steps_len { length table.steps ≡ 64 }
     requires text_in_bounds { 10 * length text.now ≤ length a.old }
     requires text_in_bounds_2 { 10 * length text.now ≤ length b.old }
@@ -167,7 +167,7 @@ fn answer(
 // The same over buffers of its own, for a text of a few steps, for a short one, for a longer one and for any.
 fn brief(text: &[u8], mode: Mode, table: Table) -> Preparing
     requires text_len_bound { length text.now ≤ 102 }
-    requires text_value { inDomain text.now ≡ true }
+    requires text_value { in_domain text.now ≡ true }
     requires steps_len { length table.steps ≡ 64 }
     ensures { result ≡ preparing mode text.now table }
 {
@@ -180,7 +180,7 @@ fn brief(text: &[u8], mode: Mode, table: Table) -> Preparing
 
 fn short(text: &[u8], mode: Mode, table: Table) -> Preparing
     requires text_len_bound { length text.now ≤ 409 }
-    requires text_value { inDomain text.now ≡ true }
+    requires text_value { in_domain text.now ≡ true }
     requires steps_len { length table.steps ≡ 64 }
     ensures { result ≡ preparing mode text.now table }
 {
@@ -193,7 +193,7 @@ fn short(text: &[u8], mode: Mode, table: Table) -> Preparing
 
 fn longer(text: &[u8], mode: Mode, table: Table) -> Preparing
     requires text_len_bound { length text.now ≤ 1638 }
-    requires text_value { inDomain text.now ≡ true }
+    requires text_value { in_domain text.now ≡ true }
     requires steps_len { length table.steps ≡ 64 }
     ensures { result ≡ preparing mode text.now table }
 {
@@ -206,7 +206,7 @@ fn longer(text: &[u8], mode: Mode, table: Table) -> Preparing
 
 fn long(text: &[u8], mode: Mode, table: Table) -> Preparing
     requires text_len_bound { length text.now ≤ 4096 }
-    requires text_value { inDomain text.now ≡ true }
+    requires text_value { in_domain text.now ≡ true }
     requires steps_len { length table.steps ≡ 64 }
     ensures { result ≡ preparing mode text.now table }
 {
@@ -241,7 +241,7 @@ fn prepare_in(text: &[u8], mode: Mode, table: Table) -> Preparing
 // The first n of 64 records in a reading, and the others as they are.
 fn named(steps: [Step; 64], n: usize, reading: Reading) -> [Step; 64]
     requires { n ≤ length steps }
-    ensures { result ≡ firstNamed reading n steps }
+    ensures { result ≡ first_named reading n steps }
 {
     let mut l = steps;
     let mut i = 0;
@@ -255,7 +255,7 @@ fn named(steps: [Step; 64], n: usize, reading: Reading) -> [Step; 64]
 
 // The same in a reading and a mode: the records of an answer name the reading.
 pub fn prepare_as(text: &[u8], reading: Reading, mode: Mode, table: Table) -> Preparing
-    ensures { result ≡ preparingAs reading mode text.now table }
+    ensures { result ≡ preparing_as reading mode text.now table }
 {
     let p = prepare_in(text, mode, table);
     let answer = p.answer;

@@ -1,17 +1,17 @@
 // Each operator's own rule: the record that it makes of a step's parameters, or 14. The Rust is the `new` of src/inner_op/*.rs.
 ghost use Rattle.std.specs.Prelude.{◌≡◌, [], ◌-◌, ◌≤◌, ◌<◌};
 ghost use Rattle.rules.specs.Text.Refusal.{answers};
-ghost use Rattle.rules.specs.Operators.Adapt.{wordGiven};
+ghost use Rattle.rules.specs.Operators.Adapt.{word_given};
 ghost use Rattle.rules.specs.Operators.Arguments.{value_of};
 ghost use Rattle.rules.specs.Operators.PushPop.{axes};
-ghost use Rattle.rules.specs.Pipeline.Prepare.{ownRule, judged14};
+ghost use Rattle.rules.specs.Pipeline.Prepare.{own_rule, judged14};
 ghost use Rattle.rules.specs.declared.Mode.{Mode};
 ghost use Rattle.rules.specs.declared.Name.TheVariants as name;
 ghost use Rattle.adapt.specs.Words.{IsRead};
-ghost use Rattle.prepare.specs.Lookup.{IsTable, paramsIn, given};
+ghost use Rattle.prepare.specs.Lookup.{IsTable, params_in, given};
 ghost use Rattle.prepare.specs.SeriesRead.{args_of, Good};
 ghost use Rattle.prepare.specs.Faults.{Lowers};
-ghost use Rattle.prepare.specs.Records.{replyIs, refusedAt, recordAt, recordedAt, keptBy, Axes, Extended, Flagged, fourAxes};
+ghost use Rattle.prepare.specs.Records.{reply_is, refused_at, record_at, recorded_at, kept_by, Axes, Extended, Flagged, four_axes};
 ghost use Rattle.prepare.specs.Actions.{key_at, Chosen};
 
 use crate::faults::Lowest;
@@ -36,7 +36,7 @@ pub struct Judged {
 // A refusal, and where it is if it is 12.
 pub fn refused(number: u8, at: usize) -> Judged
     requires { 0 < number }
-    ensures { replyIs result ≡ refusedAt number 0 at }
+    ensures { reply_is result ≡ refused_at number 0 at }
 {
     Judged {
         number: number,
@@ -51,7 +51,7 @@ pub fn refused(number: u8, at: usize) -> Judged
 fn recorded(s: &[u8], row: &[usize; 128], n: usize, operator: u8, a: Args) -> Judged
     requires table { IsTable s.now row.now n }
     requires good { Good a }
-    ensures { replyIs result ≡ answers (recordAt operator (paramsIn s.now row.now n) (args_of a)) }
+    ensures { reply_is result ≡ answers (record_at operator (params_in s.now row.now n) (args_of a)) }
 {
     let inv = is_given(s, row, n, b"inv");
     let omit_fwd = is_given(s, row, n, b"omit_fwd");
@@ -68,7 +68,7 @@ fn recorded(s: &[u8], row: &[usize; 128], n: usize, operator: u8, a: Args) -> Ju
 fn own_series(s: &[u8], row: &[usize; 128], n: usize, operator: u8, numbers: Numbers) -> Judged
     requires table { IsTable s.now row.now n }
     requires good { Good numbers.args }
-    ensures { replyIs result ≡ judged14 (recordedAt operator (paramsIn s.now row.now n) (keptBy operator numbers)) }
+    ensures { reply_is result ≡ judged14 (recorded_at operator (params_in s.now row.now n) (kept_by operator numbers)) }
 {
     if !numbers.whole {
         return refused(14, 0);
@@ -109,7 +109,7 @@ fn with_flag(s: &[u8], row: &[usize; 128], n: usize, a: Args, key: &[u8], axis: 
     requires table { IsTable s.now row.now n }
     requires good { Good a }
     requires n_bound { a.n < 8 }
-    ensures { Flagged a (given key.now (paramsIn s.now row.now n)) axis result }
+    ensures { Flagged a (given key.now (params_in s.now row.now n)) axis result }
 {
     if is_given(s, row, n, key) {
         return extended(a, axis);
@@ -120,7 +120,7 @@ fn with_flag(s: &[u8], row: &[usize; 128], n: usize, a: Args, key: &[u8], axis: 
 // "flags in order 1 to 4, possibly none"
 fn axes_of(s: &[u8], row: &[usize; 128], n: usize) -> Args
     requires { IsTable s.now row.now n }
-    ensures { Axes (axes (paramsIn s.now row.now n)) result }
+    ensures { Axes (axes (params_in s.now row.now n)) result }
 {
     let a = with_flag(s, row, n, nothing(), b"v_1", 1);
     let b = with_flag(s, row, n, a, b"v_2", 2);
@@ -150,8 +150,8 @@ fn with_action(
     requires table { IsTable s.now row.now n }
     requires le_operator { (2 ≤ operator) × (operator ≤ 8) }
     requires key_value { key.now ≡ key_at (operator - 2) }
-    requires chosen { Chosen (paramsIn s.now row.now n) (operator - 2) c }
-    ensures { Chosen (paramsIn s.now row.now n) (operator - 1) result }
+    requires chosen { Chosen (params_in s.now row.now n) (operator - 2) c }
+    ensures { Chosen (params_in s.now row.now n) (operator - 1) result }
 {
     if !is_given(s, row, n, key) {
         return c;
@@ -166,7 +166,7 @@ fn with_action(
 // "the seven stack actions"
 fn action_of(s: &[u8], row: &[usize; 128], n: usize) -> Choice
     requires { IsTable s.now row.now n }
-    ensures { Chosen (paramsIn s.now row.now n) 7 result }
+    ensures { Chosen (params_in s.now row.now n) 7 result }
 {
     let a = with_action(s, row, n, Choice::None, b"push", STACK_PUSH);
     let b = with_action(s, row, n, a, b"pop", STACK_POP);
@@ -180,9 +180,9 @@ fn action_of(s: &[u8], row: &[usize; 128], n: usize) -> Choice
 // "exactly one action": the series is its own; swap and drop have none. The same in every mode.
 fn own_stack(s: &[u8], row: &[usize; 128], n: usize, low: Lowest) -> Judged
     requires table { IsTable s.now row.now n }
-    requires lowers { Lowers name.Stack (paramsIn s.now row.now n) low }
+    requires lowers { Lowers name.Stack (params_in s.now row.now n) low }
     requires number_value { low.number ≡ 14 }
-    ensures { (m : Mode) → replyIs result ≡ judged14 (ownRule m name.Stack (paramsIn s.now row.now n)) }
+    ensures { (m : Mode) → reply_is result ≡ judged14 (own_rule m name.Stack (params_in s.now row.now n)) }
 {
     let numbers = low.numbers;
     let choice = action_of(s, row, n);
@@ -197,7 +197,7 @@ fn own_stack(s: &[u8], row: &[usize; 128], n: usize, low: Lowest) -> Judged
 
 // "Default 1,2,3,4."
 fn all_axes() -> Args
-    ensures { Axes fourAxes result }
+    ensures { Axes four_axes result }
 {
     Args {
         list: [1, 2, 3, 4, 0, 0, 0, 0],
@@ -208,9 +208,9 @@ fn all_axes() -> Args
 // Its order is the one series that it can have. The same in every mode.
 fn own_order(s: &[u8], row: &[usize; 128], n: usize, low: Lowest) -> Judged
     requires table { IsTable s.now row.now n }
-    requires lowers { Lowers name.Axisswap (paramsIn s.now row.now n) low }
+    requires lowers { Lowers name.Axisswap (params_in s.now row.now n) low }
     requires number_value { low.number ≡ 14 }
-    ensures { (m : Mode) → replyIs result ≡ judged14 (ownRule m name.Axisswap (paramsIn s.now row.now n)) }
+    ensures { (m : Mode) → reply_is result ≡ judged14 (own_rule m name.Axisswap (params_in s.now row.now n)) }
 {
     if low.found {
         let numbers = low.numbers;
@@ -224,7 +224,7 @@ fn own_order(s: &[u8], row: &[usize; 128], n: usize, low: Lowest) -> Judged
 // A word that is not given is `enuf`.
 fn word_given(s: &[u8], row: &[usize; 128], n: usize, key: &[u8]) -> Word
     requires { IsTable s.now row.now n }
-    ensures { IsRead (wordGiven (value_of key.now (paramsIn s.now row.now n))) result }
+    ensures { IsRead (word_given (value_of key.now (params_in s.now row.now n))) result }
 {
     let v = value_of(s, row, n, key);
     let from = v.from;
@@ -238,7 +238,7 @@ fn word_given(s: &[u8], row: &[usize; 128], n: usize, key: &[u8]) -> Word
 // The operator, and what the two words make between them, are those of the mode.
 fn own_adapt(s: &[u8], row: &[usize; 128], n: usize, mode: Mode) -> Judged
     requires { IsTable s.now row.now n }
-    ensures { replyIs result ≡ judged14 (ownRule mode name.Adapt (paramsIn s.now row.now n)) }
+    ensures { reply_is result ≡ judged14 (own_rule mode name.Adapt (params_in s.now row.now n)) }
 {
     let from = word_given(s, row, n, b"from");
     let to = word_given(s, row, n, b"to");
@@ -263,9 +263,9 @@ pub fn own_rule(
     low: Lowest,
 ) -> Judged
     requires table { IsTable s.now row.now n }
-    requires lowers { Lowers name (paramsIn s.now row.now n) low }
+    requires lowers { Lowers name (params_in s.now row.now n) low }
     requires number_value { low.number ≡ 14 }
-    ensures { replyIs result ≡ judged14 (ownRule mode name (paramsIn s.now row.now n)) }
+    ensures { reply_is result ≡ judged14 (own_rule mode name (params_in s.now row.now n)) }
 {
     match name {
         Name::Push => recorded(s, row, n, PUSH, axes_of(s, row, n)),

@@ -1,6 +1,6 @@
 // The values of a step's parameters, which stand in a table of parts of a text: found by their keys.
 ghost use Rattle.std.specs.Prelude.{◌≡◌};
-ghost use Rattle.prepare.specs.Lookup.{IsTable, paramsIn, given, Looks};
+ghost use Rattle.prepare.specs.Lookup.{IsTable, params_in, given, Looks};
 
 use parameters::part_at;
 use text::is_same;
@@ -16,7 +16,7 @@ pub struct Value {
 // The value of a key in a table.
 pub fn value_of(s: &[u8], row: &[usize; 128], n: usize, key: &[u8]) -> Value
     requires { IsTable s.now row.now n }
-    ensures { Looks s.now (paramsIn s.now row.now n) key.now result }
+    ensures { Looks s.now (params_in s.now row.now n) key.now result }
 {
     let mut i = 0;
     while i < n {
@@ -42,7 +42,7 @@ pub fn value_of(s: &[u8], row: &[usize; 128], n: usize, key: &[u8]) -> Value
 // Is the key given?
 pub fn is_given(s: &[u8], row: &[usize; 128], n: usize, key: &[u8]) -> bool
     requires { IsTable s.now row.now n }
-    ensures { result ≡ given key.now (paramsIn s.now row.now n) }
+    ensures { result ≡ given key.now (params_in s.now row.now n) }
 {
     let v = value_of(s, row, n, key);
     v.given

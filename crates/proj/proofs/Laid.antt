@@ -7,7 +7,7 @@ use Prim.Native.Nat.{ℕ, suc, ◌+◌, ◌-◌, ◌*◌, ◌≤◌}
 use native.Mathlib.Omega.{arith}
 use lib.ListN.{length, take, drop}
 use lib.Dec.{eqb, ltb}
-use Rattle.rules.specs.Text.Lists.{kept, nonEmpty}
+use Rattle.rules.specs.Text.Lists.{kept, non_empty}
 use Rattle.rules.specs.Text.Bytes.{Bytes, Words, Steps, words}
 use Rattle.rules.specs.Proj.Words.{exchanged}
 use Rattle.rules.specs.Proj.Translate.{Pipeline, step_of, is_written}
@@ -15,14 +15,14 @@ use Rattle.rules.specs.Text.Reader.{part}
 use Rattle.text.proofs.RunEnd.{length_part}
 use Rattle.laws_proj.specs.Step.{Global}
 use Rattle.laws_proj.specs.Bounds.{step-length}
-use Rattle.laws_proj.specs.Ordering.{side, side_left, side_right, side-assoc, side-length, whole, rest_of, barText, gapText, partText, stateAfter, rest-next, rest-none}
-use Rattle.proj_words.specs.Cuts.{stepsFrom, IsStep}
+use Rattle.laws_proj.specs.Ordering.{side, side_left, side_right, side-assoc, side-length, whole, rest_of, bar_text, gap_text, part_text, state_after, rest-next, rest-none}
+use Rattle.proj_words.specs.Cuts.{steps_from, IsStep}
 use Rattle.proj_words.specs.Heads.{IsHead}
 use Rattle.proj_words.specs.Facts.{IsMarks}
 use Rattle.proj_words.specs.declared.exchange.Head.{Head}
 use Rattle.proj_words.specs.declared.exchange.Marks.{Marks}
-use Rattle.proj_steps.specs.Plans.{pipelineOf}
-use Rattle.proj.specs.Places.{place_of, Spot, Puts, Parted, textsOf, Ready, Laid}
+use Rattle.proj_steps.specs.Plans.{pipeline_of}
+use Rattle.proj.specs.Places.{place_of, Spot, Puts, Parted, texts_of, Ready, Laid}
 use Rattle.proj.specs.declared.layout.Put.{Put}
 use Rattle.proj.proofs.Puts.{spot-length, spot-then, puts-as, puts-both, puts-nothing}
 
@@ -113,8 +113,8 @@ one-or-none : (b : Bool) → length {A = ℕ} (cond b (32 ∷ []) []) ≤ 1
 one-or-none true = omega arith
 one-or-none false = omega arith
 
-bar-length : (back : Bool) (state : ℕ) (begun : Bool) → length (barText back state begun) ≤ 3
-unfolding barText
+bar-length : (back : Bool) (state : ℕ) (begun : Bool) → length (bar_text back state begun) ≤ 3
+unfolding bar_text
 bar-length back state begun = go (eqb state 0) (eqb state 2)
   where
     go : (a b : Bool) → length (cond a [] (side back (cond b (32 ∷ []) []) (side back (cond begun (32 ∷ []) []) (124 ∷ [])))) ≤ 3
@@ -124,19 +124,19 @@ bar-length back state begun = go (eqb state 0) (eqb state 2)
         let rest = side-length back (cond begun (32 ∷ []) []) (124 ∷ []) in
         omega (arith, whole, rest, one-or-none b, one-or-none begun)
 
-gap_length : (back : Bool) (state : ℕ) (t : Bytes) → length (cond (nonEmpty t) (gapText back state t) []) ≤ suc (length t)
-unfolding gapText
-gap_length back state t = go (nonEmpty t) (eqb state 0)
+gap_length : (back : Bool) (state : ℕ) (t : Bytes) → length (cond (non_empty t) (gap_text back state t) []) ≤ suc (length t)
+unfolding gap_text
+gap_length back state t = go (non_empty t) (eqb state 0)
   where
     go : (a b : Bool) → length (cond a (cond b t (side back (32 ∷ []) t)) []) ≤ suc (length t)
     go true true = omega arith
     go true false = omega (arith, side-length back (32 ∷ []) t)
     go false b = omega arith
 
-part-text-length : (back : Bool) (state : ℕ) (begun : Bool) (t : Bytes) → length (partText back state begun t) ≤ 4 + length t
-unfolding partText
+part-text-length : (back : Bool) (state : ℕ) (begun : Bool) (t : Bytes) → length (part_text back state begun t) ≤ 4 + length t
+unfolding part_text
 part-text-length back state begun t =
-    omega (arith, side-length back (barText back state begun) (cond (nonEmpty t) (gapText back state t) []), bar-length back state begun, gap_length back state t)
+    omega (arith, side-length back (bar_text back state begun) (cond (non_empty t) (gap_text back state t) []), bar-length back state begun, gap_length back state t)
 
 -- ---- the loop
 
@@ -144,13 +144,13 @@ pub record Laying (n g : Bytes) (inverted write back : Bool) (total : ℕ) (dst�
   pub within : k ≤ length n
   pub n-small : length n ≤ 40960
   pub g-small : length g ≤ 40960
-  pub global : Global (pipelineOf g inverted)
+  pub global : Global (pipeline_of g inverted)
   pub first : state ≡ 0 → o ≡ 0
   pub few : o ≤ 262144 * k
-  pub sided : Sided write back total (whole back (textsOf (pipelineOf g inverted) (stepsFrom n 0))) (rest_of back state (ltb 0 o) (textsOf (pipelineOf g inverted) (stepsFrom n k))) dst₀ o dst
+  pub sided : Sided write back total (whole back (texts_of (pipeline_of g inverted) (steps_from n 0))) (rest_of back state (ltb 0 o) (texts_of (pipeline_of g inverted) (steps_from n k))) dst₀ o dst
 
-pub laying-start : {n g : Bytes} {inverted write back : Bool} {total : ℕ} {dst : Bytes} → length n ≤ 40960 → length g ≤ 40960 → Global (pipelineOf g inverted)
-    → Ready write total (whole back (textsOf (pipelineOf g inverted) (stepsFrom n 0))) dst → Laying n g inverted write back total dst 0 0 0 dst
+pub laying-start : {n g : Bytes} {inverted write back : Bool} {total : ℕ} {dst : Bytes} → length n ≤ 40960 → length g ≤ 40960 → Global (pipeline_of g inverted)
+    → Ready write total (whole back (texts_of (pipeline_of g inverted) (steps_from n 0))) dst → Laying n g inverted write back total dst 0 0 0 dst
 unfolding rest_of
 laying-start h i f r = record {
   within = omega arith;
@@ -162,21 +162,21 @@ laying-start h i f r = record {
   sided = sided-start r;
 }
 
-texts-skip : (p : Pipeline) (ws : Words) (ss : Steps) → is_written ws ≡ false → textsOf p (ws ∷ ss) ≡ textsOf p ss
-unfolding textsOf kept
+texts-skip : (p : Pipeline) (ws : Words) (ss : Steps) → is_written ws ≡ false → texts_of p (ws ∷ ss) ≡ texts_of p ss
+unfolding texts_of kept
 texts-skip p ws ss e = rw e
 
-texts-more : (p : Pipeline) (ws : Words) (ss : Steps) → is_written ws ≡ true → textsOf p (ws ∷ ss) ≡ step_of p ws ∷ textsOf p ss
-unfolding textsOf kept
+texts-more : (p : Pipeline) (ws : Words) (ss : Steps) → is_written ws ≡ true → texts_of p (ws ∷ ss) ≡ step_of p ws ∷ texts_of p ss
+unfolding texts_of kept
 texts-more p ws ss e = rw e
 
-texts-none : (p : Pipeline) → textsOf p [] ≡ []
-unfolding textsOf kept
+texts-none : (p : Pipeline) → texts_of p [] ≡ []
+unfolding texts_of kept
 texts-none p = refl
 
-after-some : (state : ℕ) (t : Bytes) → stateAfter state t ≡ 0 → ⊥
-unfolding stateAfter
-after-some state t e = go (nonEmpty t) (eqb state 0) e
+after-some : (state : ℕ) (t : Bytes) → state_after state t ≡ 0 → ⊥
+unfolding state_after
+after-some state t e = go (non_empty t) (eqb state 0) e
   where
     go : (a b : Bool) → ◌≡◌ {A = ℕ} (cond a 1 (cond b 1 2)) 0 → ⊥
     go true b f = omega arith
@@ -190,10 +190,10 @@ module _ {n g : Bytes} {inverted write back : Bool} {total : ℕ} {dst₀ : Byte
       o-small : o ≤ 1099511627776
       o-small = omega (arith, i.few, i.within, i.n-small)
 
-  pub laying-end : stepsFrom n k ≡ [] → Laid write (whole back (textsOf (pipelineOf g inverted) (stepsFrom n 0))) dst₀ o dst
+  pub laying-end : steps_from n k ≡ [] → Laid write (whole back (texts_of (pipeline_of g inverted) (steps_from n 0))) dst₀ o dst
   laying-end e =
-      let steps = ap (λ (ss : Steps). rest_of back state (ltb 0 o) (textsOf (pipelineOf g inverted) ss)) e in
-      let texts = ap (rest_of back state (ltb 0 o)) (texts-none (pipelineOf g inverted)) in
+      let steps = ap (λ (ss : Steps). rest_of back state (ltb 0 o) (texts_of (pipeline_of g inverted) ss)) e in
+      let texts = ap (rest_of back state (ltb 0 o)) (texts-none (pipeline_of g inverted)) in
       sided-end (sided-as (steps ∙ texts ∙ rest-none back state (ltb 0 o)) i.sided)
 
   module _ {from to then : ℕ} (s : IsStep n k from to then) where
@@ -207,47 +207,47 @@ module _ {n g : Bytes} {inverted write back : Bool} {total : ℕ} {dst₀ : Byte
       first = i.first;
       few = omega (arith, i.few, s.further);
       sided =
-          sided-as (ap (rest_of back state (ltb 0 o)) (ap (textsOf (pipelineOf g inverted)) s.here ∙ texts-skip (pipelineOf g inverted) (words (part from to n)) (stepsFrom n then) e)) i.sided;
+          sided-as (ap (rest_of back state (ltb 0 o)) (ap (texts_of (pipeline_of g inverted)) s.here ∙ texts-skip (pipeline_of g inverted) (words (part from to n)) (steps_from n then) e)) i.sided;
     }
 
-    pub laying-small : length (step_of (pipelineOf g inverted) (words (part from to n))) ≤ 262140
-    laying-small = omega (arith, step-length (pipelineOf g inverted) (part from to n) i.global, length_part n from to s.ahead s.within, s.within, i.n-small, i.g-small)
+    pub laying-small : length (step_of (pipeline_of g inverted) (words (part from to n))) ≤ 262140
+    laying-small = omega (arith, step-length (pipeline_of g inverted) (part from to n) i.global, length_part n from to s.ahead s.within, s.within, i.n-small, i.g-small)
 
     -- one that is
     module _ (e : is_written (words (part from to n)) ≡ true) where
-      here-sided : Sided write back total (whole back (textsOf (pipelineOf g inverted) (stepsFrom n 0)))
-          (side back (partText back state (ltb 0 o) (step_of (pipelineOf g inverted) (words (part from to n))))
-          (rest_of back (stateAfter state (step_of (pipelineOf g inverted) (words (part from to n))))
-          (ltb 0 (o + length (partText back state (ltb 0 o) (step_of (pipelineOf g inverted) (words (part from to n))))))
-          (textsOf (pipelineOf g inverted) (stepsFrom n then)))) dst₀ o dst
+      here-sided : Sided write back total (whole back (texts_of (pipeline_of g inverted) (steps_from n 0)))
+          (side back (part_text back state (ltb 0 o) (step_of (pipeline_of g inverted) (words (part from to n))))
+          (rest_of back (state_after state (step_of (pipeline_of g inverted) (words (part from to n))))
+          (ltb 0 (o + length (part_text back state (ltb 0 o) (step_of (pipeline_of g inverted) (words (part from to n))))))
+          (texts_of (pipeline_of g inverted) (steps_from n then)))) dst₀ o dst
       here-sided =
           sided-as
-          (ap (rest_of back state (ltb 0 o)) (ap (textsOf (pipelineOf g inverted)) s.here ∙ texts-more (pipelineOf g inverted) (words (part from to n)) (stepsFrom n then) e)
-          ∙ rest-next back state o (step_of (pipelineOf g inverted) (words (part from to n))) (textsOf (pipelineOf g inverted) (stepsFrom n then)) i.first) i.sided
+          (ap (rest_of back state (ltb 0 o)) (ap (texts_of (pipeline_of g inverted)) s.here ∙ texts-more (pipeline_of g inverted) (words (part from to n)) (steps_from n then) e)
+          ∙ rest-next back state o (step_of (pipeline_of g inverted) (words (part from to n))) (texts_of (pipeline_of g inverted) (steps_from n then)) i.first) i.sided
 
-      small : o + length (partText back state (ltb 0 o) (step_of (pipelineOf g inverted) (words (part from to n)))) ≤ 262144 * k + 262144
-      small = omega (arith, i.few, laying-small, part-text-length back state (ltb 0 o) (step_of (pipelineOf g inverted) (words (part from to n))))
+      small : o + length (part_text back state (ltb 0 o) (step_of (pipeline_of g inverted) (words (part from to n)))) ≤ 262144 * k + 262144
+      small = omega (arith, i.few, laying-small, part-text-length back state (ltb 0 o) (step_of (pipeline_of g inverted) (words (part from to n))))
 
-      fits_all : o + length (partText back state (ltb 0 o) (step_of (pipelineOf g inverted) (words (part from to n)))) ≤ 1099511627776
+      fits_all : o + length (part_text back state (ltb 0 o) (step_of (pipeline_of g inverted) (words (part from to n)))) ≤ 1099511627776
       fits_all = omega (arith, small, i.within, i.n-small)
 
-      pub laying-spot : Spot write back total (partText back state (ltb 0 o) (step_of (pipelineOf g inverted) (words (part from to n)))) o dst
+      pub laying-spot : Spot write back total (part_text back state (ltb 0 o) (step_of (pipeline_of g inverted) (words (part from to n)))) o dst
       laying-spot = sided-spot _ _ here-sided fits_all
 
-      pub laying-next : {r : Put} {dst' : Bytes} → Parted write back total state (step_of (pipelineOf g inverted) (words (part from to n))) dst o r dst'
+      pub laying-next : {r : Put} {dst' : Bytes} → Parted write back total state (step_of (pipeline_of g inverted) (words (part from to n))) dst o r dst'
           → Laying n g inverted write back total dst₀ r.o r.state then dst'
       laying-next {r} {dst'} p = record {
         within = s.ends;
         n-small = i.n-small;
         g-small = i.g-small;
         global = i.global;
-        first = λ z. absurd (after-some state (step_of (pipelineOf g inverted) (words (part from to n))) (sym p.state-is ∙ z));
+        first = λ z. absurd (after-some state (step_of (pipeline_of g inverted) (words (part from to n))) (sym p.state-is ∙ z));
         few = omega (arith, small, p.puts.count, s.further);
         sided =
             sided-as
             (ap
-            (λ (m : ℕ). rest_of back (stateAfter state (step_of (pipelineOf g inverted) (words (part from to n)))) (ltb 0 m) (textsOf (pipelineOf g inverted) (stepsFrom n then)))
+            (λ (m : ℕ). rest_of back (state_after state (step_of (pipeline_of g inverted) (words (part from to n)))) (ltb 0 m) (texts_of (pipeline_of g inverted) (steps_from n then)))
             (sym p.puts.count)
-            ∙ ap (λ (m : ℕ). rest_of back m (ltb 0 r.o) (textsOf (pipelineOf g inverted) (stepsFrom n then))) (sym p.state-is))
+            ∙ ap (λ (m : ℕ). rest_of back m (ltb 0 r.o) (texts_of (pipeline_of g inverted) (steps_from n then))) (sym p.state-is))
             (sided-next _ _ here-sided fits_all p.puts);
       }

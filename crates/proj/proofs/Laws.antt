@@ -10,9 +10,9 @@ use lib.Seq.{length-take-le}
 use lib.Dec.{eqb, ltb, leb}
 use Rattle.rules.specs.Text.Ascii.{ascii, is}
 use Rattle.rules.specs.Text.Lists.{any_of}
-use Rattle.rules.specs.Text.Bytes.{Bytes, Steps, starts, contains, words, inDomain}
+use Rattle.rules.specs.Text.Bytes.{Bytes, Steps, starts, contains, words, in_domain}
 use Rattle.rules.specs.Text.Refusal.{answers, Writes, Lends}
-use Rattle.rules.specs.Proj.Words.{projSteps}
+use Rattle.rules.specs.Proj.Words.{proj_steps}
 use Rattle.rules.specs.Proj.Translate.{Pipeline, pipeline, translation, translated, translate}
 use Rattle.rules.specs.declared.Written.{Written}
 use Rattle.rules.specs.declared.Written.TheVariants as variant
@@ -26,44 +26,44 @@ use Rattle.laws_text.specs.Plain.{words-plain}
 use Rattle.laws_proj.specs.Step.{Global}
 use Rattle.laws_proj.specs.Ordering.{whole, whole_length}
 use Rattle.laws_proj.specs.Cutting.{steps-plain, translation-is}
-use Rattle.proj_words.specs.Cuts.{stepsIn, stepsFrom}
-use Rattle.proj_steps.specs.Plans.{pipelineOf}
-use Rattle.proj.specs.Places.{textsOf, Ready, Laid}
+use Rattle.proj_words.specs.Cuts.{steps_in, steps_from}
+use Rattle.proj_steps.specs.Plans.{pipeline_of}
+use Rattle.proj.specs.Places.{texts_of, Ready, Laid}
 use Rattle.proj.specs.Flaws.{unless, IsFlaw, IsPipe}
 use Rattle.proj.specs.declared.Flaw.{Flaw}
 use Rattle.proj.specs.declared.Pipe.{Pipe}
 
 -- ---- the steps of a cleaned text
 
-module _ (n g : Bytes) {inverted : Bool} {f : Flaw} (m : IsFlaw (pipelineOf g inverted) (stepsFrom n 0) f) where
-  pub steps-flaw : {out : Bytes} → (f.number ≡ 0 → ⊥) → Lends (translated (pipelineOf g inverted) (stepsFrom n 0)) out (variant.Refused f.number f.place) out
+module _ (n g : Bytes) {inverted : Bool} {f : Flaw} (m : IsFlaw (pipeline_of g inverted) (steps_from n 0) f) where
+  pub steps-flaw : {out : Bytes} → (f.number ≡ 0 → ⊥) → Lends (translated (pipeline_of g inverted) (steps_from n 0)) out (variant.Refused f.number f.place) out
   unfolding translated unless
-  steps-flaw x = lends-refusal (m.says (answers (translation (pipelineOf g inverted) (stepsFrom n 0))) ∙ rw (ne_eqb f.number 0 x))
+  steps-flaw x = lends-refusal (m.says (answers (translation (pipeline_of g inverted) (steps_from n 0))) ∙ rw (ne_eqb f.number 0 x))
 
-  module _ (z : f.number ≡ 0) (k : Global (pipelineOf g inverted)) where
-    reply-is : translated (pipelineOf g inverted) (stepsFrom n 0) ≡ answers (whole inverted (textsOf (pipelineOf g inverted) (stepsFrom n 0)))
-    unfolding translated unless textsOf stepsFrom stepsIn
+  module _ (z : f.number ≡ 0) (k : Global (pipeline_of g inverted)) where
+    reply-is : translated (pipeline_of g inverted) (steps_from n 0) ≡ answers (whole inverted (texts_of (pipeline_of g inverted) (steps_from n 0)))
+    unfolding translated unless texts_of steps_from steps_in
     reply-is =
-        m.says (answers (translation (pipelineOf g inverted) (stepsFrom n 0))) ∙ rw (eq-eqb f.number 0 z)
-        (ap answers (translation-is (pipelineOf g inverted) k (stepsFrom n 0) (steps-plain (ltb 0 0) (words (drop 0 n)) (words-plain (drop 0 n)))))
+        m.says (answers (translation (pipeline_of g inverted) (steps_from n 0))) ∙ rw (eq-eqb f.number 0 z)
+        (ap answers (translation-is (pipeline_of g inverted) k (steps_from n 0) (steps-plain (ltb 0 0) (words (drop 0 n)) (words-plain (drop 0 n)))))
 
-    module _ {total : ℕ} {out out₁ : Bytes} (c : Laid false (whole false (textsOf (pipelineOf g inverted) (stepsFrom n 0))) out total out₁) where
-      long-is : total ≡ length (whole inverted (textsOf (pipelineOf g inverted) (stepsFrom n 0)))
-      long-is = c.count ∙ sym (whole_length inverted (textsOf (pipelineOf g inverted) (stepsFrom n 0)))
+    module _ {total : ℕ} {out out₁ : Bytes} (c : Laid false (whole false (texts_of (pipeline_of g inverted) (steps_from n 0))) out total out₁) where
+      long-is : total ≡ length (whole inverted (texts_of (pipeline_of g inverted) (steps_from n 0)))
+      long-is = c.count ∙ sym (whole_length inverted (texts_of (pipeline_of g inverted) (steps_from n 0)))
 
-      pub steps-no-room : length out₁ < total → Lends (translated (pipelineOf g inverted) (stepsFrom n 0)) out (variant.Refused 7 0) out₁
+      pub steps-no-room : length out₁ < total → Lends (translated (pipeline_of g inverted) (steps_from n 0)) out (variant.Refused 7 0) out₁
       steps-no-room l =
-          subst (λ (d : Bytes). Lends (translated (pipelineOf g inverted) (stepsFrom n 0)) out (variant.Refused 7 0) d) (sym c.done)
+          subst (λ (d : Bytes). Lends (translated (pipeline_of g inverted) (steps_from n 0)) out (variant.Refused 7 0) d) (sym c.done)
           (lends-no-room reply-is (omega (arith, long-is, ap length c.done)))
 
-      pub steps-ready : total ≤ length out₁ → Ready true total (whole inverted (textsOf (pipelineOf g inverted) (stepsFrom n 0))) out₁
+      pub steps-ready : total ≤ length out₁ → Ready true total (whole inverted (texts_of (pipeline_of g inverted) (steps_from n 0))) out₁
       steps-ready l = record { exact = λ e. long-is; inside = l }
 
-      pub steps-done : {r : ℕ} {out₂ : Bytes} → total ≤ length out₁ → Laid true (whole inverted (textsOf (pipelineOf g inverted) (stepsFrom n 0))) out₁ r out₂
-          → Lends (translated (pipelineOf g inverted) (stepsFrom n 0)) out (variant.Wrote r) out₂
+      pub steps-done : {r : ℕ} {out₂ : Bytes} → total ≤ length out₁ → Laid true (whole inverted (texts_of (pipeline_of g inverted) (steps_from n 0))) out₁ r out₂
+          → Lends (translated (pipeline_of g inverted) (steps_from n 0)) out (variant.Wrote r) out₂
       steps-done {r} l w =
           lends-text reply-is (omega (arith, long-is, ap length c.done)) w.count
-          (w.done ∙ ap (λ (d : Bytes). whole inverted (textsOf (pipelineOf g inverted) (stepsFrom n 0)) ++ drop r d) c.done)
+          (w.done ∙ ap (λ (d : Bytes). whole inverted (texts_of (pipeline_of g inverted) (steps_from n 0)) ++ drop r d) c.done)
 
 pub count-ready : {text out : Bytes} → Ready false 0 text out
 count-ready = record { exact = λ e. absurd (false≢true e); inside = omega arith }
@@ -118,19 +118,19 @@ module _ (t : Bytes) where
 
 -- ---- the call
 
-steps-are : (t : Bytes) → projSteps t ≡ stepsFrom (cleaned t) 0
-unfolding projSteps stepsFrom stepsIn cleaned
+steps-are : (t : Bytes) → proj_steps t ≡ steps_from (cleaned t) 0
+unfolding proj_steps steps_from steps_in cleaned
 steps-are t = refl
 
 translate-other : (t : Bytes) → (any_of (is "|") t || not (contains (ascii "proj") t)) ≡ true → translate t ≡ answers t
 unfolding translate
 translate-other t e = rw e
 
-translate-proj : (t : Bytes) → (any_of (is "|") t || not (contains (ascii "proj") t)) ≡ false → translate t ≡ translated (pipeline (stepsFrom (cleaned t) 0)) (stepsFrom (cleaned t) 0)
+translate-proj : (t : Bytes) → (any_of (is "|") t || not (contains (ascii "proj") t)) ≡ false → translate t ≡ translated (pipeline (steps_from (cleaned t) 0)) (steps_from (cleaned t) 0)
 unfolding translate
 translate-proj t e = rw e (ap (λ (ss : Steps). translated (pipeline ss) ss) (steps-are t))
 
-pub unchanged-so : {t out out' : Bytes} {r : Written} → length t ≤ 4096 → inDomain t ≡ true
+pub unchanged-so : {t out out' : Bytes} {r : Written} → length t ≤ 4096 → in_domain t ≡ true
     → (any_of (is "|") t || not (contains (ascii "proj") t)) ≡ true → Lends (answers t) out r out' → Writes translate t out r out'
 unchanged-so {t} h d e w = lends-so h d (translate-other t e) w
 
@@ -143,13 +143,13 @@ module _ (t : Bytes) {a : Bytes} {n : ℕ} (w : Holds (cleaned t) n a) where
   unfolding cleaned
   pipe-room h e = rw (wrote-front w) (omega (arith, proj-length t))
 
-  pub globals-small : {p : Pipe} {b : Bytes} → length t ≤ 4096 → IsPipe (length (take n a)) (stepsFrom (take n a) 0) p b → length (take p.n b) ≤ 40960
+  pub globals-small : {p : Pipe} {b : Bytes} → length t ≤ 4096 → IsPipe (length (take n a)) (steps_from (take n a) 0) p b → length (take p.n b) ≤ 40960
   globals-small {p} {b} h i = omega (arith, cleaned-small h, i.few, length-take-le p.n b i.fits)
 
-  pub translate-so : {p : Pipe} {b out out' : Bytes} {r : Written} → length t ≤ 4096 → inDomain t ≡ true → (any_of (is "|") t || not (contains (ascii "proj") t)) ≡ false
-      → IsPipe (length (take n a)) (stepsFrom (take n a) 0) p b
-      → Lends (translated (pipelineOf (take p.n b) p.inverted) (stepsFrom (take n a) 0)) out r out' → Writes translate t out r out'
+  pub translate-so : {p : Pipe} {b out out' : Bytes} {r : Written} → length t ≤ 4096 → in_domain t ≡ true → (any_of (is "|") t || not (contains (ascii "proj") t)) ≡ false
+      → IsPipe (length (take n a)) (steps_from (take n a) 0) p b
+      → Lends (translated (pipeline_of (take p.n b) p.inverted) (steps_from (take n a) 0)) out r out' → Writes translate t out r out'
   translate-so {p} {b} {out} {out'} {r} h d e i l =
       let z : take n a ≡ cleaned t = wrote-front w in
       lends-so h d
-      (translate-proj t e ∙ ap (λ (s : Bytes). translated (pipeline (stepsFrom s 0)) (stepsFrom s 0)) (sym z) ∙ ap (λ (q : Pipeline). translated q (stepsFrom (take n a) 0)) i.is) l
+      (translate-proj t e ∙ ap (λ (s : Bytes). translated (pipeline (steps_from s 0)) (steps_from s 0)) (sym z) ∙ ap (λ (q : Pipeline). translated q (steps_from (take n a) 0)) i.is) l

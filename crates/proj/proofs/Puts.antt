@@ -9,12 +9,12 @@ use borrow.Author.Tests.{eq-eqb, ne_eqb}
 use lib.ListN.{length, take, drop, set, length-append, take-append-drop}
 use lib.Seq.{length-take-le, take_at, drop_at, drop-drop, take-take, take-append-le, drop-append-add}
 use lib.Dec.{eqb, ltb}
-use Rattle.rules.specs.Text.Lists.{nonEmpty}
+use Rattle.rules.specs.Text.Lists.{non_empty}
 use Rattle.rules.specs.Text.Bytes.{Bytes}
 use Rattle.text.proofs.WroteAt.{wrote-byte}
 use Rattle.proj_steps.specs.Adds.{limit, Room, Adds}
 use Rattle.proj_steps.proofs.Added.{adds-length, wrote-adds}
-use Rattle.laws_proj.specs.Ordering.{side, side_right, side-length, barText, gapText, partText, stateAfter}
+use Rattle.laws_proj.specs.Ordering.{side, side_right, side-length, bar_text, gap_text, part_text, state_after}
 use Rattle.proj.specs.Places.{place_of, Spot, Puts, Parted}
 use Rattle.proj.specs.declared.layout.Put.{Put}
 use Rattle.laws_proj.specs.Tests.{empty-is, some_is}
@@ -199,22 +199,22 @@ space-no e = rw e
 
 -- the bar
 module _ (back : Bool) (state : ℕ) (begun : Bool) where
-  pub bar-first : state ≡ 0 → barText back state begun ≡ []
-  unfolding barText
+  pub bar-first : state ≡ 0 → bar_text back state begun ≡ []
+  unfolding bar_text
   bar-first z = rw (eq-eqb state 0 z)
 
-  pub bar-later : (state ≡ 0 → ⊥) → barText back state begun ≡ side back (cond (eqb state 2) (32 ∷ []) []) (side back (cond begun (32 ∷ []) []) (124 ∷ []))
-  unfolding barText
+  pub bar-later : (state ≡ 0 → ⊥) → bar_text back state begun ≡ side back (cond (eqb state 2) (32 ∷ []) []) (side back (cond begun (32 ∷ []) []) (124 ∷ []))
+  unfolding bar_text
   bar-later n = rw (ne_eqb state 0 n)
 
 -- the text after it
 module _ (back : Bool) (state : ℕ) (t : Bytes) where
-  pub gap-first : state ≡ 0 → gapText back state t ≡ t
-  unfolding gapText
+  pub gap-first : state ≡ 0 → gap_text back state t ≡ t
+  unfolding gap_text
   gap-first z = rw (eq-eqb state 0 z)
 
-  pub gap-later : (state ≡ 0 → ⊥) → gapText back state t ≡ side back (32 ∷ []) t
-  unfolding gapText
+  pub gap-later : (state ≡ 0 → ⊥) → gap_text back state t ≡ side back (32 ∷ []) t
+  unfolding gap_text
   gap-later n = rw (ne_eqb state 0 n)
 
 -- a count leaves the buffer as it was
@@ -237,46 +237,46 @@ unfolding limit
 count_room h = record { fits = omega arith }
 
 -- both
-module _ (state : ℕ) (t : Bytes) {write back : Bool} {total o : ℕ} {dst₀ : Bytes} (h : Spot write back total (partText back state (ltb 0 o) t) o dst₀) where
-  pub part-bar : Spot write back total (barText back state (ltb 0 o)) o dst₀
-  unfolding partText
-  part-bar = spot-first (barText back state (ltb 0 o)) (cond (nonEmpty t) (gapText back state t) []) h
+module _ (state : ℕ) (t : Bytes) {write back : Bool} {total o : ℕ} {dst₀ : Bytes} (h : Spot write back total (part_text back state (ltb 0 o) t) o dst₀) where
+  pub part-bar : Spot write back total (bar_text back state (ltb 0 o)) o dst₀
+  unfolding part_text
+  part-bar = spot-first (bar_text back state (ltb 0 o)) (cond (non_empty t) (gap_text back state t) []) h
 
-  module _ {p : ℕ} {dst : Bytes} (b : Puts write back total (barText back state (ltb 0 o)) dst₀ o p dst) where
-    none_is : length t ≡ 0 → partText back state (ltb 0 o) t ≡ barText back state (ltb 0 o)
-    unfolding partText nonEmpty
-    none_is e = rw (empty-is t e) (side_right back (barText back state (ltb 0 o)))
+  module _ {p : ℕ} {dst : Bytes} (b : Puts write back total (bar_text back state (ltb 0 o)) dst₀ o p dst) where
+    none_is : length t ≡ 0 → part_text back state (ltb 0 o) t ≡ bar_text back state (ltb 0 o)
+    unfolding part_text non_empty
+    none_is e = rw (empty-is t e) (side_right back (bar_text back state (ltb 0 o)))
 
     pub part-first-empty : length t ≡ 0 → state ≡ 0 → Parted write back total state t dst₀ o (record { o = p; state = 1 }) dst
     part-first-empty e z = record { puts = puts-as (sym (none_is e)) b; state-is = first-state (empty-is t e) }
       where
-        first-state : t ≡ [] → 1 ≡ stateAfter state t
-        first-state f = unfold stateAfter nonEmpty in sym (rw (f, eq-eqb state 0 z))
+        first-state : t ≡ [] → 1 ≡ state_after state t
+        first-state f = unfold state_after non_empty in sym (rw (f, eq-eqb state 0 z))
 
     pub part-later-empty : length t ≡ 0 → (state ≡ 0 → ⊥) → Parted write back total state t dst₀ o (record { o = p; state = 2 }) dst
     part-later-empty e n = record { puts = puts-as (sym (none_is e)) b; state-is = later-state (empty-is t e) }
       where
-        later-state : t ≡ [] → 2 ≡ stateAfter state t
-        later-state f = unfold stateAfter nonEmpty in sym (rw (f, ne_eqb state 0 n))
+        later-state : t ≡ [] → 2 ≡ state_after state t
+        later-state f = unfold state_after non_empty in sym (rw (f, ne_eqb state 0 n))
 
     module _ (n : length t ≡ 0 → ⊥) where
-      some-text : partText back state (ltb 0 o) t ≡ side back (barText back state (ltb 0 o)) (gapText back state t)
-      unfolding partText
+      some-text : part_text back state (ltb 0 o) t ≡ side back (bar_text back state (ltb 0 o)) (gap_text back state t)
+      unfolding part_text
       some-text = rw (some_is t n)
 
-      pub part-gap : Spot write back total (gapText back state t) p dst
-      part-gap = spot-then (barText back state (ltb 0 o)) (gapText back state t) (spot-as some-text h) b
+      pub part-gap : Spot write back total (gap_text back state t) p dst
+      part-gap = spot-then (bar_text back state (ltb 0 o)) (gap_text back state t) (spot-as some-text h) b
 
-      pub part-some : {q : ℕ} {dst' : Bytes} → Puts write back total (gapText back state t) dst p q dst' → Parted write back total state t dst₀ o (record { o = q; state = 1 }) dst'
-      part-some g = record { puts = puts-as (sym some-text) (puts-both (barText back state (ltb 0 o)) (gapText back state t) (spot-as some-text h) b g); state-is = some-state (some_is t n) }
+      pub part-some : {q : ℕ} {dst' : Bytes} → Puts write back total (gap_text back state t) dst p q dst' → Parted write back total state t dst₀ o (record { o = q; state = 1 }) dst'
+      part-some g = record { puts = puts-as (sym some-text) (puts-both (bar_text back state (ltb 0 o)) (gap_text back state t) (spot-as some-text h) b g); state-is = some-state (some_is t n) }
         where
-          some-state : nonEmpty t ≡ true → 1 ≡ stateAfter state t
-          some-state f = unfold stateAfter in sym (rw f)
+          some-state : non_empty t ≡ true → 1 ≡ state_after state t
+          some-state f = unfold state_after in sym (rw f)
 
 -- ---- written behind the others
 
 pub spot_on : (write back : Bool) {total o : ℕ} {dst : Bytes} (state : ℕ) (t : Bytes) → write ≡ true → back ≡ false
-    → Spot write back total (partText back state (ltb 0 o) t) o dst → Spot true false total (partText false state (ltb 0 o) t) o dst
+    → Spot write back total (part_text back state (ltb 0 o) t) o dst → Spot true false total (part_text false state (ltb 0 o) t) o dst
 spot_on true false state t w b h = h
 spot_on true true state t w b h = absurd (false≢true (sym b))
 spot_on false back state t w b h = absurd (false≢true w)
@@ -298,8 +298,8 @@ spaced-adds {t} {dst} {dst'} {p} {r} h a l =
     let y : set dst' p 32 ≡ mid p (32 ∷ []) dst' = mid-adds (wrote-adds (omega arith) (wrote-byte 32 dst' p l)) in
     adds-mid refl (y ∙ ap (mid p (32 ∷ [])) x ∙ mid-front dst t (32 ∷ []) p h)
 
-module _ (state : ℕ) (t : Bytes) {total o : ℕ} {dst₀ : Bytes} (h : Spot true false total (partText false state (ltb 0 o) t) o dst₀)
-    {p : ℕ} {dst : Bytes} (b : Puts true false total (barText false state (ltb 0 o)) dst₀ o p dst) where
+module _ (state : ℕ) (t : Bytes) {total o : ℕ} {dst₀ : Bytes} (h : Spot true false total (part_text false state (ltb 0 o) t) o dst₀)
+    {p : ℕ} {dst : Bytes} (b : Puts true false total (bar_text false state (ltb 0 o)) dst₀ o p dst) where
   -- behind the bar the buffer has room for what is left of the answer
   on-inside : total ≤ length dst
   on-inside = omega (arith, h.inside, spot-length (part-bar state t h) b)
@@ -309,16 +309,16 @@ module _ (state : ℕ) (t : Bytes) {total o : ℕ} {dst₀ : Bytes} (h : Spot tr
 
   -- the first
   module _ (z : state ≡ 0) where
-    on-first : partText false state (ltb 0 o) t ≡ side false (barText false state (ltb 0 o)) t
-    unfolding partText gapText
-    on-first = rw (eq-eqb state 0 z) (ap (side false (barText false state (ltb 0 o))) (same t))
+    on-first : part_text false state (ltb 0 o) t ≡ side false (bar_text false state (ltb 0 o)) t
+    unfolding part_text gap_text
+    on-first = rw (eq-eqb state 0 z) (ap (side false (bar_text false state (ltb 0 o))) (same t))
       where
-        same : (u : Bytes) → cond (nonEmpty u) u [] ≡ u
-        same [] = unfold nonEmpty in refl
-        same (x ∷ u) = unfold nonEmpty in refl
+        same : (u : Bytes) → cond (non_empty u) u [] ≡ u
+        same [] = unfold non_empty in refl
+        same (x ∷ u) = unfold non_empty in refl
 
     on-first-spot : Spot true false total t p dst
-    on-first-spot = spot-then (barText false state (ltb 0 o)) t (spot-as on-first h) b
+    on-first-spot = spot-then (bar_text false state (ltb 0 o)) t (spot-as on-first h) b
 
     pub on-first-room : Room true t p dst
     unfolding place_of
@@ -328,14 +328,14 @@ module _ (state : ℕ) (t : Bytes) {total o : ℕ} {dst₀ : Bytes} (h : Spot tr
     on-first-done {r} {dst'} a = record {
       puts =
           puts-as (sym on-first)
-          (puts-both (barText false state (ltb 0 o)) t (spot-as on-first h) b
+          (puts-both (bar_text false state (ltb 0 o)) t (spot-as on-first h) b
           (subst (λ (n : ℕ). Puts true false total t dst p n dst') (sym a.count) (put_written on-first-spot refl (place-behind total p (length t) refl) a)));
-      state-is = after (nonEmpty t) refl;
+      state-is = after (non_empty t) refl;
     }
       where
-        after : (c : Bool) → nonEmpty t ≡ c → 1 ≡ stateAfter state t
-        after true e = unfold stateAfter in sym (rw e)
-        after false e = unfold stateAfter in sym (rw (e, eq-eqb state 0 z))
+        after : (c : Bool) → non_empty t ≡ c → 1 ≡ state_after state t
+        after true e = unfold state_after in sym (rw e)
+        after false e = unfold state_after in sym (rw (e, eq-eqb state 0 z))
 
   -- a later one
   module _ (n : state ≡ 0 → ⊥) where
@@ -373,15 +373,15 @@ module _ (state : ℕ) (t : Bytes) {total o : ℕ} {dst₀ : Bytes} (h : Spot tr
             some : length t ≡ 0 → ⊥
             some z = k (omega (arith, a.count))
 
-            gap_is : gapText false state t ≡ 32 ∷ t
+            gap_is : gap_text false state t ≡ 32 ∷ t
             gap_is = gap-later false state t n ∙ unfold side in refl
 
-            puts : Puts true false total (gapText false state t) dst p r (set dst' p 32)
+            puts : Puts true false total (gap_text false state t) dst p r (set dst' p 32)
             puts = puts-as (sym gap_is) (record { count = omega (arith, a.count); adds = unfold place_of in spaced-adds on_fits a on-later-length })
 
 -- ---- the bar, piece by piece
 
-module _ (state : ℕ) (begun : Bool) {write back : Bool} {total o : ℕ} {dst₀ : Bytes} (h : Spot write back total (barText back state begun) o dst₀) (n : state ≡ 0 → ⊥) where
+module _ (state : ℕ) (begun : Bool) {write back : Bool} {total o : ℕ} {dst₀ : Bytes} (h : Spot write back total (bar_text back state begun) o dst₀) (n : state ≡ 0 → ⊥) where
   bar-spot : Spot write back total (side back (cond (eqb state 2) (32 ∷ []) []) (side back (cond begun (32 ∷ []) []) (124 ∷ []))) o dst₀
   bar-spot = spot-as (bar-later back state begun n) h
 
@@ -399,7 +399,7 @@ module _ (state : ℕ) (begun : Bool) {write back : Bool} {total o : ℕ} {dst�
       pub bar-byte : Spot write back total (124 ∷ []) q dst₂
       bar-byte = spot-then (cond begun (32 ∷ []) []) (124 ∷ []) rest-spot b
 
-      pub bar-done : {r : ℕ} {dst : Bytes} → Puts write back total (124 ∷ []) dst₂ q r dst → Puts write back total (barText back state begun) dst₀ o r dst
+      pub bar-done : {r : ℕ} {dst : Bytes} → Puts write back total (124 ∷ []) dst₂ q r dst → Puts write back total (bar_text back state begun) dst₀ o r dst
       bar-done c =
           puts-as (sym (bar-later back state begun n))
           (puts-both (cond (eqb state 2) (32 ∷ []) []) (side back (cond begun (32 ∷ []) []) (124 ∷ [])) bar-spot a (puts-both (cond begun (32 ∷ []) []) (124 ∷ []) rest-spot b c))

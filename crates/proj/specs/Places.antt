@@ -4,7 +4,7 @@ use Rattle.rules.specs.Text.Lists.{kept}
 use Rattle.rules.specs.Text.Bytes.{Bytes, Steps}
 use Rattle.rules.specs.Proj.Translate.{Pipeline, step_of, is_written}
 use Rattle.proj_steps.specs.Adds.{Adds}
-use Rattle.laws_proj.specs.Ordering.{partText, stateAfter}
+use Rattle.laws_proj.specs.Ordering.{part_text, state_after}
 use Rattle.proj.specs.declared.layout.Put.{Put}
 
 -- the place of the next l bytes after o: behind those, or in front of them in an answer of that many bytes in total
@@ -23,12 +23,12 @@ pub record Puts (write back : Bool) (total : ℕ) (text dst₀ : Bytes) (o r : �
 
 -- a step of the answer is put, with what stands before it
 pub record Parted (write back : Bool) (total state : ℕ) (t dst₀ : Bytes) (o : ℕ) (r : Put) (dst : Bytes) : Type 0 where
-  pub puts : Puts write back total (partText back state (ltb 0 o) t) dst₀ o r.o dst
-  pub state-is : r.state ≡ stateAfter state t
+  pub puts : Puts write back total (part_text back state (ltb 0 o) t) dst₀ o r.o dst
+  pub state-is : r.state ≡ state_after state t
 
 -- the texts of the steps that are written
-unfoldable pub textsOf : Pipeline → Steps → List Bytes
-textsOf p ss = map (step_of p) (kept is_written ss)
+unfoldable pub texts_of : Pipeline → Steps → List Bytes
+texts_of p ss = map (step_of p) (kept is_written ss)
 
 -- where it writes, the answer's length is known and the buffer has room
 pub record Ready (write : Bool) (total : ℕ) (text dst : Bytes) : Type 0 where

@@ -1,14 +1,14 @@
 // All steps of the answer with ` | ` between, written or only counted. Where the pipeline is inverted they are put in front of each other,
 // from the end of the answer on, so that no step is read twice for its place. The Rust is the end of `parse_proj` of src/token/mod.rs.
 ghost use Rattle.std.specs.Prelude.{◌≡◌, true, false, cond, [], ◌∷◌, ◌+◌, ◌≤◌, length, ltb};
-ghost use Rattle.rules.specs.Text.Lists.{nonEmpty};
+ghost use Rattle.rules.specs.Text.Lists.{non_empty};
 ghost use Rattle.rules.specs.Text.Bytes.{words};
 ghost use Rattle.rules.specs.Proj.Translate.{is_written, step_of};
-ghost use Rattle.laws_proj.specs.Ordering.{whole, barText, gapText, partText};
+ghost use Rattle.laws_proj.specs.Ordering.{whole, bar_text, gap_text, part_text};
 ghost use Rattle.laws_proj.specs.Step.{Global};
-ghost use Rattle.proj_words.specs.Cuts.{stepsFrom};
-ghost use Rattle.proj_steps.specs.Plans.{pipelineOf};
-ghost use Rattle.proj.specs.Places.{place_of, Spot, Puts, Parted, textsOf, Ready, Laid};
+ghost use Rattle.proj_words.specs.Cuts.{steps_from};
+ghost use Rattle.proj_steps.specs.Plans.{pipeline_of};
+ghost use Rattle.proj.specs.Places.{place_of, Spot, Puts, Parted, texts_of, Ready, Laid};
 
 use proj_steps::step_text;
 use proj_words::{head_of, marks_of, next_proj};
@@ -58,8 +58,8 @@ fn space_out(wanted: bool, back: bool, total: usize, out: &mut [u8], o: usize, w
 
 // Puts the bar before a text, with the space that is owed and the one in front of it.
 fn bar_out(state: usize, back: bool, total: usize, out: &mut [u8], o: usize, write: bool) -> usize
-    requires { Spot write back total (barText back state (ltb 0 o)) o out.old }
-    ensures { Puts write back total (barText back state (ltb 0 o)) out.old o result out.new }
+    requires { Spot write back total (bar_text back state (ltb 0 o)) o out.old }
+    ensures { Puts write back total (bar_text back state (ltb 0 o)) out.old o result out.new }
 {
     if state == 0 {
         return o;
@@ -81,11 +81,11 @@ fn text_out(
     o: usize,
     write: bool,
 ) -> usize
-    requires s_value { nonEmpty (words s.now) ≡ true }
-    requires global { Global (pipelineOf g.now inverted) }
-    requires l_value { l ≡ length (step_of (pipelineOf g.now inverted) (words s.now)) }
-    requires spot { Spot write back total (step_of (pipelineOf g.now inverted) (words s.now)) o out.old }
-    ensures { Puts write back total (step_of (pipelineOf g.now inverted) (words s.now)) out.old o result out.new }
+    requires s_value { non_empty (words s.now) ≡ true }
+    requires global { Global (pipeline_of g.now inverted) }
+    requires l_value { l ≡ length (step_of (pipeline_of g.now inverted) (words s.now)) }
+    requires spot { Spot write back total (step_of (pipeline_of g.now inverted) (words s.now)) o out.old }
+    ensures { Puts write back total (step_of (pipeline_of g.now inverted) (words s.now)) out.old o result out.new }
 {
     if write {
         let at = place(back, total, o, l);
@@ -108,11 +108,11 @@ fn gap_out(
     o: usize,
     write: bool,
 ) -> usize
-    requires s_value { nonEmpty (words s.now) ≡ true }
-    requires global { Global (pipelineOf g.now inverted) }
-    requires l_value { l ≡ length (step_of (pipelineOf g.now inverted) (words s.now)) }
-    requires spot { Spot write back total (gapText back state (step_of (pipelineOf g.now inverted) (words s.now))) o out.old }
-    ensures { Puts write back total (gapText back state (step_of (pipelineOf g.now inverted) (words s.now))) out.old o result out.new }
+    requires s_value { non_empty (words s.now) ≡ true }
+    requires global { Global (pipeline_of g.now inverted) }
+    requires l_value { l ≡ length (step_of (pipeline_of g.now inverted) (words s.now)) }
+    requires spot { Spot write back total (gap_text back state (step_of (pipeline_of g.now inverted) (words s.now))) o out.old }
+    ensures { Puts write back total (gap_text back state (step_of (pipeline_of g.now inverted) (words s.now))) out.old o result out.new }
 {
     if state == 0 {
         return text_out(s, g, inverted, l, back, total, out, o, write);
@@ -132,10 +132,10 @@ fn part_on(
     out: &mut [u8],
     o: usize,
 ) -> Put
-    requires s_value { nonEmpty (words s.now) ≡ true }
-    requires global { Global (pipelineOf g.now inverted) }
-    requires spot { Spot true false total (partText false state (ltb 0 o) (step_of (pipelineOf g.now inverted) (words s.now))) o out.old }
-    ensures { Parted true false total state (step_of (pipelineOf g.now inverted) (words s.now)) out.old o result out.new }
+    requires s_value { non_empty (words s.now) ≡ true }
+    requires global { Global (pipeline_of g.now inverted) }
+    requires spot { Spot true false total (part_text false state (ltb 0 o) (step_of (pipeline_of g.now inverted) (words s.now))) o out.old }
+    ensures { Parted true false total state (step_of (pipeline_of g.now inverted) (words s.now)) out.old o result out.new }
 {
     let p = bar_out(state, false, total, out, o, true);
     if state == 0 {
@@ -165,11 +165,11 @@ fn part_counted(
     o: usize,
     write: bool,
 ) -> Put
-    requires s_value { nonEmpty (words s.now) ≡ true }
-    requires global { Global (pipelineOf g.now inverted) }
-    requires s_len_bound { length (step_of (pipelineOf g.now inverted) (words s.now)) ≤ 262140 }
-    requires spot { Spot write back total (partText back state (ltb 0 o) (step_of (pipelineOf g.now inverted) (words s.now))) o out.old }
-    ensures { Parted write back total state (step_of (pipelineOf g.now inverted) (words s.now)) out.old o result out.new }
+    requires s_value { non_empty (words s.now) ≡ true }
+    requires global { Global (pipeline_of g.now inverted) }
+    requires s_len_bound { length (step_of (pipeline_of g.now inverted) (words s.now)) ≤ 262140 }
+    requires spot { Spot write back total (part_text back state (ltb 0 o) (step_of (pipeline_of g.now inverted) (words s.now))) o out.old }
+    ensures { Parted write back total state (step_of (pipeline_of g.now inverted) (words s.now)) out.old o result out.new }
 {
     let p = bar_out(state, back, total, out, o, write);
     let l = step_text(s, g, inverted, out, 0, false);
@@ -196,11 +196,11 @@ fn part_out(
     o: usize,
     write: bool,
 ) -> Put
-    requires s_value { nonEmpty (words s.now) ≡ true }
-    requires global { Global (pipelineOf g.now inverted) }
-    requires s_len_bound { length (step_of (pipelineOf g.now inverted) (words s.now)) ≤ 262140 }
-    requires spot { Spot write back total (partText back state (ltb 0 o) (step_of (pipelineOf g.now inverted) (words s.now))) o out.old }
-    ensures { Parted write back total state (step_of (pipelineOf g.now inverted) (words s.now)) out.old o result out.new }
+    requires s_value { non_empty (words s.now) ≡ true }
+    requires global { Global (pipeline_of g.now inverted) }
+    requires s_len_bound { length (step_of (pipeline_of g.now inverted) (words s.now)) ≤ 262140 }
+    requires spot { Spot write back total (part_text back state (ltb 0 o) (step_of (pipeline_of g.now inverted) (words s.now))) o out.old }
+    ensures { Parted write back total state (step_of (pipeline_of g.now inverted) (words s.now)) out.old o result out.new }
 {
     if write {
         if back {
@@ -213,7 +213,7 @@ fn part_out(
 
 // Is the step written? The pipeline's own is not, nor one that is an emptied word alone.
 fn is_written(s: &[u8]) -> bool
-    requires { nonEmpty (words s.now) ≡ true }
+    requires { non_empty (words s.now) ≡ true }
     ensures { result ≡ is_written (words s.now) }
 {
     let head = head_of(s);
@@ -236,9 +236,9 @@ pub fn all_out(
 ) -> usize
     requires n_len_bound { length n.now ≤ 40960 }
     requires g_len_bound { length g.now ≤ 40960 }
-    requires global { Global (pipelineOf g.now inverted) }
-    requires ready { Ready write total (whole back (textsOf (pipelineOf g.now inverted) (stepsFrom n.now 0))) out.old }
-    ensures { Laid write (whole back (textsOf (pipelineOf g.now inverted) (stepsFrom n.now 0))) out.old result out.new }
+    requires global { Global (pipeline_of g.now inverted) }
+    requires ready { Ready write total (whole back (texts_of (pipeline_of g.now inverted) (steps_from n.now 0))) out.old }
+    ensures { Laid write (whole back (texts_of (pipeline_of g.now inverted) (steps_from n.now 0))) out.old result out.new }
 {
     let mut o = 0;
     let mut state = 0;

@@ -3,13 +3,13 @@ mod layout;
 
 ghost use Rattle.std.specs.Prelude.{◌≡◌, true, false, ◌&&◌, ◌||◌, not, ◌*◌, ◌<◌, ◌≤◌, length};
 ghost use Rattle.rules.specs.Text.Ascii.{ascii, is};
-ghost use Rattle.rules.specs.Text.Lists.{any_of, nonEmpty};
-ghost use Rattle.rules.specs.Text.Bytes.{words, contains, inDomain};
+ghost use Rattle.rules.specs.Text.Lists.{any_of, non_empty};
+ghost use Rattle.rules.specs.Text.Bytes.{words, contains, in_domain};
 ghost use Rattle.rules.specs.Proj.Translate.{translate, translated};
 ghost use Rattle.rules.specs.Text.Refusal.{Writes, Lends};
 ghost use Rattle.laws_proj.specs.Step.{Global};
-ghost use Rattle.proj_words.specs.Cuts.{stepsFrom};
-ghost use Rattle.proj_steps.specs.Plans.{pipelineOf};
+ghost use Rattle.proj_words.specs.Cuts.{steps_from};
+ghost use Rattle.proj_steps.specs.Plans.{pipeline_of};
 ghost use Rattle.proj.specs.Flaws.{IsStepFlaw, IsFlaw, IsPipe};
 
 use layout::all_out;
@@ -47,8 +47,8 @@ fn both(a: bool, b: bool) -> bool
 
 // The refusal of a step at a place: 3, 4, 5, or 0.
 fn step_flaw(s: &[u8], g: &[u8], inverted: bool, place: usize) -> u8
-    requires { nonEmpty (words s.now) ≡ true }
-    ensures { IsStepFlaw (pipelineOf g.now inverted) place (words s.now) result }
+    requires { non_empty (words s.now) ≡ true }
+    ensures { IsStepFlaw (pipeline_of g.now inverted) place (words s.now) result }
 {
     let head = head_of(s);
     if head.init {
@@ -68,7 +68,7 @@ fn step_flaw(s: &[u8], g: &[u8], inverted: bool, place: usize) -> u8
 // The refusal of the first faulty step: "Translation takes the first faulty step, trying 3, 4, 5."
 fn flaw_of(n: &[u8], g: &[u8], inverted: bool) -> Flaw
     requires { length n.now ≤ 40960 }
-    ensures { IsFlaw (pipelineOf g.now inverted) (stepsFrom n.now 0) result }
+    ensures { IsFlaw (pipeline_of g.now inverted) (steps_from n.now 0) result }
 {
     let mut k = 0;
     let mut place = 1;
@@ -99,7 +99,7 @@ fn flaw_of(n: &[u8], g: &[u8], inverted: bool) -> Flaw
 // What the first step says to the others, if it is the pipeline's; its globals are written into b.
 fn pipe_of(n: &[u8], b: &mut [u8]) -> Pipe
     requires { length n.now ≤ length b.old }
-    ensures { IsPipe (length n.now) (stepsFrom n.now 0) result b.new }
+    ensures { IsPipe (length n.now) (steps_from n.now 0) result b.new }
 {
     let found = next_proj(n, Cursor { at: 0 });
     match found {
@@ -129,8 +129,8 @@ fn pipe_of(n: &[u8], b: &mut [u8]) -> Pipe
 fn steps_out(n: &[u8], g: &[u8], inverted: bool, out: &mut [u8]) -> Written
     requires n_len_bound { length n.now ≤ 40960 }
     requires g_len_bound { length g.now ≤ 40960 }
-    requires global { Global (pipelineOf g.now inverted) }
-    ensures { Lends (translated (pipelineOf g.now inverted) (stepsFrom n.now 0)) out.old result out.new }
+    requires global { Global (pipeline_of g.now inverted) }
+    ensures { Lends (translated (pipeline_of g.now inverted) (steps_from n.now 0)) out.old result out.new }
 {
     let flaw = flaw_of(n, g, inverted);
     let number = flaw.number;
@@ -163,7 +163,7 @@ fn is_other(text: &[u8]) -> bool
 // The answer for a text that is neither too long nor outside the domain; a, b and c are room to work in.
 fn answer(text: &[u8], out: &mut [u8], a: &mut [u8], b: &mut [u8], c: &mut [u8]) -> Written
     requires text_len_bound { length text.now ≤ 4096 }
-    requires text_value { inDomain text.now ≡ true }
+    requires text_value { in_domain text.now ≡ true }
     requires text_value_2 { (any_of (is "|") text.now || not (contains (ascii "proj") text.now)) ≡ false }
     requires text_in_bounds { 10 * length text.now ≤ length a.old }
     requires text_in_bounds_2 { 10 * length text.now < length b.old }
@@ -179,7 +179,7 @@ fn answer(text: &[u8], out: &mut [u8], a: &mut [u8], b: &mut [u8], c: &mut [u8])
 // The answer for a short text, over small buffers of its own: to clear large ones would cost more than the rest.
 fn short(text: &[u8], out: &mut [u8]) -> Written
     requires text_len_bound { length text.now ≤ 409 }
-    requires text_value { inDomain text.now ≡ true }
+    requires text_value { in_domain text.now ≡ true }
     requires text_value_2 { (any_of (is "|") text.now || not (contains (ascii "proj") text.now)) ≡ false }
     ensures { Writes translate text.now out.old result out.new }
 {
@@ -192,7 +192,7 @@ fn short(text: &[u8], out: &mut [u8]) -> Written
 // The answer for any text, over buffers for the longest.
 fn long(text: &[u8], out: &mut [u8]) -> Written
     requires text_len_bound { length text.now ≤ 4096 }
-    requires text_value { inDomain text.now ≡ true }
+    requires text_value { in_domain text.now ≡ true }
     requires text_value_2 { (any_of (is "|") text.now || not (contains (ascii "proj") text.now)) ≡ false }
     ensures { Writes translate text.now out.old result out.new }
 {

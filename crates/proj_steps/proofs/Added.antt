@@ -127,5 +127,5 @@ module _ (f x : Bytes) {write : Bool} {dst₀ : Bytes} {at : ℕ} {begun : Bool}
       pub first_back : Room write x i dst₁
       first_back = then-room f x plain-room q
 
-      pub word_first : {r : ℕ} {dst : Bytes} → Adds write x dst₁ i r dst → Adds write (gapped begun (f ++ x)) dst₀ at r dst
-      word_first s = adds-as (sym plain-is) (adds-both f x plain-room q s)
+      pub word-first : {r : ℕ} {dst : Bytes} → Adds write x dst₁ i r dst → Adds write (gapped begun (f ++ x)) dst₀ at r dst
+      word-first s = adds-as (sym plain-is) (adds-both f x plain-room q s)

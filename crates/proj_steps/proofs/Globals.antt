@@ -6,9 +6,9 @@ use Prim.Native.Nat.{ℕ, ◌+◌, ◌≤◌}
 use native.Mathlib.Omega.{arith}
 use lib.ListN.{length, drop}
 use Rattle.rules.specs.Text.Lists.{kept}
-use Rattle.rules.specs.Text.Bytes.{Bytes, Words, words, afterEach, joinedBy, joined}
+use Rattle.rules.specs.Text.Bytes.{Bytes, Words, words, after_each, joined_by, joined}
 use Rattle.rules.specs.Proj.Words.{exchanged, tidied}
-use Rattle.rules.specs.Proj.Translate.{isInv, notInv, withGlobals, step_of}
+use Rattle.rules.specs.Proj.Translate.{is_inv, not_inv, with_globals, step_of}
 use Rattle.rules.specs.Text.Reader.{part}
 use Rattle.text.specs.Wrote.{Wrote}
 use Rattle.proj_steps.specs.Adds.{limit, Room, Adds, gapped}
@@ -21,25 +21,25 @@ use Rattle.proj_words.specs.Facts.{IsMarks}
 use Rattle.proj_words.specs.declared.exchange.Head.{Head}
 use Rattle.proj_words.specs.declared.exchange.Marks.{Marks}
 use Rattle.proj_steps.specs.Pens.{RoomForAll, PensAll}
-use Rattle.proj_steps.specs.Plans.{pipelineOf, globalled}
+use Rattle.proj_steps.specs.Plans.{pipeline_of, globalled}
 
 -- ---- the globals
 
 -- those that are left, in text
 pub left : Bool → Words → Bytes
-left begun ws = cond begun (afterEach (32 ∷ []) (kept notInv ws)) (joined (kept notInv ws))
+left begun ws = cond begun (after_each (32 ∷ []) (kept not_inv ws)) (joined (kept not_inv ws))
 
 left-none : (begun : Bool) → left begun [] ≡ []
-unfolding left kept afterEach joined joinedBy
+unfolding left kept after_each joined joined_by
 left-none true = refl
 left-none false = refl
 
-left-inv : (begun : Bool) (w : Bytes) (ws : Words) → isInv w ≡ true → left begun (w ∷ ws) ≡ left begun ws
-unfolding left kept notInv
+left-inv : (begun : Bool) (w : Bytes) (ws : Words) → is_inv w ≡ true → left begun (w ∷ ws) ≡ left begun ws
+unfolding left kept not_inv
 left-inv begun w ws e = rw e
 
-left_word : (begun : Bool) (w : Bytes) (ws : Words) → isInv w ≡ false → left begun (w ∷ ws) ≡ gapped begun w ++ left true ws
-unfolding left kept notInv gapped afterEach joined joinedBy
+left_word : (begun : Bool) (w : Bytes) (ws : Words) → is_inv w ≡ false → left begun (w ∷ ws) ≡ gapped begun w ++ left true ws
+unfolding left kept not_inv gapped after_each joined joined_by
 left_word true w ws e = rw e
 left_word false w ws e = rw e
 
@@ -58,7 +58,7 @@ gathering-start {s} {h} dst m r = record {
   within = m.start-within;
   done = [];
   adds = adds-nothing dst 0 true;
-  right = sym (ap (λ (ws : Words). joined (kept notInv (drop 1 ws))) m.here);
+  right = sym (ap (λ (ws : Words). joined (kept not_inv (drop 1 ws))) m.here);
   room = r;
 }
 
@@ -79,7 +79,7 @@ module _ {s : Bytes} {h : Head} {dst₀ : Bytes} {o : ℕ} {begun : Bool} {stage
       done-wrote a = (adds-wrote (omega (arith, globals-length s, i.room)) a).wrote
 
   module _ {from to then next : ℕ} (e : IsElement s h stage k from to then next) where
-    pub gathering-inv : isInv (part from to s) ≡ true → Gathering s h dst₀ o begun next then dst
+    pub gathering-inv : is_inv (part from to s) ≡ true → Gathering s h dst₀ o begun next then dst
     gathering-inv z = record {
       head = i.head;
       within = e.onward;
@@ -89,7 +89,7 @@ module _ {s : Bytes} {h : Head} {dst₀ : Bytes} {o : ℕ} {begun : Bool} {stage
       room = i.room;
     }
 
-    module _ (z : isInv (part from to s) ≡ false) where
+    module _ (z : is_inv (part from to s) ≡ false) where
       left_is : left begun (elements s h stage k) ≡ gapped begun (part from to s) ++ left true (elements s h next then)
       left_is = ap (left begun) e.here ∙ left_word begun (part from to s) (elements s h next then) z
 
@@ -116,16 +116,16 @@ module _ {s : Bytes} {h : Head} {dst₀ : Bytes} {o : ℕ} {begun : Bool} {stage
 
 -- ---- a step's text
 
-module _ (s g : Bytes) {inverted : Bool} {m : Marks} {d : Bool} (k : IsMarks (exchanged (words s)) m) (e : d ≡ xor m.inv inverted) (f : Global (pipelineOf g inverted)) where
-  text-is : step_of (pipelineOf g inverted) (words s) ≡ more false (flow d (globalled true g (tidied (words s))))
-  unfolding globalled withGlobals
-  text-is = step-text (pipelineOf g inverted) s f ∙ rw (← k.inv, ← e)
+module _ (s g : Bytes) {inverted : Bool} {m : Marks} {d : Bool} (k : IsMarks (exchanged (words s)) m) (e : d ≡ xor m.inv inverted) (f : Global (pipeline_of g inverted)) where
+  text-is : step_of (pipeline_of g inverted) (words s) ≡ more false (flow d (globalled true g (tidied (words s))))
+  unfolding globalled with_globals
+  text-is = step-text (pipeline_of g inverted) s f ∙ rw (← k.inv, ← e)
 
   module _ {write : Bool} {at : ℕ} {dst₀ : Bytes} where
-    pub step_room : Room write (step_of (pipelineOf g inverted) (words s)) at dst₀ → RoomForAll write (globalled true g (tidied (words s))) (record { o = at; begun = false; owed = d }) dst₀
+    pub step_room : Room write (step_of (pipeline_of g inverted) (words s)) at dst₀ → RoomForAll write (globalled true g (tidied (words s))) (record { o = at; begun = false; owed = d }) dst₀
     step_room r = record { fits = record { room = room_as text-is r } }
 
     pub step-done : {r : ℕ} {dst : Bytes}
         → PensAll write (globalled true g (tidied (words s))) (record { o = at; begun = false; owed = d }) dst₀ r dst
-        → Adds write (step_of (pipelineOf g inverted) (words s)) dst₀ at r dst
+        → Adds write (step_of (pipeline_of g inverted) (words s)) dst₀ at r dst
     step-done a = adds-as (sym text-is) a.adds

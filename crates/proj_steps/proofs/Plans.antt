@@ -12,12 +12,12 @@ use Rattle.rules.specs.Proj.Words.{exchanged, has_key, last_of}
 use Rattle.rules.specs.Text.Reader.{part}
 use Rattle.text.proofs.RunEnd.{length_part}
 use Rattle.laws_proj.specs.Tests.{starts-long}
-use Rattle.laws_proj.specs.Tidying.{count_of, ownWord, composes, has-count, last-from, last-starts, tidied-alone, tidied-composed}
+use Rattle.laws_proj.specs.Tidying.{count_of, own_word, composes, has-count, last-from, last-starts, tidied-alone, tidied-composed}
 use Rattle.laws_proj.specs.Tidying.{rest-a-last, rest-a-more, rest-a-none, rest-rf-last, rest-rf-more, rest-rf-none, rest-scale, rest-scaled, rest_plain}
 use Rattle.proj_words.specs.Facts.{IsKey}
 use Rattle.proj_words.proofs.Heads.{part-less}
 use Rattle.proj_words.specs.declared.exchange.Key.{Key}
-use Rattle.proj_steps.specs.Plans.{IsFate, IsPlan, lastWords}
+use Rattle.proj_steps.specs.Plans.{IsFate, IsPlan, last_words}
 
 -- ---- a word
 
@@ -34,11 +34,11 @@ module _ {w : Bytes} {a rf : ℕ} {still : Bool} where
     fate-a-last z = record { rest = λ last ws. rest-a-last a rf still last w ws e z; long = λ f. never f }
 
     pub fate-a-more : 1 < a → IsFate w a rf still (record { skip = false; scale = false; a = a - 1; rf = rf; still = still })
-    unfolding ownWord
+    unfolding own_word
     fate-a-more h = record { rest = λ last ws. rest-a-more a rf still last w ws e h; long = λ f. never f }
 
     pub fate-a-none : (a ≡ 1 → ⊥) → a ≤ 1 → IsFate w a rf still (record { skip = false; scale = false; a = a; rf = rf; still = still })
-    unfolding ownWord
+    unfolding own_word
     fate-a-none n h = record { rest = λ last ws. rest-a-none a rf still last w ws e (none a n h); long = λ f. never f }
 
   module _ (n : starts (ascii "a=") w ≡ false) where
@@ -47,34 +47,34 @@ module _ {w : Bytes} {a rf : ℕ} {still : Bool} where
       fate-rf-last z = record { rest = λ last ws. rest-rf-last a rf still last w ws n e z; long = λ f. never f }
 
       pub fate-rf-more : 1 < rf → IsFate w a rf still (record { skip = false; scale = false; a = a; rf = rf - 1; still = still })
-      unfolding ownWord
+      unfolding own_word
       fate-rf-more h = record { rest = λ last ws. rest-rf-more a rf still last w ws n e h; long = λ f. never f }
 
       pub fate-rf-none : (rf ≡ 1 → ⊥) → rf ≤ 1 → IsFate w a rf still (record { skip = false; scale = false; a = a; rf = rf; still = still })
-      unfolding ownWord
+      unfolding own_word
       fate-rf-none m h = record { rest = λ last ws. rest-rf-none a rf still last w ws n e (none rf m h); long = λ f. never f }
 
     module _ (m : starts (ascii "rf=") w ≡ false) where
       pub fate-scale : still ≡ true → starts (ascii "k=") w ≡ true → IsFate w a rf still (record { skip = false; scale = true; a = a; rf = rf; still = false })
-      unfolding ownWord
+      unfolding own_word
       fate-scale z e = record { rest = λ last ws. rest-scale a rf still last w ws n m e z; long = λ f. key-long w e }
         where
           key-long : (v : Bytes) → starts (ascii "k=") v ≡ true → 2 ≤ length v
           key-long v g = unfold ascii in starts-long (ascii "k=") v g
 
       pub fate-plain : starts (ascii "k=") w ≡ false → IsFate w a rf still (record { skip = false; scale = false; a = a; rf = rf; still = still })
-      unfolding ownWord
+      unfolding own_word
       fate-plain e = record { rest = λ last ws. rest_plain a rf still last w ws n m e; long = λ f. never f }
 
       pub fate-scaled : still ≡ false → IsFate w a rf still (record { skip = false; scale = false; a = a; rf = rf; still = still })
-      unfolding ownWord
+      unfolding own_word
       fate-scaled z = record { rest = λ last ws. rest-scaled a rf still last w ws n m z; long = λ f. never f }
 
 -- ---- the ellipsoid
 
 module _ {s : Bytes} where
   plan-none : composes (exchanged (words s)) ≡ false → IsPlan s (record { composed = false; a = 0; rf = 0; start = 0; stop = 0; from = 0; to = 0 })
-  unfolding lastWords
+  unfolding last_words
   plan-none e = record { a-ahead = omega arith; a-within = omega arith; rf-ahead = omega arith; rf-within = omega arith; tidy = tidied-alone (words s) e }
 
   key-yes : (key : Bytes) {r : Key} → IsKey s key r → 0 < r.n → has_key key (exchanged (words s)) ≡ true
@@ -138,7 +138,7 @@ module _ {s : Bytes} where
               omega (arith, length_part s rf.from rf.to l.ahead l.within, l.ahead)
 
           pub plan-composed : IsPlan s (record { composed = true; a = a.n; rf = rf.n; start = a.from + 2; stop = a.to; from = rf.from + 3; to = rf.to })
-          unfolding lastWords
+          unfolding last_words
           plan-composed = record {
             a-ahead = a-long;
             a-within = k.within;

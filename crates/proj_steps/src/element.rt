@@ -1,8 +1,8 @@
 // An element of a step of the answer, added to its text or only counted. The Rust is `tidy_proj` of src/token/mod.rs.
 ghost use Rattle.std.specs.Prelude.{◌≡◌, true, false, [], ◌∷◌, ◌++◌, ◌≤◌, length};
 ghost use Rattle.rules.specs.Text.Ascii.{ascii};
-ghost use Rattle.rules.specs.Proj.Translate.{exchangedMark};
-ghost use Rattle.laws_proj.specs.Tidying.{ellpsOf, ownWord};
+ghost use Rattle.rules.specs.Proj.Translate.{exchanged_mark};
+ghost use Rattle.laws_proj.specs.Tidying.{ellps_of, own_word};
 ghost use Rattle.proj_steps.specs.Pens.{Fits, RoomFor, RoomForAll, Emits, Pens, PensAll, owing, inserted, closing};
 
 use crate::pen::{add, word};
@@ -19,8 +19,8 @@ pub struct Pen {
 
 // Adds an element that is not `inv`. "Omit marks are exchanged."
 fn plain(x: &[u8], out: &mut [u8], pen: Pen, write: bool) -> Pen
-    requires { Fits write (exchangedMark x.now ∷ []) pen out.old }
-    ensures { Emits write (exchangedMark x.now ∷ []) pen pen.owed out.old result out.new }
+    requires { Fits write (exchanged_mark x.now ∷ []) pen out.old }
+    ensures { Emits write (exchanged_mark x.now ∷ []) pen pen.owed out.old result out.new }
 {
     if x.len() == 0 {
         return pen;
@@ -93,8 +93,8 @@ fn scaled(x: &[u8], out: &mut [u8], pen: Pen, write: bool) -> Pen
 
 // Adds "a final `ellps=a,rf`".
 fn ellps(a: &[u8], rf: &[u8], out: &mut [u8], pen: Pen, write: bool) -> Pen
-    requires { RoomFor write (ellpsOf a.now rf.now ∷ []) pen out.old }
-    ensures { Pens write (ellpsOf a.now rf.now ∷ []) pen out.old result out.new }
+    requires { RoomFor write (ellps_of a.now rf.now ∷ []) pen out.old }
+    ensures { Pens write (ellps_of a.now rf.now ∷ []) pen out.old result out.new }
 {
     let e = word(b"ellps=", a, out, pen.o, pen.begun, write);
     let f = add(b",", out, e, write);
@@ -132,8 +132,8 @@ pub fn own(
     write: bool,
 ) -> Pen
     requires in_bounds { scale ≡ true → 2 ≤ length x.now }
-    requires room_for { RoomFor write (ownWord scale x.now ∷ inserted fresh g.now) pen out.old }
-    ensures { Pens write (ownWord scale x.now ∷ inserted fresh g.now) pen out.old result out.new }
+    requires room_for { RoomFor write (own_word scale x.now ∷ inserted fresh g.now) pen out.old }
+    ensures { Pens write (own_word scale x.now ∷ inserted fresh g.now) pen out.old result out.new }
 {
     if scale {
         let p = scaled(&x[2..], out, pen, write);

@@ -2,7 +2,7 @@
 // what `parse_proj` does to each step, of src/token/mod.rs.
 ghost use Rattle.std.specs.Prelude.{◌≡◌, true, ◌≤◌, length};
 ghost use Rattle.std.specs.Bool.{xor};
-ghost use Rattle.rules.specs.Text.Lists.{nonEmpty};
+ghost use Rattle.rules.specs.Text.Lists.{non_empty};
 ghost use Rattle.rules.specs.Text.Bytes.{words};
 ghost use Rattle.rules.specs.Proj.Words.{tidied};
 ghost use Rattle.rules.specs.Proj.Translate.{step_of};
@@ -12,7 +12,7 @@ ghost use Rattle.laws_proj.specs.Step.{Global};
 ghost use Rattle.laws_proj.specs.Bounds.{globals_of};
 ghost use Rattle.proj_words.specs.Heads.{IsHead};
 ghost use Rattle.proj_steps.specs.Pens.{RoomForAll, PensAll};
-ghost use Rattle.proj_steps.specs.Plans.{IsFate, IsPlan, globalled, pipelineOf};
+ghost use Rattle.proj_steps.specs.Plans.{IsFate, IsPlan, globalled, pipeline_of};
 
 use crate::element::{Pen, finish, own};
 use crate::pen::word;
@@ -287,10 +287,10 @@ pub fn step_text(
     at: usize,
     write: bool,
 ) -> usize
-    requires s_value { nonEmpty (words s.now) ≡ true }
-    requires global { Global (pipelineOf g.now inverted) }
-    requires room { Room write (step_of (pipelineOf g.now inverted) (words s.now)) at out.old }
-    ensures { Adds write (step_of (pipelineOf g.now inverted) (words s.now)) out.old at result out.new }
+    requires s_value { non_empty (words s.now) ≡ true }
+    requires global { Global (pipeline_of g.now inverted) }
+    requires room { Room write (step_of (pipeline_of g.now inverted) (words s.now)) at out.old }
+    ensures { Adds write (step_of (pipeline_of g.now inverted) (words s.now)) out.old at result out.new }
 {
     let head = head_of(s);
     let marks = marks_of(s, head);

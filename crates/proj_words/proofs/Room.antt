@@ -4,11 +4,11 @@ use Prim.Native.Nat.{ℕ, ◌-◌, ◌*◌, ◌≤◌, ◌<◌}
 use native.Mathlib.Omega.{arith}
 use lib.ListN.{length, take, drop}
 use Rattle.rules.specs.Text.Ascii.{ascii, is}
-use Rattle.rules.specs.Text.Bytes.{Bytes, white, replace, trimStart, trimmed}
+use Rattle.rules.specs.Text.Bytes.{Bytes, white, replace, trim_start, trimmed}
 use Rattle.rules.specs.Text.Normal.{normal}
 use Rattle.rules.specs.Text.Comments.{newlines, lined}
 use Rattle.rules.specs.Proj.Words.{unplussed}
-use Rattle.laws_text.specs.Sizes.{weightOf, weight, length-weight, weight-length, replace-weight, newlines-weight, unplussed-weight, lined-longer, lined-trimmed}
+use Rattle.laws_text.specs.Sizes.{weight_of, weight, length-weight, weight-length, replace-weight, newlines-weight, unplussed-weight, lined-longer, lined-trimmed}
 use Rattle.text.specs.Wrote.{Wrote, Holds}
 use Rattle.text.specs.Places.{LeftFrom}
 use Rattle.text.proofs.Wrote.{wrote-front, wrote-holds}
@@ -18,7 +18,7 @@ use Rattle.proj_words.specs.Clean.{signless, spaced, unsigned, cleaned}
 -- ---- the signs
 
 signless-weight : (t : Bytes) → weight (signless t) ≤ weight t
-unfolding signless ascii weight weightOf
+unfolding signless ascii weight weight_of
 signless-weight t =
     let a = replace (ascii " +") (ascii " ") t in
     omega (arith, replace-weight (ascii " +") (ascii " ") t (omega arith) (omega arith), replace-weight (ascii "\n+") (ascii " ") a (omega arith) (omega arith))
@@ -34,7 +34,7 @@ module _ (t : Bytes) {a₀ a : Bytes} {n : ℕ} (w : Wrote (newlines t) a₀ n a
 -- what is left of the trimmed text
 pub unsigned_is : (s : Bytes) {t : Bytes} {k : ℕ} → t ≡ trimmed white s → LeftFrom (is "+") t k → take (length t - k) (drop k t) ≡ unsigned s
 unfolding unsigned
-unsigned_is s {t} {k} e l = part-from t k ∙ l.part ∙ ap (trimStart (is "+")) e
+unsigned_is s {t} {k} e l = part-from t k ∙ l.part ∙ ap (trim_start (is "+")) e
 
 -- ---- the whole
 

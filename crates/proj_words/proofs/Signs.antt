@@ -8,7 +8,7 @@ use borrow.Author.Tests.{eqb-true}
 use lib.Dec.{eqb}
 use lib.ListN.{length, drop, get_or, set, length-drop, drop_of_length-le}
 use Rattle.rules.specs.Text.Ascii.{ascii}
-use Rattle.rules.specs.Text.Bytes.{Bytes, starts, replaceFrom, replace}
+use Rattle.rules.specs.Text.Bytes.{Bytes, starts, replace_from, replace}
 use Rattle.text.specs.Wrote.{Wrote}
 use Rattle.text.proofs.Wrote.{Sofar, sofar-start, sofar-byte, sofar-byte-room, sofar-end, sofar-length, drop-next}
 use Rattle.text.proofs.Finds.{starts-length}
@@ -27,11 +27,11 @@ unfolding signless ascii
 signless-is t = refl
 
 space-plus : (t : Bytes) → again (once (32 ∷ 43 ∷ t)) ≡ 32 ∷ again (once t)
-unfolding replace replaceFrom starts
+unfolding replace replace_from starts
 space-plus t = refl
 
 newline-plus : (t : Bytes) → again (once (10 ∷ 43 ∷ t)) ≡ 32 ∷ again (once t)
-unfolding replace replaceFrom starts
+unfolding replace replace_from starts
 newline-plus t = refl
 
 -- no `+` in front
@@ -39,36 +39,36 @@ abbrev Unsigned : Bytes → Type 0
 Unsigned t = starts (43 ∷ []) t ≡ false
 
 once-space : (t : Bytes) → Unsigned t → once (32 ∷ t) ≡ 32 ∷ once t
-unfolding replace replaceFrom starts
+unfolding replace replace_from starts
 once-space t e = rw e
 
 once-newline : (t : Bytes) → once (10 ∷ t) ≡ 10 ∷ once t
-unfolding replace replaceFrom starts
+unfolding replace replace_from starts
 once-newline t = refl
 
 once-unsigned : (t : Bytes) → Unsigned t → Unsigned (once t)
-unfolding replace replaceFrom starts
+unfolding replace replace_from starts
 once-unsigned [] e = refl
 once-unsigned (y ∷ t) e = go (starts (32 ∷ 43 ∷ []) (y ∷ t))
   where
-    go : (b : Bool) → starts (43 ∷ []) (cond b (32 ∷ replaceFrom 1 (32 ∷ 43 ∷ []) (32 ∷ []) t) (y ∷ replaceFrom 0 (32 ∷ 43 ∷ []) (32 ∷ []) t)) ≡ false
+    go : (b : Bool) → starts (43 ∷ []) (cond b (32 ∷ replace_from 1 (32 ∷ 43 ∷ []) (32 ∷ []) t) (y ∷ replace_from 0 (32 ∷ 43 ∷ []) (32 ∷ []) t)) ≡ false
     go true = refl
     go false = e
 
 again-space : (t : Bytes) → again (32 ∷ t) ≡ 32 ∷ again t
-unfolding replace replaceFrom starts
+unfolding replace replace_from starts
 again-space t = refl
 
 again-newline : (t : Bytes) → Unsigned t → again (10 ∷ t) ≡ 10 ∷ again t
-unfolding replace replaceFrom starts
+unfolding replace replace_from starts
 again-newline t e = rw e
 
 once-other : (x : ℕ) (t : Bytes) → eqb x 32 ≡ false → once (x ∷ t) ≡ x ∷ once t
-unfolding replace replaceFrom starts
+unfolding replace replace_from starts
 once-other x t e = rw e
 
 again-other : (x : ℕ) (t : Bytes) → eqb x 10 ≡ false → again (x ∷ t) ≡ x ∷ again t
-unfolding replace replaceFrom starts
+unfolding replace replace_from starts
 again-other x t e = rw e
 
 -- ---- by the byte's kind
@@ -165,5 +165,5 @@ module _ {src dst₀ : Bytes} {i o : ℕ} {dst : Bytes} (m : Signing src dst₀ 
   signing-length = sofar-length m.sofar
 
   pub signing_end : length src ≤ i → Wrote (signless src) dst₀ o dst
-  unfolding signless replace replaceFrom
+  unfolding signless replace replace_from
   signing_end h = sofar-end (rw (drop_of_length-le src h) at m.sofar)

@@ -12,31 +12,31 @@ use Rattle.laws_text.specs.Passes.{in_word, words_append, words-nil}
 use Rattle.text.specs.Runs.{Run}
 use Rattle.text.proofs.RunEnd.{drop-next, other}
 use Rattle.text.proofs.Lead.{word-there, none_left, word-edge, one_word, part-some, part_join, words-white}
-use Rattle.proj_words.specs.Words.{IsWord, isFound, FoundWord}
+use Rattle.proj_words.specs.Words.{IsWord, is_found, FoundWord}
 use Rattle.proj_words.specs.declared.walk.Word.{Word}
 use Rattle.proj_words.specs.declared.walk.Word.TheVariants.{At, End}
 
 pub found_at : {s : Bytes} {k a e : ℕ} → Run white s k a → Run (other white) s a e → a < e → FoundWord s k (At a e)
-unfolding isFound
+unfolding is_found
 found_at p q h = record { found = record { gap = p; body = q; longer = h } }
 
 pub found_none : {s : Bytes} {k a e : ℕ} → Run white s k a → Run (other white) s a e → e ≤ a → FoundWord s k End
-unfolding isFound
+unfolding is_found
 found_none p q h = record { found = none_left p q h }
 
 -- by what was found
 pub word_at : {s : Bytes} {k from to : ℕ} {r : Word} → FoundWord s k r → r ≡ At from to → IsWord s k from to
-unfolding isFound
-word_at {s} {k} f e = subst (isFound s k) e f.found
+unfolding is_found
+word_at {s} {k} f e = subst (is_found s k) e f.found
 
 pub word_none : {s : Bytes} {k : ℕ} {r : Word} → FoundWord s k r → r ≡ End → words (drop k s) ≡ []
-unfolding isFound
-word_none {s} {k} f e = subst (isFound s k) e f.found
+unfolding is_found
+word_none {s} {k} f e = subst (is_found s k) e f.found
 
 module _ {s : Bytes} {k from to : ℕ} (m : IsWord s k from to) where
   -- the word, and those behind it
-  pub word_first : words (drop k s) ≡ part from to s ∷ words (drop to s)
-  word_first = word-there m.gap m.body m.longer
+  pub word-first : words (drop k s) ≡ part from to s ∷ words (drop to s)
+  word-first = word-there m.gap m.body m.longer
 
   -- it ends there
   pub word-ends : in_word (drop to s) ≡ false

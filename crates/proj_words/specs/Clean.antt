@@ -1,7 +1,7 @@
 -- A PROJ text on its way to be cut into steps.
 use Rattle.std.specs.Prelude.{ℕ, Bool, ◌||◌}
 use Rattle.rules.specs.Text.Ascii.{ascii, is}
-use Rattle.rules.specs.Text.Bytes.{Bytes, white, replace, trimStart, trimmed}
+use Rattle.rules.specs.Text.Bytes.{Bytes, white, replace, trim_start, trimmed}
 use Rattle.rules.specs.Text.Normal.{normal}
 use Rattle.rules.specs.Text.Comments.{newlines, lined}
 use Rattle.rules.specs.Proj.Words.{unplussed}
@@ -20,7 +20,7 @@ spaced t = signless (newlines t)
 
 -- without white space at the ends and the `+` in front
 unfoldable pub unsigned : Bytes → Bytes
-unsigned t = trimStart (is "+") (trimmed white t)
+unsigned t = trim_start (is "+") (trimmed white t)
 
 -- what is cut into steps
 unfoldable pub cleaned : Bytes → Bytes

@@ -1,40 +1,40 @@
 -- The steps of a PROJ text, one by one.
 use Rattle.std.specs.Prelude.{◌≡◌, true, false, cond, ◌&&◌, [], ◌∷◌, map, ℕ, ◌≤◌, ◌<◌, length, drop, ltb}
-use Rattle.rules.specs.Text.Lists.{kept, nonEmpty}
+use Rattle.rules.specs.Text.Lists.{kept, non_empty}
 use Rattle.rules.specs.Text.Bytes.{Bytes, Steps, words}
-use Rattle.rules.specs.Proj.Words.{isStep, cutAtStep, withoutNoise}
+use Rattle.rules.specs.Proj.Words.{is_step, cut_at_step, without_noise}
 use Rattle.rules.specs.Text.Reader.{part}
 use Rattle.rules.specs.declared.Found.{Found}
 use Rattle.rules.specs.declared.Found.TheVariants.{Step, End}
 use Rattle.proj_words.specs.declared.walk.Piece.{Piece}
 
 -- the steps of pieces: without noise and without empty ones
-unfoldable pub stepsIn : Steps → Steps
-stepsIn pieces = kept nonEmpty (map withoutNoise pieces)
+unfoldable pub steps_in : Steps → Steps
+steps_in pieces = kept non_empty (map without_noise pieces)
 
 -- The steps of a cleaned text from a place on. A place behind the text's first byte stands right after a `step`.
-unfoldable pub stepsFrom : Bytes → ℕ → Steps
-stepsFrom n place = stepsIn (cutAtStep (ltb 0 place) (words (drop place n)))
+unfoldable pub steps_from : Bytes → ℕ → Steps
+steps_from n place = steps_in (cut_at_step (ltb 0 place) (words (drop place n)))
 
 -- from k on, behind a word, the first piece goes up to the end of p, and the others follow from where p says
 pub record IsPiece (n : Bytes) (k : ℕ) (p : Piece) : Type 0 where
   pub ahead : k ≤ p.end
   pub onward : p.end ≤ p.then
   pub within : p.then ≤ length n
-  pub worded : k < p.end → nonEmpty (words (part k p.end n)) ≡ true
+  pub worded : k < p.end → non_empty (words (part k p.end n)) ≡ true
   pub others : Steps
-  pub cuts : cutAtStep false (words (drop k n)) ≡ words (part k p.end n) ∷ others
-  pub rest : stepsIn others ≡ stepsIn (cutAtStep true (words (drop p.then n)))
+  pub cuts : cut_at_step false (words (drop k n)) ≡ words (part k p.end n) ∷ others
+  pub rest : steps_in others ≡ steps_in (cut_at_step true (words (drop p.then n)))
 
 -- a place from which the same steps follow as right after a `step`
 pub record IsStart (n : Bytes) (place r : ℕ) : Type 0 where
   pub ahead : place ≤ r
   pub within : r ≤ length n
-  pub same : stepsFrom n place ≡ stepsIn (cutAtStep true (words (drop r n)))
+  pub same : steps_from n place ≡ steps_in (cut_at_step true (words (drop r n)))
 
 -- where a step begins, whose first word stands from one place up to another and whose others reach to the end
 unfoldable pub beginning : Bytes → ℕ → ℕ → ℕ → ℕ
-beginning n from to end = cond (ltb to end && isStep (part from to n)) to from
+beginning n from to end = cond (ltb to end && is_step (part from to n)) to from
 
 -- the next step, and the place from which the others follow
 pub record IsStep (n : Bytes) (place from to then : ℕ) : Type 0 where
@@ -43,13 +43,13 @@ pub record IsStep (n : Bytes) (place from to then : ℕ) : Type 0 where
   pub onward : to ≤ then
   pub ends : then ≤ length n
   pub further : place < then
-  pub worded : nonEmpty (words (part from to n)) ≡ true
-  pub here : stepsFrom n place ≡ words (part from to n) ∷ stepsFrom n then
+  pub worded : non_empty (words (part from to n)) ≡ true
+  pub here : steps_from n place ≡ words (part from to n) ∷ steps_from n then
 
 -- what is found from a place on: the next step, or that there is none
-unfoldable pub isFound : Bytes → ℕ → Found → Type 0
-isFound n place (Step from to then) = IsStep n place from to then.at
-isFound n place End = stepsFrom n place ≡ []
+unfoldable pub is_found : Bytes → ℕ → Found → Type 0
+is_found n place (Step from to then) = IsStep n place from to then.at
+is_found n place End = steps_from n place ≡ []
 
 pub record FoundStep (n : Bytes) (place : ℕ) (r : Found) : Type 0 where
-  pub found : isFound n place r
+  pub found : is_found n place r

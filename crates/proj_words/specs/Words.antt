@@ -13,9 +13,9 @@ pub record IsWord (s : Bytes) (k from to : ℕ) : Type 0 where
   pub longer : from < to
 
 -- what is found from k on: the first word, or that there is none
-unfoldable pub isFound : Bytes → ℕ → Word → Type 0
-isFound s k (At from to) = IsWord s k from to
-isFound s k End = words (drop k s) ≡ []
+unfoldable pub is_found : Bytes → ℕ → Word → Type 0
+is_found s k (At from to) = IsWord s k from to
+is_found s k End = words (drop k s) ≡ []
 
 pub record FoundWord (s : Bytes) (k : ℕ) (r : Word) : Type 0 where
-  pub found : isFound s k r
+  pub found : is_found s k r

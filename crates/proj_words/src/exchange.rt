@@ -1,10 +1,10 @@
 // The words of one PROJ step after `proj=` has changed places with the first: found in the step's text, one by one, and
 // what they say. Nothing is moved: each stands for a part of the text. The Rust is the `swap` in `parse_proj` of src/token/mod.rs.
 ghost use Rattle.std.specs.Prelude.{◌≡◌, true, ◌≤◌, length};
-ghost use Rattle.rules.specs.Text.Lists.{nonEmpty};
+ghost use Rattle.rules.specs.Text.Lists.{non_empty};
 ghost use Rattle.rules.specs.Text.Bytes.{words, starts};
-ghost use Rattle.rules.specs.Proj.Words.{isProj, exchanged};
-ghost use Rattle.rules.specs.Proj.Translate.{isInv};
+ghost use Rattle.rules.specs.Proj.Words.{is_proj, exchanged};
+ghost use Rattle.rules.specs.Proj.Translate.{is_inv};
 ghost use Rattle.proj_words.specs.Heads.{IsFirst, IsHead, FoundElement};
 ghost use Rattle.proj_words.specs.Facts.{Marked, IsMarks, IsKey};
 
@@ -64,14 +64,14 @@ pub struct Key {
 
 // Is it a word `proj=..`?
 fn is_proj(word: &[u8]) -> bool
-    ensures { result ≡ isProj word.now }
+    ensures { result ≡ is_proj word.now }
 {
     starts_at(word, 0, b"proj=")
 }
 
 // Is it the word `inv`?
 pub fn is_inv(word: &[u8]) -> bool
-    ensures { result ≡ isInv word.now }
+    ensures { result ≡ is_inv word.now }
 {
     is_same(word, b"inv")
 }
@@ -122,7 +122,7 @@ fn first_proj(s: &[u8]) -> First
 
 // "`proj=` changes places with the first element": what stands in front of a step, and where.
 pub fn head_of(s: &[u8]) -> Head
-    requires { nonEmpty (words s.now) ≡ true }
+    requires { non_empty (words s.now) ≡ true }
     ensures { IsHead s.now result }
 {
     let first = first_proj(s);

@@ -1,7 +1,7 @@
 // Walks over a PROJ text that has been cleaned: over its words, and over the steps between its `step` words. The Rust is the
 // `split(" step ")` in `parse_proj` of src/token/mod.rs, with what it filters and trims.
 ghost use Rattle.std.specs.Prelude.{◌≡◌, false, ◌≤◌, length, drop};
-ghost use Rattle.rules.specs.Proj.Words.{isStep};
+ghost use Rattle.rules.specs.Proj.Words.{is_step};
 ghost use Rattle.laws_text.specs.Passes.{in_word};
 ghost use Rattle.proj_words.specs.Words.{FoundWord};
 ghost use Rattle.proj_words.specs.Cuts.{IsPiece, IsStart, beginning, FoundStep};
@@ -38,7 +38,7 @@ pub fn next_word(s: &[u8], k: usize) -> Word
 
 // Is it the word `step`?
 fn is_step(word: &[u8]) -> bool
-    ensures { result ≡ isStep word.now }
+    ensures { result ≡ is_step word.now }
 {
     is_same(word, b"step")
 }

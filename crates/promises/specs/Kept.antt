@@ -18,7 +18,7 @@ use Rattle.rules.specs.Pipeline.Record.{args, refusal18}
 use Rattle.rules.specs.Pipeline.Prepare.{PreparesAs}
 use Rattle.rules.specs.Pipeline.Running.{opposite, running}
 use Rattle.rules.specs.Face.Demands.{number_at, Bits, Alike, EachUnit, bytes_at, Walk, SameButSpans}
-use Rattle.rules.specs.Pipeline.Check.{anyAdapt, spanAt, check, Checks}
+use Rattle.rules.specs.Pipeline.Check.{any_adapt, span_at, check, Checks}
 use Rattle.rules.specs.ExamplesHold.{examples-hold}
 use Rattle.rules.specs.declared.Mode.{Mode}
 use Rattle.rules.specs.declared.Mode.TheVariants as mode-is
@@ -153,7 +153,7 @@ module _ {d : Direction} {t : List Step} {f : Foretold} (checks : Checks d t f) 
           told-unless-adapt = told-exactly d t pass;
         })
 
-    from-its-place : anyAdapt (running d t) ≡ false → FromThePlacesNamed f xs xs'
+    from-its-place : any_adapt (running d t) ≡ false → FromThePlacesNamed f xs xs'
     from-its-place plain =
         rw (checks.exactly, ran-list ran)
         (record {
@@ -234,7 +234,7 @@ module _ (how : Reading) (mode : Mode) {text : Bytes} {table : List Step} {n : �
   at_each : map (λ (s : Step). bytes_at (definition text) s.span) (take n table') ≡ map joined (steps text)
   at_each = prepared-bytes how mode text (take n table') (table-tested how mode p)
 
-  at-span : (k : ℕ) {q : Span} → q ≡ spanAt k (take n table') → bytes_at (definition text) q ≡ get_or (map joined (steps text)) (k - 1) []
+  at-span : (k : ℕ) {q : Span} → q ≡ span_at k (take n table') → bytes_at (definition text) q ≡ get_or (map joined (steps text)) (k - 1) []
   at-span k e = ap (bytes_at (definition text)) e ∙ bytes-at (definition text) (map joined (steps text)) (take n table') at_each k
 
 -- the span of a check's answer

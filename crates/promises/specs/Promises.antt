@@ -13,20 +13,20 @@ use Rattle.rules.specs.Text.Split.{steps, split}
 use Rattle.rules.specs.Text.Parameters.{parameters}
 use Rattle.rules.specs.Proj.Translate.{translate}
 use Rattle.rules.specs.Text.Reader.{next, definition, define}
-use Rattle.rules.specs.Pipeline.Prepare.{prepare, prepareAs, Prepares, PreparesAs}
-use Rattle.rules.specs.Pipeline.Record.{readingNumber, reading_of, noSpan, stepWith, inReading, withSpans, operator, args, is_set, ofMode, made, tableReading, refusal18, listed}
+use Rattle.rules.specs.Pipeline.Prepare.{prepare, prepare_as, Prepares, PreparesAs}
+use Rattle.rules.specs.Pipeline.Record.{reading_number, reading_of, no_span, step_with, in_reading, with_spans, operator, args, is_set, of_mode, made, table_reading, refusal18, listed}
 use Rattle.rules.specs.Pipeline.Running.{opposite, act, running}
 use Rattle.rules.specs.Operators.Arguments.{size, arg}
 use Rattle.rules.specs.Operators.Descriptions.{Documented}
 use Rattle.rules.specs.Operators.Numbers.{number, turn}
 use Rattle.rules.specs.Operators.Adapt.{Word, one}
-use Rattle.rules.specs.Operators.Documented.{input_at, combinedByAxis, adaptedByAxis}
+use Rattle.rules.specs.Operators.Documented.{input_at, combined_by_axis, adapted_by_axis}
 use Rattle.rules.specs.Pipeline.Columns.{after, depths, deepest}
 use Rattle.rules.specs.Pipeline.Tuples.{numbers, acted}
 use Rattle.rules.specs.Pipeline.Run.{start, count, Runs}
-use Rattle.rules.specs.Pipeline.Check.{place, anyAdapt, spanAt, Checks}
-use Rattle.rules.specs.Pipeline.Write.{writtenSpans, write}
-use Rattle.rules.specs.Face.Plain.{plainPrepared, replied, recordCount, plainFound, mode_of, directionOf, plainCheck, PlainChecks, plainRan, PlainRuns}
+use Rattle.rules.specs.Pipeline.Check.{place, any_adapt, span_at, Checks}
+use Rattle.rules.specs.Pipeline.Write.{written_spans, write}
+use Rattle.rules.specs.Face.Plain.{plain_prepared, replied, record_count, plain_found, mode_of, direction_of, plain_check, PlainChecks, plain_ran, PlainRuns}
 use Rattle.rules.specs.Examples.{examples, also, printed, rewritten, readings, modes, offsets, underlined, demanded, AllHold}
 use Rattle.rules.specs.declared.Mode.{Mode}
 use Rattle.rules.specs.declared.Mode.TheVariants as mode-is
@@ -60,7 +60,7 @@ use Rattle.laws_records.specs.Operators.Adapt.Words.{IsWord}
 use Rattle.sakondreno.proofs as calls
 use Rattle.reader.proofs as reading
 use Rattle.show.proofs as program
-use Rattle.rules.specs.Face.Demands.{Ends, textRefusal, RunEnds, CheckEnds, NextEnds, ExportsText, EachWell, Few, Many, FirstAtFault, number_at, Bits, Alike, signAngle, EachUnit, FirstFault}
+use Rattle.rules.specs.Face.Demands.{Ends, text_refusal, RunEnds, CheckEnds, NextEnds, ExportsText, EachWell, Few, Many, FirstAtFault, number_at, Bits, Alike, sign_angle, EachUnit, FirstFault}
 use Rattle.rules.specs.Face.Demands.{bytes_at, Rise, Walk, SameButSpans, SaysTheSame}
 
 -- ==== The public calls. "Every entry point ends on every text, step table and list .. No caller is asked to have looked first": each call's own code,
@@ -106,11 +106,11 @@ pub record Calls (w : World) : Type 1 where
   pub sakondreno-translate-keeps : Keeps w calls.sakondreno_translate.ended calls.sakondreno_translate.Symbol.routine
       (λ l before r after. Promised replied translate before.0.now before.1.0.now r after.1.0.now)
   pub sakondreno-next-keeps : Keeps w calls.sakondreno_next.ended calls.sakondreno_next.Symbol.routine
-      (λ l before r after. r ≡ plainFound (next before.0.now before.1.0))
+      (λ l before r after. r ≡ plain_found (next before.0.now before.1.0))
   pub sakondreno-prepare-keeps : Keeps w calls.sakondreno_prepare.ended calls.sakondreno_prepare.Symbol.routine
-      (λ l before r after. Promised recordCount prepare before.0.now before.1.0.now r after.1.0.now)
+      (λ l before r after. Promised record_count prepare before.0.now before.1.0.now r after.1.0.now)
   pub sakondreno-prepare-as-keeps : Keeps w calls.sakondreno_prepare_as.ended calls.sakondreno_prepare_as.Symbol.routine
-      (λ l before r after. Promised recordCount (prepareAs (reading_of before.1.0) (mode_of before.1.1.0)) before.0.now before.1.1.1.0.now r after.1.1.1.0.now)
+      (λ l before r after. Promised record_count (prepare_as (reading_of before.1.0) (mode_of before.1.1.0)) before.0.now before.1.1.1.0.now r after.1.1.1.0.now)
   pub sakondreno-check-keeps : Keeps w calls.sakondreno_check.ended calls.sakondreno_check.Symbol.routine
       (λ l before r after. PlainChecks before.1.0 before.0.now r)
   pub sakondreno-run-keeps : Keeps w calls.sakondreno_run.ended calls.sakondreno_run.Symbol.routine
@@ -126,17 +126,17 @@ pub record Calls (w : World) : Type 1 where
 pub record Demand1 : Type 1 where
   -- the text calls, each with its numbers; an answer writes nothing past its own end
   pub normalise-ends : {text out : Bytes} {r : Written} {out' : Bytes} → Writes normalise text out r out'
-      → Ends written_is.Wrote textRefusal (1 ∷ 2 ∷ 7 ∷ []) out r out'
+      → Ends written_is.Wrote text_refusal (1 ∷ 2 ∷ 7 ∷ []) out r out'
   pub definition-ends : {text out : Bytes} {r : Written} {out' : Bytes} → Writes define text out r out'
-      → Ends written_is.Wrote textRefusal (1 ∷ 2 ∷ 7 ∷ []) out r out'
+      → Ends written_is.Wrote text_refusal (1 ∷ 2 ∷ 7 ∷ []) out r out'
   pub split-ends : {text out : Bytes} {r : Written} {out' : Bytes} → Writes split text out r out'
-      → Ends written_is.Wrote textRefusal (1 ∷ 2 ∷ 6 ∷ 7 ∷ 8 ∷ []) out r out'
+      → Ends written_is.Wrote text_refusal (1 ∷ 2 ∷ 6 ∷ 7 ∷ 8 ∷ []) out r out'
   pub parameters-ends : {text out : Bytes} {r : Written} {out' : Bytes} → Writes parameters text out r out'
-      → Ends written_is.Wrote textRefusal (1 ∷ 2 ∷ 6 ∷ 7 ∷ 9 ∷ []) out r out'
+      → Ends written_is.Wrote text_refusal (1 ∷ 2 ∷ 6 ∷ 7 ∷ 9 ∷ []) out r out'
   pub translate-ends : {text out : Bytes} {r : Written} {out' : Bytes} → Writes translate text out r out'
-      → Ends written_is.Wrote textRefusal (1 ∷ 2 ∷ 3 ∷ 4 ∷ 5 ∷ 7 ∷ []) out r out'
+      → Ends written_is.Wrote text_refusal (1 ∷ 2 ∷ 3 ∷ 4 ∷ 5 ∷ 7 ∷ []) out r out'
   pub write-ends : {out : Bytes} {r : Written} {out' : Bytes} (table : List Step) → Lends (write table) out r out'
-      → Ends written_is.Wrote textRefusal (7 ∷ 18 ∷ []) out r out'
+      → Ends written_is.Wrote text_refusal (7 ∷ 18 ∷ []) out r out'
   -- the calls on step tables, and the reader
   pub prepare-ends : {text : Bytes} {table : List Step} {r : Prepared} {table' : List Step} → Prepares text table r table'
       → Ends prepared-is.Steps prepared-is.Refused (1 ∷ 2 ∷ 6 ∷ 7 ∷ 8 ∷ 9 ∷ 10 ∷ 11 ∷ 12 ∷ 13 ∷ 14 ∷ []) table r table'
@@ -181,7 +181,7 @@ pub record AsForetold (d : Direction) (t : List Step) (f : Foretold) (xs : List 
   pub depth-after-each-step : depths acted (running d t) (start xs) ≡ take f.run f.depths
   pub deepest-of-all : deepest (depths acted (running d t) (start xs)) ≡ f.deepest
   pub columns-left : left ≡ f.left
-  pub told-unless-adapt : f.told ≡ not (anyAdapt (running d t))
+  pub told-unless-adapt : f.told ≡ not (any_adapt (running d t))
 
 -- "every output number is one of its own tuple's four inputs, sign kept or turned, from the place the check named for all tuples alike": number j of tuple i
 pub record FromThePlacesNamed (f : Foretold) (xs xs' : List Float) : Type 0 where
@@ -191,7 +191,7 @@ pub record FromThePlacesNamed (f : Foretold) (xs xs' : List Float) : Type 0 wher
       → (p q : ℕ) → Bits p (number_at xs i (place j f.places).axis) → Bits q (number_at xs' i j) → Alike (place j f.places).minus p q
 
 -- (A record names its reading, and by its operator its mode, and a step does what it does in these: so each of these speaks of tables of either, and of
--- mixed modes. `adapt` is the one operator or the other: `anyAdapt` looks for both.)
+-- mixed modes. `adapt` is the one operator or the other: `any_adapt` looks for both.)
 pub record Demand3 : Type 0 where
   -- Whatever preparing leaves, in either reading and mode, is never refused 18, by a check or by a run.
   pub check-takes-what-is-prepared : (how : Reading) (mode : Mode) {text : Bytes} {table table' : List Step} {n : ℕ} {d : Direction} {f : Foretold} (k : ℕ)
@@ -218,7 +218,7 @@ pub record Demand3 : Type 0 where
       → Runs d t xs store (ran-is.Done c n) xs' store' → AsForetold d t f xs n
   -- "and if no `adapt` step runs"
   pub after-a-pass-without-adapt : {d : Direction} {t : List Step} {f : Foretold} {xs store : List Float} {c n : ℕ} {xs' store' : List Float} → Checks d t f
-      → f.verdict ≡ Passes → anyAdapt (running d t) ≡ false → Runs d t xs store (ran-is.Done c n) xs' store' → FromThePlacesNamed f xs xs'
+      → f.verdict ≡ Passes → any_adapt (running d t) ≡ false → Runs d t xs store (ran-is.Done c n) xs' store' → FromThePlacesNamed f xs xs'
   -- (every f64 has such bits)
   pub has-bits : (x : Float) → T (fits binary64 x) → Bits (to_bits binary64 x) x
 
@@ -230,46 +230,46 @@ pub record Readings : Type 0 where
       → PreparesAs Crate mode-is.Crate text table r table' ↔ Prepares text table r table'
   -- the records that preparing answers are those of its rule, in either reading and mode, and "Records name their reading."
   pub records-answer-as : (how : Reading) (mode : Mode) {text : Bytes} {table : List Step} {n : ℕ} {table' : List Step}
-      → PreparesAs how mode text table (prepared-is.Steps n) table' → (prepareAs how mode text ≡ answers (take n table')) × Every (InIt (readingNumber how)) (take n table')
+      → PreparesAs how mode text table (prepared-is.Steps n) table' → (prepare_as how mode text ≡ answers (take n table')) × Every (InIt (reading_number how)) (take n table')
   -- "`inv` also turns `push`, `pop` and `stack`": whatever the operator, a step with `inv` does what the step without it does in the other direction
   pub inv-turns-every-operator : (d : Direction) (number : ℕ) (l : List ℤ) (fwd back : ℕ)
-      → act d (inReading Proj (stepWith number l 1 fwd back)) ≡ act (opposite d) (inReading Proj (stepWith number l 0 fwd back))
+      → act d (in_reading Proj (step_with number l 1 fwd back)) ≡ act (opposite d) (in_reading Proj (step_with number l 0 fwd back))
   -- "18 at a record whose reading is not the first's": a table of one mode (of records with eight slots, as all are) is not refused 18 exactly when its spans rise, up to
   -- byte 40,960, and some text prepares to it in that mode, spans aside
-  pub refused-18-unless-prepared : (mode : Mode) (t : List Step) → Every Slots t → all_of (ofMode mode) t ≡ true
+  pub refused-18-unless-prepared : (mode : Mode) (t : List Step) → Every Slots t → all_of (of_mode mode) t ≡ true
       → (refusal18 t ≡ none) ↔ (Rise 40960 0 t × ((how : Reading) × Texted how mode t))
   -- and any table, exactly when it has 64 records at most, all of its first one's reading, its spans rise, and each alone has a text, in some mode, spans aside
   pub refused-18-unless-each : (t : List Step) → Every Slots t
-      → (refusal18 t ≡ none) ↔ ((length t ≤ 64) × Every (InIt (tableReading t)) t × Rise 40960 0 t × Every TextedAlone t)
+      → (refusal18 t ≡ none) ↔ ((length t ≤ 64) × Every (InIt (table_reading t)) t × Rise 40960 0 t × Every TextedAlone t)
   -- a record alone, in its own reading: it is made, and of a mode, exactly when some text prepares to it in that mode, spans aside
-  pub made-exactly : (mode : Mode) (s : Step) → Slots s → ((made s ≡ true) × (ofMode mode s ≡ true)) ↔ Texted (reading_of s.reading) mode (s ∷ [])
+  pub made-exactly : (mode : Mode) (s : Step) → Slots s → ((made s ≡ true) × (of_mode mode s ≡ true)) ↔ Texted (reading_of s.reading) mode (s ∷ [])
   -- what `write` answered of a table of one mode gives the table back, prepared in its reading and that mode, with the spans of that text: its steps' texts in turn, a
   -- byte between
-  pub written-returns : (mode : Mode) (t : List Step) → Every Slots t → all_of (ofMode mode) t ≡ true → {out : Bytes} {n : ℕ} {out' : Bytes}
+  pub written-returns : (mode : Mode) (t : List Step) → Every Slots t → all_of (of_mode mode) t ≡ true → {out : Bytes} {n : ℕ} {out' : Bytes}
       → Lends (write t) out (written_is.Wrote n) out' → (table : List Step) → length t ≤ length table → {r : Prepared} {table' : List Step}
-      → PreparesAs (reading_of (tableReading t)) mode (take n out') table r table'
-      → (r ≡ prepared-is.Steps (length t)) × (table' ≡ withSpans (writtenSpans t) t ++ drop (length t) table)
+      → PreparesAs (reading_of (table_reading t)) mode (take n out') table r table'
+      → (r ≡ prepared-is.Steps (length t)) × (table' ≡ with_spans (written_spans t) t ++ drop (length t) table)
 
 -- ==== Document 02, request 2. "Add a documented mode, chosen for a whole preparation".
 
 pub record Modes : Type 0 where
   -- the records that a preparation in a mode answers are of that mode: none is the other mode's `adapt`
   pub records-of-the-mode : (how : Reading) (mode : Mode) {text : Bytes} {table : List Step} {n : ℕ} {table' : List Step}
-      → PreparesAs how mode text table (prepared-is.Steps n) table' → all_of (ofMode mode) (take n table') ≡ true
+      → PreparesAs how mode text table (prepared-is.Steps n) table' → all_of (of_mode mode) (take n table') ≡ true
   -- "Refusals: none new.": what one mode refuses, the other refuses, with the same number at the same place
   pub refuses-the-same : (mode other : Mode) (how : Reading) (text : Bytes) (number place : ℕ)
-      → prepareAs how mode text ≡ refuses number place → prepareAs how other text ≡ refuses number place
+      → prepare_as how mode text ≡ refuses number place → prepare_as how other text ≡ refuses number place
   pub refuses-12-the-same : (mode other : Mode) (how : Reading) (text : Bytes) (place offset : ℕ)
-      → prepareAs how mode text ≡ refuses12 place offset → prepareAs how other text ≡ refuses12 place offset
+      → prepare_as how mode text ≡ refuses12 place offset → prepare_as how other text ≡ refuses12 place offset
   -- "each output place takes the input place of the same axis", for any two words v and w that `from` and `to` can be
   pub same-axis : (v w : Word) → IsWord v → IsWord w → (i : ℕ) → 1 ≤ i → i ≤ 4 → size (arg (input_at v w i) v.axes) ≡ size (arg i w.axes)
   -- "times the input's sign and angle factor over the output's"
   pub forward-in-words : (v w : Word) → IsWord v → IsWord w → (i : ℕ) → 1 ≤ i → i ≤ 4 → (t : Coord)
-      → number i (adaptedByAxis false (combinedByAxis v w) t) ≡ mul binary64 (number (input_at v w i) t) (div binary64 (signAngle v (input_at v w i)) (signAngle w i))
+      → number i (adapted_by_axis false (combined_by_axis v w) t) ≡ mul binary64 (number (input_at v w i) t) (div binary64 (sign_angle v (input_at v w i)) (sign_angle w i))
   -- "The inverse sends each number back to the place it came from, times one over the same factor."
   pub inverse-in-words : (v w : Word) → IsWord v → IsWord w → (i : ℕ) → 1 ≤ i → i ≤ 4 → (t : Coord)
-      → number (input_at v w i) (adaptedByAxis true (combinedByAxis v w) t)
-      ≡ mul binary64 (number i t) (div binary64 one (div binary64 (signAngle v (input_at v w i)) (signAngle w i)))
+      → number (input_at v w i) (adapted_by_axis true (combined_by_axis v w) t)
+      ≡ mul binary64 (number i t) (div binary64 one (div binary64 (sign_angle v (input_at v w i)) (sign_angle w i)))
   -- "Where every factor is plus or minus one, inverse after forward restores all numbers that are not NaN, bit for bit", and so does forward after inverse: a
   -- step of this mode that no mark leaves out, a run of it, and a run of it the other way on the list that the first one left
   pub restores : (s : Step) → made s ≡ true → operator s ≡ Documented → is_set s.omit_fwd ≡ false → is_set s.omit_inv ≡ false → EachUnit (args s)
@@ -314,10 +314,10 @@ pub record Spans : Type 0 where
   pub spans-rise : (how : Reading) (mode : Mode) {text : Bytes} {table : List Step} {n : ℕ} {table' : List Step}
       → PreparesAs how mode text table (prepared-is.Steps n) table' → Rise (length (definition text)) 0 (take n table') × (length (definition text) ≤ 40960)
   -- "the check returns the span with its step", and none where it names none
-  pub few-span : {d : Direction} {t : List Step} {f : Foretold} (k : ℕ) → Checks d t f → f.verdict ≡ TooFew k → f.span ≡ spanAt k t
-  pub many-span : {d : Direction} {t : List Step} {f : Foretold} (k : ℕ) → Checks d t f → f.verdict ≡ TooMany k → f.span ≡ spanAt k t
-  pub pass-span : {d : Direction} {t : List Step} {f : Foretold} → Checks d t f → f.verdict ≡ Passes → f.span ≡ noSpan
-  pub refused-span : {d : Direction} {t : List Step} {f : Foretold} (number k : ℕ) → Checks d t f → f.verdict ≡ Refused number k → f.span ≡ noSpan
+  pub few-span : {d : Direction} {t : List Step} {f : Foretold} (k : ℕ) → Checks d t f → f.verdict ≡ TooFew k → f.span ≡ span_at k t
+  pub many-span : {d : Direction} {t : List Step} {f : Foretold} (k : ℕ) → Checks d t f → f.verdict ≡ TooMany k → f.span ≡ span_at k t
+  pub pass-span : {d : Direction} {t : List Step} {f : Foretold} → Checks d t f → f.verdict ≡ Passes → f.span ≡ no_span
+  pub refused-span : {d : Direction} {t : List Step} {f : Foretold} (number k : ℕ) → Checks d t f → f.verdict ≡ Refused number k → f.span ≡ no_span
   -- "The site editor marks the step the check names": the bytes at the span that the check of a prepared definition returns are the text of the step that it names
   pub underlines-few : (how : Reading) (mode : Mode) {text : Bytes} {table : List Step} {n : ℕ} {table' : List Step} {d : Direction} {f : Foretold} (k : ℕ)
       → PreparesAs how mode text table (prepared-is.Steps n) table' → Checks d (take n table') f → f.verdict ≡ TooFew k
@@ -337,18 +337,18 @@ pub record Exports : Type 0 where
   pub split-export : ExportsText split
   pub parameters-export : ExportsText parameters
   pub translate-export : ExportsText translate
-  pub next-export : (text : Bytes) (at : ℕ) (r : Part) → r ≡ plainFound (next text at)
-      → (f : Found) × (f ≡ next text at) × (r ≡ plainFound f) × (r.found ≡ 0 → f ≡ End)
-  pub prepare-export : {text : Bytes} {table : List Step} {r : Answer} {table' : List Step} → Promised recordCount prepare text table r table'
-      → (w : Prepared) × Prepares text table w table' × (r ≡ plainPrepared w) × (r.number ≡ 0 → w ≡ prepared-is.Steps r.length)
+  pub next-export : (text : Bytes) (at : ℕ) (r : Part) → r ≡ plain_found (next text at)
+      → (f : Found) × (f ≡ next text at) × (r ≡ plain_found f) × (r.found ≡ 0 → f ≡ End)
+  pub prepare-export : {text : Bytes} {table : List Step} {r : Answer} {table' : List Step} → Promised record_count prepare text table r table'
+      → (w : Prepared) × Prepares text table w table' × (r ≡ plain_prepared w) × (r.number ≡ 0 → w ≡ prepared-is.Steps r.length)
   pub prepare-as-export : (how : Reading) (mode : Mode) {text : Bytes} {table : List Step} {r : Answer} {table' : List Step}
-      → Promised recordCount (prepareAs how mode) text table r table' → (w : Prepared) × PreparesAs how mode text table w table' × (r ≡ plainPrepared w) × (r.number ≡ 0 → w ≡ prepared-is.Steps r.length)
+      → Promised record_count (prepare_as how mode) text table r table' → (w : Prepared) × PreparesAs how mode text table w table' × (r ≡ plain_prepared w) × (r.number ≡ 0 → w ≡ prepared-is.Steps r.length)
   pub check-export : {inverse : ℕ} {t : List Step} {r : Checked} → PlainChecks inverse t r
-      → (f : Foretold) × Checks (directionOf inverse) t f × (r ≡ plainCheck f) × (r.said.number ≡ 0 → f.verdict ≡ Passes)
+      → (f : Foretold) × Checks (direction_of inverse) t f × (r ≡ plain_check f) × (r.said.number ≡ 0 → f.verdict ≡ Passes)
   pub run-export : {inverse : ℕ} {t : List Step} {xs store : List Float} {r : plain-run.Done} {xs' store' : List Float} → PlainRuns inverse t xs store r xs' store'
-      → (w : Ran) × Runs (directionOf inverse) t xs store w xs' store' × (r ≡ plainRan w) × (r.number ≡ 0 → w ≡ ran-is.Done r.count r.left)
+      → (w : Ran) × Runs (direction_of inverse) t xs store w xs' store' × (r ≡ plain_ran w) × (r.number ≡ 0 → w ≡ ran-is.Done r.count r.left)
   -- and no second outcome meets these contracts either (of the text calls and of preparing: `text-once`)
-  pub next-export-once : {r s : Part} (text : Bytes) (at : ℕ) → r ≡ plainFound (next text at) → s ≡ plainFound (next text at) → r ≡ s
+  pub next-export-once : {r s : Part} (text : Bytes) (at : ℕ) → r ≡ plain_found (next text at) → s ≡ plain_found (next text at) → r ≡ s
   pub check-export-once : {inverse : ℕ} {t : List Step} {r s : Checked} → PlainChecks inverse t r → PlainChecks inverse t s → r ≡ s
   pub run-export-once : {inverse : ℕ} {t : List Step} {xs store : List Float} {r s : plain-run.Done} {xs' xs'' store' store'' : List Float}
       → PlainRuns inverse t xs store r xs' store' → PlainRuns inverse t xs store s xs'' store'' → (r ≡ s) × (xs' ≡ xs'') × (store' ≡ store'')

@@ -12,48 +12,48 @@ use lib.Ieee.{Float, nan}
 use Rattle.rules.specs.Operators.Acts.{pops}
 use Rattle.rules.specs.Operators.Arguments.{size, places}
 use Rattle.rules.specs.Operators.Numbers.{put}
-use Rattle.rules.specs.Pipeline.Columns.{popped, moved, takes, tooFew}
-use Rattle.rules.specs.Pipeline.Tuples.{State, tuples, stored, onNumbers, drained, starved, actedIf, acted}
+use Rattle.rules.specs.Pipeline.Columns.{popped, moved, takes, too_few}
+use Rattle.rules.specs.Pipeline.Tuples.{State, tuples, stored, on_numbers, drained, starved, acted_if, acted}
 use Rattle.rules.specs.declared.Coord.{Coord}
 use Rattle.laws_steps.specs.PlacesOf.{places-length, places-next}
-use Rattle.columns.specs.Stores.{col, columnsOf, held}
+use Rattle.columns.specs.Stores.{col, columns_of, held}
 use Rattle.columns.specs.Machine.{Acted}
 use Rattle.columns.proofs.Acted.{acted-so}
 use Rattle.columns.proofs.InStore.{columns-drop}
 
 -- what is left to pop
-abbrev pub popsLeft : (n d : ℕ) → List ℤ → List Coord → List Float → ℕ → State
-popsLeft n d l ts s j = drained (places (drop j l)) ts (columnsOf n (d - j) s)
+abbrev pub pops_left : (n d : ℕ) → List ℤ → List Coord → List Float → ℕ → State
+pops_left n d l ts s j = drained (places (drop j l)) ts (columns_of n (d - j) s)
 
 module _ (n d : ℕ) (l : List ℤ) (s : List Float) where
-  pub pop-none : (ts : List Coord) → popsLeft n d l ts s 0 ≡ drained (places l) ts (columnsOf n d s)
-  pop-none ts = ap (λ (q : ℕ). drained (places l) ts (columnsOf n q s)) (own d)
+  pub pop-none : (ts : List Coord) → pops_left n d l ts s 0 ≡ drained (places l) ts (columns_of n d s)
+  pop-none ts = ap (λ (q : ℕ). drained (places l) ts (columns_of n q s)) (own d)
     where
       own : (d : ℕ) → d - 0 ≡ d
       own d = omega arith
 
   module _ (ts ts' : List Coord) (j r : ℕ) (h : j < length l) (er : r ≡ size (get_or l j (pos 0))) where
     -- a column more
-    pub pop-turn : j < d → ts' ≡ stored r (col n (d - 1 - j) s) ts → popsLeft n d l ts s j ≡ popsLeft n d l ts' s (j + 1)
-    unfolding drained columnsOf
+    pub pop-turn : j < d → ts' ≡ stored r (col n (d - 1 - j) s) ts → pops_left n d l ts s j ≡ pops_left n d l ts' s (j + 1)
+    unfolding drained columns_of
     pop-turn g made =
         let top : d - j ≡ suc (d - 1 - j) = omega arith in
         let low : d - 1 - j ≡ d - (j + 1) = omega arith in
-        (λ t. drained (places-next l j h t) ts (columnsOf n (top t) s))
-        ∙ (λ t. drained (places (drop (j + 1) l)) (sym (made ∙ ap (λ (z : ℕ). stored z (col n (d - 1 - j) s) ts) er) t) (columnsOf n (low t) s))
+        (λ t. drained (places-next l j h t) ts (columns_of n (top t) s))
+        ∙ (λ t. drained (places (drop (j + 1) l)) (sym (made ∙ ap (λ (z : ℕ). stored z (col n (d - 1 - j) s) ts) er) t) (columns_of n (low t) s))
 
     -- no column
-    pub pop-stops : d ≤ j → ts' ≡ map (put r nan) ts → ts' ≡ (popsLeft n d l ts s j).tuples
-    unfolding drained columnsOf
+    pub pop-stops : d ≤ j → ts' ≡ map (put r nan) ts → ts' ≡ (pops_left n d l ts s j).tuples
+    unfolding drained columns_of
     pop-stops g made =
         let none : d - j ≡ 0 = omega arith in
         made
         ∙ ap (λ (z : ℕ). map (put z nan) ts) er
-        ∙ sym (λ t. (drained (places-next l j h t) ts (columnsOf n (none t) s)).tuples)
+        ∙ sym (λ t. (drained (places-next l j h t) ts (columns_of n (none t) s)).tuples)
 
-  pub pop-end : (ts : List Coord) (j : ℕ) → length l ≤ j → ts ≡ (popsLeft n d l ts s j).tuples
+  pub pop-end : (ts : List Coord) (j : ℕ) → length l ≤ j → ts ≡ (pops_left n d l ts s j).tuples
   unfolding drained places
-  pop-end ts j h = sym (ap (λ (r : List ℤ). (drained (map size r) ts (columnsOf n (d - j) s)).tuples) (drop_of_length-le l {i = j} h))
+  pop-end ts j h = sym (ap (λ (r : List ℤ). (drained (map size r) ts (columns_of n (d - j) s)).tuples) (drop_of_length-le l {i = j} h))
 
 -- the columns that a pop leaves
 pub drained-columns : (is : List ℕ) (ts : List Coord) (l : List (List Float)) → (drained is ts l).columns ≡ drop (length is) l
@@ -65,7 +65,7 @@ drained-columns (i ∷ is) ts (v ∷ l) = drained-columns is (stored i v ts) l
 -- ---- all places
 
 -- a pop that finds enough columns needs no NaN
-pub popped-drained : (is : List ℕ) (ts : List Coord) (l : List (List Float)) → length is ≤ length l → popped onNumbers is ts l ≡ drained is ts l
+pub popped-drained : (is : List ℕ) (ts : List Coord) (l : List (List Float)) → length is ≤ length l → popped on_numbers is ts l ≡ drained is ts l
 unfolding popped drained
 popped-drained [] ts l h = refl
 popped-drained (i ∷ is) ts [] h = absurd (none h)
@@ -76,24 +76,24 @@ popped-drained (i ∷ is) ts (v ∷ l) h = popped-drained is (stored i v ts) l (
 
 -- so the act is one of popping, whatever it finds
 acts-drained : (is : List ℕ) (m : State) → acted (pops is) m ≡ drained is m.tuples m.columns
-unfolding acted actedIf moved starved tooFew takes
+unfolding acted acted_if moved starved too_few takes
 acts-drained is m = go (ltb (length m.columns) (length is)) refl
   where
-    go : (b : Bool) → ltb (length m.columns) (length is) ≡ b → actedIf b (pops is) m ≡ drained is m.tuples m.columns
+    go : (b : Bool) → ltb (length m.columns) (length is) ≡ b → acted_if b (pops is) m ≡ drained is m.tuples m.columns
     go true e = refl
     go false e = popped-drained is m.tuples m.columns (ltb-false (length m.columns) (length is) e)
 
 -- the columns that are left stand in the store as they did
 pub left-in-store : (l : List ℤ) (d : ℕ) (xs s xs' : List Float) → length xs' ≡ length xs
-    → columnsOf (length xs' / 4) (d - length l) s ≡ (drained (places l) (tuples xs) (columnsOf (length xs / 4) d s)).columns
+    → columns_of (length xs' / 4) (d - length l) s ≡ (drained (places l) (tuples xs) (columns_of (length xs / 4) d s)).columns
 left-in-store l d xs s xs' len =
-    ap (λ (z : ℕ). columnsOf (z / 4) (d - length l) s) len
+    ap (λ (z : ℕ). columns_of (z / 4) (d - length l) s) len
     ∙ sym (columns-drop (length xs / 4) d (length l) s)
-    ∙ ap (λ (z : ℕ). drop z (columnsOf (length xs / 4) d s)) (sym (places-length l))
-    ∙ sym (drained-columns (places l) (tuples xs) (columnsOf (length xs / 4) d s))
+    ∙ ap (λ (z : ℕ). drop z (columns_of (length xs / 4) d s)) (sym (places-length l))
+    ∙ sym (drained-columns (places l) (tuples xs) (columns_of (length xs / 4) d s))
 
 pub pop-acted : (l : List ℤ) (d : ℕ) (xs s xs' : List Float) → length xs' ≡ length xs
-    → tuples xs' ≡ (drained (places l) (tuples xs) (columnsOf (length xs / 4) d s)).tuples → Acted (pops (places l)) d xs s xs' s
+    → tuples xs' ≡ (drained (places l) (tuples xs) (columns_of (length xs / 4) d s)).tuples → Acted (pops (places l)) d xs s xs' s
 unfolding held
 pop-acted l d xs s xs' len h =
     let left = left-in-store l d xs s xs' len in

@@ -9,7 +9,7 @@ use lib.Seq.{take_all}
 use Rattle.rules.specs.Operators.Arguments.{size, places}
 use Rattle.rules.specs.Operators.Acts.{pushes}
 use Rattle.rules.specs.Pipeline.Columns.{moved, pushed}
-use Rattle.rules.specs.Pipeline.Check.{noPlace, place, onPlaces}
+use Rattle.rules.specs.Pipeline.Check.{no_place, place, on_places}
 use Rattle.rules.specs.declared.Place.{Place}
 use Rattle.laws_steps.specs.PlacesOf.{places-more}
 use Rattle.laws_steps.specs.Walk.{pushed_more}
@@ -24,20 +24,20 @@ pub record Pushing (t : Traced) (l : List ℤ) (r : Traced) (i : ℕ) : Type 0 w
   pub most : length r.columns ≡ 64
   pub count : r.top + i ≡ t.top
   pub ahead : i ≤ length l
-  pub same : drop r.top r.columns ≡ pushed onPlaces (places (take i l)) t.tuple (drop t.top t.columns)
+  pub same : drop r.top r.columns ≡ pushed on_places (places (take i l)) t.tuple (drop t.top t.columns)
 
 pub push-none : (t : Traced) (l : List ℤ) → Whole t → Pushing t l t 0
 unfolding pushed places
 push-none t l w = record { kept = refl; most = w.most; count = omega arith; ahead = omega arith; same = refl }
 
 pub push-turn : {t r : Traced} {l : List ℤ} {i k : ℕ} → Pushing t l r i → i < length l → length l ≤ t.top → t.top ≤ 64 → AxisAt l i k
-    → Pushing t l (record { tuple = r.tuple; columns = set r.columns (r.top - 1) (get_or r.tuple k noPlace); top = r.top - 1 }) (i + 1)
+    → Pushing t l (record { tuple = r.tuple; columns = set r.columns (r.top - 1) (get_or r.tuple k no_place); top = r.top - 1 }) (i + 1)
 unfolding pushed
 push-turn {t} {r} {l} {i} {k} p h room within a =
-    let v = get_or r.tuple k noPlace in
+    let v = get_or r.tuple k no_place in
     let c = r.columns in
     let before = drop t.top t.columns in
-    let rest = pushed onPlaces (places (take i l)) t.tuple before in
+    let rest = pushed on_places (places (take i l)) t.tuple before in
     record {
       kept = p.kept;
       most = length-set c (r.top - 1) v ∙ p.most;
@@ -47,10 +47,10 @@ push-turn {t} {r} {l} {i} {k} p h room within a =
           drop-set c (r.top - 1) v (omega (arith, p.count, p.most, h, room, within))
           ∙ ap (λ (j : ℕ). v ∷ drop j c) (above r.top (omega (arith, p.count, h, room)))
           ∙ ap (λ (m : List Place). v ∷ m) p.same
-          ∙ ap (λ (u : List Place). get_or u k noPlace ∷ rest) p.kept
+          ∙ ap (λ (u : List Place). get_or u k no_place ∷ rest) p.kept
           ∙ ap (λ (x : Place). x ∷ rest) (sym (ap (λ (j : ℕ). place j t.tuple) a.named ∙ place_is t.tuple k a.below))
-          ∙ sym (ap (λ (is : List ℕ). pushed onPlaces is t.tuple before) (places-more l i h)
-          ∙ pushed_more onPlaces (places (take i l)) (size (get_or l i (pos 0)) ∷ []) t.tuple before);
+          ∙ sym (ap (λ (is : List ℕ). pushed on_places is t.tuple before) (places-more l i h)
+          ∙ pushed_more on_places (places (take i l)) (size (get_or l i (pos 0)) ∷ []) t.tuple before);
     }
   where
     above : (top : ℕ) → 0 < top → suc (top - 1) ≡ top
@@ -64,5 +64,5 @@ push-end {t} {r} {l} {i} w p h =
       same =
           ap (λ (u : List Place). record { tuples = u; columns = drop r.top r.columns }) p.kept
           ∙ ap (λ (c : List Place). record { tuples = t.tuple; columns = c })
-          (p.same ∙ ap (λ (m : List ℤ). pushed onPlaces (places m) t.tuple (drop t.top t.columns)) (take_all i l h));
+          (p.same ∙ ap (λ (m : List ℤ). pushed on_places (places m) t.tuple (drop t.top t.columns)) (take_all i l h));
     }

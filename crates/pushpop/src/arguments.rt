@@ -1,12 +1,12 @@
 // The test of their arguments: used where a record is tested.
 ghost use Rattle.std.specs.Prelude.{◌≡◌};
-ghost use Rattle.rules.specs.Operators.PushPop.{isRising};
+ghost use Rattle.rules.specs.Operators.PushPop.{is_rising};
 
 use numbers::{Kind, is_at, size_at};
 
 // Places 1 to 4 that rise.
 pub fn is_rising(l: &[i32]) -> bool
-    ensures { result ≡ isRising 0 l.now }
+    ensures { result ≡ is_rising 0 l.now }
 {
     let mut i = 0;
     let mut last = 0;

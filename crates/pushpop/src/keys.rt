@@ -1,14 +1,14 @@
 // "`push`, `pop` with flags `v_1` to `v_4`"
 ghost use Rattle.std.specs.Prelude.{◌≡◌};
-ghost use Rattle.rules.specs.Operators.Keys.{kindIn};
-ghost use Rattle.rules.specs.Operators.PushPop.{axisKeys};
+ghost use Rattle.rules.specs.Operators.Keys.{kind_in};
+ghost use Rattle.rules.specs.Operators.PushPop.{axis_keys};
 
 use rules::Kind;
 use text::is_same;
 
 // What a key takes, if it is one of theirs.
 pub fn kind_of(key: &[u8]) -> Kind
-    ensures { result ≡ kindIn axisKeys key.now }
+    ensures { result ≡ kind_in axis_keys key.now }
 {
     if is_same(key, b"v_1") {
         return Kind::Flag;

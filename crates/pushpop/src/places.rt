@@ -4,7 +4,7 @@ ghost use Rattle.rules.specs.Text.Lists.{all_of};
 ghost use Rattle.rules.specs.Operators.Arguments.{places};
 ghost use Rattle.rules.specs.Operators.Acts.{pushes, pops};
 ghost use Rattle.columns.specs.Traces.{Whole, Moved};
-ghost use Rattle.numbers.specs.Axes.{isAxis};
+ghost use Rattle.numbers.specs.Axes.{is_axis};
 
 use columns::Traced;
 use numbers::axis_at;
@@ -12,7 +12,7 @@ use numbers::axis_at;
 // A column for each place, in their order.
 pub fn push_places(t: Traced, l: &[i32]) -> Traced
     requires whole { Whole t }
-    requires l_value { all_of isAxis l.now ≡ true }
+    requires l_value { all_of is_axis l.now ≡ true }
     requires l_len_bound { length l.now ≤ t.top }
     ensures { Moved (pushes (places l.now)) t result }
 {
@@ -32,7 +32,7 @@ pub fn push_places(t: Traced, l: &[i32]) -> Traced
 // A column into each place, in their order.
 pub fn pop_places(t: Traced, l: &[i32]) -> Traced
     requires whole { Whole t }
-    requires l_value { all_of isAxis l.now ≡ true }
+    requires l_value { all_of is_axis l.now ≡ true }
     requires l_bound { t.top + length l.now ≤ 64 }
     ensures { Moved (pops (places l.now)) t result }
 {

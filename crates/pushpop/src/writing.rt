@@ -1,12 +1,12 @@
 // Their text: the name and the flags.
 ghost use Rattle.std.specs.Prelude.{◌≡◌, true, [], ◌∷◌, map, ◌<◌, ◌≤◌, length, get_or, pos};
 ghost use Rattle.rules.specs.Text.Lists.{all_of};
-ghost use Rattle.rules.specs.Text.Bytes.{afterEach, joined};
-ghost use Rattle.rules.specs.Operators.Arguments.{isPlace};
+ghost use Rattle.rules.specs.Text.Bytes.{after_each, joined};
+ghost use Rattle.rules.specs.Operators.Arguments.{is_place};
 ghost use Rattle.text.specs.Wrote.{WroteAt};
-ghost use Rattle.rules.specs.Operators.PushPop.{isRising, flagOf};
-ghost use Rattle.rules.specs.Operators.Table.{operatorOf};
-ghost use Rattle.rules.specs.Pipeline.Write.{nameWord, operatorWords};
+ghost use Rattle.rules.specs.Operators.PushPop.{is_rising, flag_of};
+ghost use Rattle.rules.specs.Operators.Table.{operator_of};
+ghost use Rattle.rules.specs.Pipeline.Write.{name_word, operator_words};
 ghost use Rattle.numbers.specs.Parts.{Room};
 
 use numbers::{put_byte, size_at};
@@ -15,9 +15,9 @@ use text::put;
 
 // The flags of the axes in l, each after a space.
 fn flags(l: &[i32], out: &mut [u8], o: usize) -> usize
-    requires l_value { all_of isPlace l.now ≡ true }
-    requires room { Room (afterEach (32 ∷ []) (map flagOf l.now)) o out.old }
-    ensures { WroteAt (afterEach (32 ∷ []) (map flagOf l.now)) out.old o result out.new }
+    requires l_value { all_of is_place l.now ≡ true }
+    requires room { Room (after_each (32 ∷ []) (map flag_of l.now)) o out.old }
+    ensures { WroteAt (after_each (32 ∷ []) (map flag_of l.now)) out.old o result out.new }
 {
     let mut e = o;
     let mut i = 0;
@@ -31,9 +31,9 @@ fn flags(l: &[i32], out: &mut [u8], o: usize) -> usize
 // One flag, after a space.
 fn flag(l: &[i32], i: usize, out: &mut [u8], o: usize) -> usize
     requires i_in_bounds { i < length l.now }
-    requires l_value { all_of isPlace l.now ≡ true }
-    requires room { Room (32 ∷ flagOf (get_or l.now i (pos 0))) o out.old }
-    ensures { WroteAt (32 ∷ flagOf (get_or l.now i (pos 0))) out.old o result out.new }
+    requires l_value { all_of is_place l.now ≡ true }
+    requires room { Room (32 ∷ flag_of (get_or l.now i (pos 0))) o out.old }
+    ensures { WroteAt (32 ∷ flag_of (get_or l.now i (pos 0))) out.old o result out.new }
 {
     let e = put(b" v_", out, o);
     put_byte(48 + size_at(l, i) as u8, out, e)
@@ -42,8 +42,8 @@ fn flag(l: &[i32], i: usize, out: &mut [u8], o: usize) -> usize
 // The operator's name.
 fn name(operator: u8, out: &mut [u8], o: usize) -> usize
     requires operator_bound { operator ≤ 1 }
-    requires room { Room (nameWord (operatorOf operator)) o out.old }
-    ensures { WroteAt (nameWord (operatorOf operator)) out.old o result out.new }
+    requires room { Room (name_word (operator_of operator)) o out.old }
+    ensures { WroteAt (name_word (operator_of operator)) out.old o result out.new }
 {
     if operator == PUSH {
         return put(b"push", out, o);
@@ -54,9 +54,9 @@ fn name(operator: u8, out: &mut [u8], o: usize) -> usize
 // The name, and the flag of each place.
 pub fn write_words(operator: u8, l: &[i32], out: &mut [u8], o: usize) -> usize
     requires operator_bound { operator ≤ 1 }
-    requires l_value { isRising 0 l.now ≡ true }
-    requires room { Room (joined (operatorWords (operatorOf operator) l.now)) o out.old }
-    ensures { WroteAt (joined (operatorWords (operatorOf operator) l.now)) out.old o result out.new }
+    requires l_value { is_rising 0 l.now ≡ true }
+    requires room { Room (joined (operator_words (operator_of operator) l.now)) o out.old }
+    ensures { WroteAt (joined (operator_words (operator_of operator) l.now)) out.old o result out.new }
 {
     let e = name(operator, out, o);
     flags(l, out, e)

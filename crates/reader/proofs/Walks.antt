@@ -9,7 +9,7 @@ use native.Mathlib.Omega.{arith}
 use borrow.Author.Tests.{not-false}
 use lib.ListN.{length, drop, get_or, drop_of_length-le}
 use Rattle.rules.specs.Text.Ascii.{is}
-use Rattle.rules.specs.Text.Lists.{all_of, kept, nonEmpty}
+use Rattle.rules.specs.Text.Lists.{all_of, kept, non_empty}
 use Rattle.rules.specs.Text.Bytes.{Bytes, white, onto, cut, words}
 use Rattle.rules.specs.Text.Reader.{step, found, next, part}
 use Rattle.rules.specs.declared.Found.TheVariants.{End}
@@ -53,10 +53,10 @@ module _ {s : Bytes} {i e : ℕ} (m : Run (other (is "|")) s i e) where
       let y : is "|" (get_or s e 0) ≡ true = not-false (is "|" (get_or s e 0)) (run-stops m h) in
       ap (cut (is "|")) (part-rest s i e m.ahead ∙ rw (drop-next s e h)) ∙ cut-here (is "|") (part i e s) (get_or s e 0) (drop (e + 1) s) m.whole y
 
-  blank-words : all_of white (part i e s) ≡ true → nonEmpty (words (part i e s)) ≡ false
+  blank-words : all_of white (part i e s) ≡ true → non_empty (words (part i e s)) ≡ false
   blank-words w = words-blank (part i e s) ∙ rw w
 
-  some_words : all_of white (part i e s) ≡ false → nonEmpty (words (part i e s)) ≡ true
+  some_words : all_of white (part i e s) ≡ false → non_empty (words (part i e s)) ≡ true
   some_words w = words-blank (part i e s) ∙ rw w
 
   -- an empty piece is passed over
@@ -87,7 +87,7 @@ module _ {s : Bytes} {i e : ℕ} (m : Run (other (is "|")) s i e) where
 
 -- from the text's end on, or beyond, there is none
 pub next_past : (s : Bytes) (i : ℕ) → length s ≤ i → End ≡ next s i
-unfolding next found words kept cut nonEmpty
+unfolding next found words kept cut non_empty
 next_past s i h = sym (rw (drop_of_length-le s h))
 
 -- ---- `next_step`: what is found from i on is what is found from the start on

@@ -7,30 +7,30 @@ use mathlib.Core.List.{List}
 use borrow.Author.Tests.{ne_eqb}
 use lib.Dec.{eqb}
 use lib.IntN.{ℤ}
-use Rattle.rules.specs.Operators.PushPop.{isRising}
+use Rattle.rules.specs.Operators.PushPop.{is_rising}
 use Rattle.rules.specs.Operators.Arguments.{is_order}
-use Rattle.rules.specs.Operators.Adapt.{isAdapt}
-use Rattle.rules.specs.Operators.Documented.{isDocumented}
+use Rattle.rules.specs.Operators.Adapt.{is_adapt}
+use Rattle.rules.specs.Operators.Documented.{is_documented}
 use Rattle.rules.specs.Operators.Descriptions.{Adapt}
-use Rattle.rules.specs.Operators.Table.{isArgs, operatorOf}
+use Rattle.rules.specs.Operators.Table.{is_args, operator_of}
 
-pub args-flags : (k : ℕ) (l : List ℤ) → k ≤ 1 → isRising 0 l ≡ isArgs (operatorOf k) l
-unfolding isArgs operatorOf
+pub args-flags : (k : ℕ) (l : List ℤ) → k ≤ 1 → is_rising 0 l ≡ is_args (operator_of k) l
+unfolding is_args operator_of
 args-flags zero l h = refl
 args-flags (suc zero) l h = refl
 args-flags (suc (suc k)) l h = absurd (omega (arith, h))
 
-pub args-order : {k : ℕ} (l : List ℤ) → k ≡ 9 → is_order l ≡ isArgs (operatorOf k) l
-unfolding isArgs operatorOf
+pub args-order : {k : ℕ} (l : List ℤ) → k ≡ 9 → is_order l ≡ is_args (operator_of k) l
+unfolding is_args operator_of
 args-order l e = rw e refl
 
-pub args-documented : {k : ℕ} (l : List ℤ) → k ≡ 11 → isDocumented l ≡ isArgs (operatorOf k) l
-unfolding isArgs operatorOf
+pub args-documented : {k : ℕ} (l : List ℤ) → k ≡ 11 → is_documented l ≡ is_args (operator_of k) l
+unfolding is_args operator_of
 args-documented l e = rw e refl
 
 -- the operator of the last arm, by what its number is not
-pub the_last : (k : ℕ) → 8 < k → (k ≡ 9 → ⊥) → (k ≡ 11 → ⊥) → operatorOf k ≡ Adapt
-unfolding operatorOf
+pub the_last : (k : ℕ) → 8 < k → (k ≡ 9 → ⊥) → (k ≡ 11 → ⊥) → operator_of k ≡ Adapt
+unfolding operator_of
 the_last k g n o =
     rw (
       ne_eqb k 0 (λ e. omega (arith, e, g)),
@@ -50,6 +50,6 @@ the_last k g n o =
     either true = refl
     either false = refl
 
-pub args-adapt : (k : ℕ) (l : List ℤ) → 8 < k → (k ≡ 9 → ⊥) → (k ≡ 11 → ⊥) → isAdapt l ≡ isArgs (operatorOf k) l
-unfolding isArgs
+pub args-adapt : (k : ℕ) (l : List ℤ) → 8 < k → (k ≡ 9 → ⊥) → (k ≡ 11 → ⊥) → is_adapt l ≡ is_args (operator_of k) l
+unfolding is_args
 args-adapt k l g n o = rw (the_last k g n o) refl

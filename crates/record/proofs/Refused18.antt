@@ -11,11 +11,11 @@ use lib.Dec.{leb}
 use lib.ListN.{length, get_or, take, length-append, length-take, length-replicate, replicate}
 use borrow.Author.Tests.{lt-ltb, le-ltb, lt-leb, le-leb}
 use Rattle.rules.specs.Operators.Table.{greatest}
-use Rattle.rules.specs.Pipeline.Record.{spanEnd, made, goodSpan, tableReading, goodIn, firstBad, refusal18, listed, blank, operator, args, unused}
+use Rattle.rules.specs.Pipeline.Record.{span_end, made, good_span, table_reading, good_in, first_bad, refusal18, listed, blank, operator, args, unused}
 use Rattle.rules.specs.declared.Span.{Span}
 use Rattle.rules.specs.declared.Step.{Step}
 use Rattle.rules.specs.declared.Table.{Table}
-use Rattle.record.specs.Records.{isMarked, is_written, badOf}
+use Rattle.record.specs.Records.{is_marked, is_written, bad_of}
 use Rattle.record.specs.declared.tests.Bad.TheVariants.{At}
 
 -- ---- a record
@@ -24,8 +24,8 @@ and_both : (a b c : Bool) → (a && (b && c)) ≡ ((a && b) && c)
 and_both true b c = refl
 and_both false b c = refl
 
-pub made-tests : (s : Step) → made s ≡ (leb s.operator greatest && (leb s.n 8 && (isMarked s && is_written s.operator (args s) (unused s))))
-unfolding made isMarked is_written operator
+pub made-tests : (s : Step) → made s ≡ (leb s.operator greatest && (leb s.n 8 && (is_marked s && is_written s.operator (args s) (unused s))))
+unfolding made is_marked is_written operator
 made-tests s =
     ap (λ (b : Bool). leb s.operator greatest && (leb s.n 8 && b))
     (ap (λ (b : Bool). leb s.inv 1 && (leb s.omit_fwd 1 && b)) (and_both (leb s.omit_inv 1) (leb s.reading 1) _)
@@ -35,17 +35,17 @@ made-tests s =
 -- ---- its span
 
 module _ (end : ℕ) (p : Span) where
-  pub span-empty : p.length ≡ 0 → false ≡ goodSpan end p
-  unfolding goodSpan
+  pub span-empty : p.length ≡ 0 → false ≡ good_span end p
+  unfolding good_span
   span-empty e = rw (le-ltb 0 p.length (omega (arith, e))) refl
 
-  pub span-far : {k : ℕ} → (p.length ≡ 0 → ⊥) → k ≡ spanEnd p → 40960 < k → false ≡ goodSpan end p
-  unfolding goodSpan
-  span-far n e h = rw (lt-ltb 0 p.length (pos_of_ne-zero n), lt-leb (spanEnd p) 40960 (omega (arith, e, h))) refl
+  pub span-far : {k : ℕ} → (p.length ≡ 0 → ⊥) → k ≡ span_end p → 40960 < k → false ≡ good_span end p
+  unfolding good_span
+  span-far n e h = rw (lt-ltb 0 p.length (pos_of_ne-zero n), lt-leb (span_end p) 40960 (omega (arith, e, h))) refl
 
-  pub span-near : {k : ℕ} → (p.length ≡ 0 → ⊥) → k ≡ spanEnd p → k ≤ 40960 → leb end p.from ≡ goodSpan end p
-  unfolding goodSpan
-  span-near n e h = rw (lt-ltb 0 p.length (pos_of_ne-zero n), le-leb (spanEnd p) 40960 (omega (arith, e, h))) refl
+  pub span-near : {k : ℕ} → (p.length ≡ 0 → ⊥) → k ≡ span_end p → k ≤ 40960 → leb end p.from ≡ good_span end p
+  unfolding good_span
+  span-near n e h = rw (lt-ltb 0 p.length (pos_of_ne-zero n), le-leb (span_end p) 40960 (omega (arith, e, h))) refl
 
 -- ---- a table
 
@@ -60,33 +60,33 @@ pub listed-length : (t : Table) → length t.steps ≡ 64 → length (listed t) 
 unfolding listed
 listed-length t full = length-append (take t.n t.steps) _ ∙ rw (length-take, length-replicate, full) (omega arith)
 
-pub bad-long : (t : Table) → length t.steps ≡ 64 → 64 < t.n → At 0 ≡ badOf (refusal18 (listed t))
-unfolding refusal18 badOf
+pub bad-long : (t : Table) → length t.steps ≡ 64 → 64 < t.n → At 0 ≡ bad_of (refusal18 (listed t))
+unfolding refusal18 bad_of
 bad-long t full h = rw (listed-length t full, lt-ltb _ _ h) refl
 
 -- the reading of a table is that of its first record, as the code reads it: of no records none is bad in any reading
-reading-first : (steps : List Step) (n : ℕ) (z : Step) → length steps ≡ 64 → firstBad (tableReading (take n steps)) 0 1 (take n steps) ≡ firstBad (get_or steps 0 z).reading 0 1 (take n steps)
-unfolding firstBad tableReading
+reading-first : (steps : List Step) (n : ℕ) (z : Step) → length steps ≡ 64 → first_bad (table_reading (take n steps)) 0 1 (take n steps) ≡ first_bad (get_or steps 0 z).reading 0 1 (take n steps)
+unfolding first_bad table_reading
 reading-first [] n z h = absurd (omega (arith, h))
 reading-first (s ∷ l) zero z h = refl
 reading-first (s ∷ l) (suc n) z h = refl
 
 pub bad-few : (t : Table) (z : Step) → length t.steps ≡ 64 → t.n ≤ 64
-    → refusal18 (listed t) ≡ firstBad (get_or t.steps 0 z).reading 0 1 (take t.n t.steps)
+    → refusal18 (listed t) ≡ first_bad (get_or t.steps 0 z).reading 0 1 (take t.n t.steps)
 unfolding refusal18
 bad-few t z full h =
     rw (listed-length t full, le-ltb _ _ h)
-    (ap (λ (l : List Step). firstBad (tableReading l) 0 1 l) (listed-few t h) ∙ reading-first t.steps t.n z full)
+    (ap (λ (l : List Step). first_bad (table_reading l) 0 1 l) (listed-few t h) ∙ reading-first t.steps t.n z full)
 
 module _ (reading end k : ℕ) where
-  pub bad-next : (s : Step) (l : List Step) {next : ℕ} → goodIn reading end s ≡ true → next ≡ spanEnd s.span → firstBad reading end k (s ∷ l) ≡ firstBad reading next (k + 1) l
-  unfolding firstBad
+  pub bad-next : (s : Step) (l : List Step) {next : ℕ} → good_in reading end s ≡ true → next ≡ span_end s.span → first_bad reading end k (s ∷ l) ≡ first_bad reading next (k + 1) l
+  unfolding first_bad
   bad-next s l e f = rw (e, f, add-one k) refl
 
-  pub bad-here : (s : Step) (l : List Step) → goodIn reading end s ≡ false → firstBad reading end k (s ∷ l) ≡ some k
-  unfolding firstBad
+  pub bad-here : (s : Step) (l : List Step) → good_in reading end s ≡ false → first_bad reading end k (s ∷ l) ≡ some k
+  unfolding first_bad
   bad-here s l e = rw e refl
 
-  pub bad-none : firstBad reading end k [] ≡ none
-  unfolding firstBad
+  pub bad-none : first_bad reading end k [] ≡ none
+  unfolding first_bad
   bad-none = refl

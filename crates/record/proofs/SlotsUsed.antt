@@ -10,15 +10,15 @@ use lib.Dec.{eqb}
 use lib.IntN.{ℤ}
 use Rattle.rules.specs.Text.Lists.{all_of}
 use Rattle.rules.specs.Operators.Arguments.{size}
-use Rattle.rules.specs.Pipeline.Record.{nineDigits}
+use Rattle.rules.specs.Pipeline.Record.{nine_digits}
 use Rattle.laws_lists.specs.Lists.{all_so}
 
-zero-nine : (x : ℤ) → eqb (size x) 0 ≡ true → nineDigits x ≡ true
-unfolding nineDigits
+zero-nine : (x : ℤ) → eqb (size x) 0 ≡ true → nine_digits x ≡ true
+unfolding nine_digits
 zero-nine x e = le-leb (size x) 999999999 (omega (arith, eqb-true (size x) 0 e))
 
-pub used-nine : (l : List ℤ) (n : ℕ) → all_of (λ (x : ℤ). eqb (size x) 0) (drop n l) ≡ true → all_of nineDigits l ≡ all_of nineDigits (take n l)
+pub used-nine : (l : List ℤ) (n : ℕ) → all_of (λ (x : ℤ). eqb (size x) 0) (drop n l) ≡ true → all_of nine_digits l ≡ all_of nine_digits (take n l)
 unfolding all_of
-used-nine l zero e = all_so (λ (x : ℤ). eqb (size x) 0) nineDigits zero-nine l e
+used-nine l zero e = all_so (λ (x : ℤ). eqb (size x) 0) nine_digits zero-nine l e
 used-nine [] (suc n) e = refl
-used-nine (x ∷ l) (suc n) e = ap (λ (b : Bool). nineDigits x && b) (used-nine l n e)
+used-nine (x ∷ l) (suc n) e = ap (λ (b : Bool). nine_digits x && b) (used-nine l n e)

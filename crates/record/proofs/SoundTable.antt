@@ -9,7 +9,7 @@ use borrow.Author.Tests.{ltb-false}
 use lib.Dec.{ltb}
 use lib.ListN.{length, get_or, take}
 use lib.Seq.{length-take-le, get_or-take}
-use Rattle.rules.specs.Pipeline.Record.{spanEnd, made, tableReading, goodIn, firstBad, refusal18, listed}
+use Rattle.rules.specs.Pipeline.Record.{span_end, made, table_reading, good_in, first_bad, refusal18, listed}
 use Rattle.rules.specs.declared.Step.{Step}
 use Rattle.rules.specs.declared.Table.{Table}
 use Rattle.rules.specs.declared.Direction.{Direction}
@@ -18,13 +18,13 @@ use Rattle.record.specs.Visits.{visited}
 use Rattle.record.proofs.Refused18.{listed-few, listed-length, bad-few}
 
 module _ (reading : ℕ) where
-  none-bad : (end k : ℕ) (l : List Step) (i : ℕ) (z : Step) → firstBad reading end k l ≡ none → i < length l → made (get_or l i z) ≡ true
-  unfolding firstBad goodIn
+  none-bad : (end k : ℕ) (l : List Step) (i : ℕ) (z : Step) → first_bad reading end k l ≡ none → i < length l → made (get_or l i z) ≡ true
+  unfolding first_bad good_in
   none-bad end k [] i z e h = absurd (omega (arith, h))
-  none-bad end k (s ∷ l) i z e h = go (goodIn reading end s) refl i h e (λ j g f. none-bad (spanEnd s.span) (suc k) l j z g f)
+  none-bad end k (s ∷ l) i z e h = go (good_in reading end s) refl i h e (λ j g f. none-bad (span_end s.span) (suc k) l j z g f)
     where
-      go : (b : Bool) → goodIn reading end s ≡ b → (i : ℕ) → i < length (s ∷ l) → cond b (firstBad reading (spanEnd s.span) (suc k) l) (some k) ≡ none
-          → ((j : ℕ) → firstBad reading (spanEnd s.span) (suc k) l ≡ none → j < length l → made (get_or l j z) ≡ true) → made (get_or (s ∷ l) i z) ≡ true
+      go : (b : Bool) → good_in reading end s ≡ b → (i : ℕ) → i < length (s ∷ l) → cond b (first_bad reading (span_end s.span) (suc k) l) (some k) ≡ none
+          → ((j : ℕ) → first_bad reading (span_end s.span) (suc k) l ≡ none → j < length l → made (get_or l j z) ≡ true) → made (get_or (s ∷ l) i z) ≡ true
       go true p zero h e f = and_left (made s) _ p
       go true p (suc i) h e f = f i e (omega (arith, h))
       go false p i h e f = absurd (never (cc e))
@@ -48,7 +48,7 @@ sound-so t full e =
           sym (ap made (get_or-take t.n t.steps i z h)) ∙ none-bad _ 0 1 (take t.n t.steps) i z (sym (bad-few t z full few) ∙ e) (omega (arith, h, many));
     }
   where
-    short : (b : Bool) → ltb 64 (length (listed t)) ≡ b → cond b (some 0) (firstBad (tableReading (listed t)) 0 1 (listed t)) ≡ none → ltb 64 (length (listed t)) ≡ false
+    short : (b : Bool) → ltb 64 (length (listed t)) ≡ b → cond b (some 0) (first_bad (table_reading (listed t)) 0 1 (listed t)) ≡ none → ltb 64 (length (listed t)) ≡ false
     short true p e = absurd (never (cc e))
     short false p e = p
 

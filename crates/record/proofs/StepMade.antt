@@ -6,14 +6,14 @@ use native.Mathlib.Omega.{arith}
 use lib.IntN.{ℤ, pos}
 use lib.ListN.{length, take, drop, replicate, take-append-drop}
 use lib.Seq.{length-take-le}
-use Rattle.rules.specs.Pipeline.Record.{readingNumber, noSpan, stepWith}
+use Rattle.rules.specs.Pipeline.Record.{reading_number, no_span, step_with}
 use Rattle.rules.specs.declared.Reading.TheVariants.{Crate}
 use Rattle.rules.specs.declared.Step.{Step}
 
 pub step_so : (operator : ℕ) (l : List ℤ) (n inv forward inverse : ℕ) {x y z : ℕ} → length l ≡ 8 → n ≤ 8 → drop n l ≡ replicate (8 - n) (pos 0) → x ≡ inv → y ≡ forward → z ≡ inverse
-    → ◌≡◌ {A = Step} (record { operator = operator; n = n; inv = x; omit_fwd = y; omit_inv = z; reading = readingNumber Crate; args = l; span = noSpan })
-    (stepWith operator (take n l) inv forward inverse)
-unfolding stepWith
+    → ◌≡◌ {A = Step} (record { operator = operator; n = n; inv = x; omit_fwd = y; omit_inv = z; reading = reading_number Crate; args = l; span = no_span })
+    (step_with operator (take n l) inv forward inverse)
+unfolding step_with
 step_so operator l n inv forward inverse full few zeros e f g =
     let many : length (take n l) ≡ n = length-take-le n l (omega (arith, few, full)) in
     rw (e, f, g, many, ← zeros, take-append-drop n l) refl

@@ -1,6 +1,6 @@
 // What a step record does in a direction. Run and check both go by it.
 ghost use Rattle.std.specs.Prelude.{◌≡◌, true};
-ghost use Rattle.rules.specs.Operators.Table.{operatorOf};
+ghost use Rattle.rules.specs.Operators.Table.{operator_of};
 ghost use Rattle.rules.specs.Pipeline.Record.{reading_of, made};
 ghost use Rattle.rules.specs.Pipeline.Running.{opposite, turns, directed, act, omitted};
 ghost use Rattle.columns.specs.Doings.{Does};
@@ -21,7 +21,7 @@ fn opposite(direction: Direction) -> Direction
 
 // Does `inv` turn the operator? In the crate's reading "`axisswap` and `adapt` only", in PROJ's every one.
 fn turns(reading: u8, operator: u8) -> bool
-    ensures { result ≡ turns (reading_of reading) (operatorOf operator) }
+    ensures { result ≡ turns (reading_of reading) (operator_of operator) }
 {
     if reading != CRATE {
         return true;

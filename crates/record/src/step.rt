@@ -1,6 +1,6 @@
 // The one place where a step record is made, where it is named for its reading, and where it is told where its text stands.
 ghost use Rattle.std.specs.Prelude.{◌≡◌, ◌-◌, ◌≤◌, pos, take, drop, replicate};
-ghost use Rattle.rules.specs.Pipeline.Record.{readingNumber, stepWith, inReading, spanned, blank};
+ghost use Rattle.rules.specs.Pipeline.Record.{reading_number, step_with, in_reading, spanned, blank};
 ghost use Rattle.record.specs.Records.{mark_of};
 
 use rules::{CRATE, PROJ, PUSH, Reading, Span, Step};
@@ -26,7 +26,7 @@ pub fn step_of(
 ) -> Step
     requires n_bound { n ≤ 8 }
     requires args_value { drop n args ≡ replicate (8 - n) (pos 0) }
-    ensures { result ≡ stepWith operator (take n args) (mark_of inv) (mark_of omit_fwd) (mark_of omit_inv) }
+    ensures { result ≡ step_with operator (take n args) (mark_of inv) (mark_of omit_fwd) (mark_of omit_inv) }
 {
     Step {
         operator: operator,
@@ -42,7 +42,7 @@ pub fn step_of(
 
 // The number of a reading in a record.
 fn number_of(reading: Reading) -> u8
-    ensures { result ≡ readingNumber reading }
+    ensures { result ≡ reading_number reading }
 {
     match reading {
         Reading::Crate => CRATE,
@@ -52,7 +52,7 @@ fn number_of(reading: Reading) -> u8
 
 // The same record in a reading.
 pub fn in_reading(s: Step, reading: Reading) -> Step
-    ensures { result ≡ inReading reading s }
+    ensures { result ≡ in_reading reading s }
 {
     let args = s.args;
     let span = s.span;

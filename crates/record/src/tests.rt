@@ -1,7 +1,7 @@
 // Records and tables that a preparation makes: the test of refusal 18.
 ghost use Rattle.std.specs.Prelude.{◌≡◌, ◌≤◌, length, take, drop};
-ghost use Rattle.rules.specs.Pipeline.Record.{spanEnd, made, goodSpan, goodIn, refusal18, listed};
-ghost use Rattle.record.specs.Records.{isMarked, is_written, badOf};
+ghost use Rattle.rules.specs.Pipeline.Record.{span_end, made, good_span, good_in, refusal18, listed};
+ghost use Rattle.record.specs.Records.{is_marked, is_written, bad_of};
 
 use crate::arguments::is_args;
 use numbers::{Kind, are_of};
@@ -9,7 +9,7 @@ use rules::{GREATEST, Step, Table};
 
 // Are the marks of a record and the number of its reading 0 or 1?
 fn is_marked(s: Step) -> bool
-    ensures { result ≡ isMarked s }
+    ensures { result ≡ is_marked s }
 {
     if 1 < s.inv {
         return false;
@@ -61,14 +61,14 @@ const MOST: usize = 40960;
 
 // The byte after the last of a record's span.
 pub fn end_of(s: Step) -> usize
-    ensures { result ≡ spanEnd s.span }
+    ensures { result ≡ span_end s.span }
 {
     s.span.from as usize + s.span.length as usize
 }
 
 // 18 of a span behind one that ends there: is it not empty, ends it by byte 40,960, and begins it no earlier?
 fn is_behind(s: Step, end: usize) -> bool
-    ensures { result ≡ goodSpan end s.span }
+    ensures { result ≡ good_span end s.span }
 {
     if s.span.length == 0 {
         return false;
@@ -82,7 +82,7 @@ fn is_behind(s: Step, end: usize) -> bool
 // 18 of a table of that reading, behind a record whose span ends there: is it a record that a preparation in that reading makes, with
 // a span for that place?
 pub fn good_in(s: Step, reading: u8, end: usize) -> bool
-    ensures { result ≡ goodIn reading end s }
+    ensures { result ≡ good_in reading end s }
 {
     if !made(s) {
         return false;
@@ -103,7 +103,7 @@ pub enum Bad {
 // 18: the first record that no preparation makes, whose reading is not the first's, or whose span is empty, too far or not behind the last
 // one's; 0 for over 64 records.
 pub fn refusal18(table: Table) -> Bad
-    ensures { result ≡ badOf (refusal18 (listed table)) }
+    ensures { result ≡ bad_of (refusal18 (listed table)) }
 {
     let n = table.n;
     if 64 < n {

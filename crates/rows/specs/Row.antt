@@ -1,12 +1,12 @@
 -- A lent row of step records, and the table of 64 that stands for it.
 use Rattle.std.specs.Prelude.{ℕ, ◌≤◌, min, List, [], ◌++◌, length, take, drop, replicate}
-use Rattle.rules.specs.Pipeline.Record.{stepWith}
+use Rattle.rules.specs.Pipeline.Record.{step_with}
 use Rattle.rules.specs.declared.Step.{Step}
 use Rattle.rules.specs.declared.Table.{Table}
 
 -- the record that stands in a table where a row has none. It is never read, so any would do: it has no arguments and one mark
 unfoldable pub spare : Step
-spare = stepWith 0 [] 0 0 1
+spare = step_with 0 [] 0 0 1
 
 -- 64 of them
 unfoldable pub blanks : List Step

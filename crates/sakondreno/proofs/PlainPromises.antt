@@ -12,24 +12,24 @@ use Rattle.rules.specs.declared.Ran.{Ran}
 use Rattle.rules.specs.declared.Said.{Said}
 use Rattle.rules.specs.declared.Checked.{Checked}
 use Rattle.rules.specs.declared.Done.{Done}
-use Rattle.rules.specs.Face.Plain.{directionOf, plainVerdict, plainCheck, PlainChecks, plainRan, plainOutcome, PlainRuns}
+use Rattle.rules.specs.Face.Plain.{direction_of, plain_verdict, plain_check, PlainChecks, plain_ran, plain_outcome, PlainRuns}
 
-pub check-plain : (f : Foretold) {v : Said} → v ≡ plainVerdict f.verdict
-    → ◌≡◌ {A = Checked} (record { said = v; span = f.span; run = f.run; depths = f.depths; deepest = f.deepest; left = f.left; told = f.told; places = f.places }) (plainCheck f)
-unfolding plainCheck
+pub check-plain : (f : Foretold) {v : Said} → v ≡ plain_verdict f.verdict
+    → ◌≡◌ {A = Checked} (record { said = v; span = f.span; run = f.run; depths = f.depths; deepest = f.deepest; left = f.left; told = f.told; places = f.places }) (plain_check f)
+unfolding plain_check
 check-plain f h = λ i. record { said = h i; span = f.span; run = f.run; depths = f.depths; deepest = f.deepest; left = f.left; told = f.told; places = f.places }
 
 pub checks-plain : {inverse : ℕ} {t : List Step} {d : Direction} {f : Foretold} {r : Checked}
-    → d ≡ directionOf inverse → Checks d t f → r ≡ plainCheck f → PlainChecks inverse t r
-checks-plain {inverse} {t} g c h = record { exactly = h ∙ ap plainCheck (c.exactly ∙ ap (λ (d : Direction). check d t) g) }
+    → d ≡ direction_of inverse → Checks d t f → r ≡ plain_check f → PlainChecks inverse t r
+checks-plain {inverse} {t} g c h = record { exactly = h ∙ ap plain_check (c.exactly ∙ ap (λ (d : Direction). check d t) g) }
 
 pub runs-plain : {inverse : ℕ} {t : List Step} {d : Direction} {xs store xs' store' : List Float} {r : Ran} {a : Done}
-    → d ≡ directionOf inverse → rules.Runs d t xs store r xs' store' → a ≡ plainRan r
+    → d ≡ direction_of inverse → rules.Runs d t xs store r xs' store' → a ≡ plain_ran r
     → PlainRuns inverse t xs store a xs' store'
-unfolding plainOutcome
+unfolding plain_outcome
 runs-plain {inverse} {t} {d} {xs} {store} {xs'} {store'} g c h =
     record {
       exactly =
           (λ i. record { answer = h i; list = xs'; store = store' })
-          ∙ ap plainOutcome (c.exactly ∙ ap (λ (e : Direction). rules.runs e t xs store) g);
+          ∙ ap plain_outcome (c.exactly ∙ ap (λ (e : Direction). rules.runs e t xs store) g);
     }

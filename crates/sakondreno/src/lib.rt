@@ -10,9 +10,9 @@ ghost use Rattle.rules.specs.Text.Split.{split};
 ghost use Rattle.rules.specs.Text.Parameters.{parameters};
 ghost use Rattle.rules.specs.Proj.Translate.{translate};
 ghost use Rattle.rules.specs.Pipeline.Record.{reading_of};
-ghost use Rattle.rules.specs.Pipeline.Prepare.{prepare, prepareAs};
+ghost use Rattle.rules.specs.Pipeline.Prepare.{prepare, prepare_as};
 ghost use Rattle.rules.specs.Text.Reader.{next, define};
-ghost use Rattle.rules.specs.Face.Plain.{replied, plainFound, recordCount, mode_of, PlainChecks, PlainRuns};
+ghost use Rattle.rules.specs.Face.Plain.{replied, plain_found, record_count, mode_of, PlainChecks, PlainRuns};
 
 pub use entry::{check, prepare, prepare_as, run};
 pub use normalise::{definition, normalise};
@@ -71,7 +71,7 @@ pub extern "C" fn sakondreno_translate(text: &[u8], out: &mut [u8]) -> Answer
 // The next step of a normalised text from the place `at` on.
 #[unsafe(no_mangle)]
 pub extern "C" fn sakondreno_next(text: &[u8], at: usize) -> Part
-    ensures { result ≡ plainFound (next text.now at) }
+    ensures { result ≡ plain_found (next text.now at) }
 {
     plain::part_of(reader::next_from(text, at))
 }
@@ -82,7 +82,7 @@ pub extern "C" fn sakondreno_next(text: &[u8], at: usize) -> Part
 // refusal's number and place, and the row is as it was.
 #[unsafe(no_mangle)]
 pub extern "C" fn sakondreno_prepare(text: &[u8], table: &mut [Step]) -> Answer
-    ensures { Promised recordCount prepare text.now table.old result table.new }
+    ensures { Promised record_count prepare text.now table.old result table.new }
 {
     let p = entry::prepare(text, table);
     plain::counted(p)
@@ -96,7 +96,7 @@ pub extern "C" fn sakondreno_prepare_as(
     mode: u8,
     table: &mut [Step],
 ) -> Answer
-    ensures { Promised recordCount (prepareAs (reading_of reading) (mode_of mode)) text.now table.old result table.new }
+    ensures { Promised record_count (prepare_as (reading_of reading) (mode_of mode)) text.now table.old result table.new }
 {
     let how = plain::reading_of(reading);
     let page = plain::mode_of(mode);

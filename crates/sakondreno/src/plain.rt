@@ -2,7 +2,7 @@
 // what its definition says (crates/rules, specs/Face/Plain.antt).
 ghost use Rattle.std.specs.Prelude.{◌≡◌};
 ghost use Rattle.rules.specs.Pipeline.Record.{reading_of};
-ghost use Rattle.rules.specs.Face.Plain.{plainWritten, plainFound, plainPrepared, mode_of, directionOf, plainVerdict, plainCheck, plainRan};
+ghost use Rattle.rules.specs.Face.Plain.{plain_written, plain_found, plain_prepared, mode_of, direction_of, plain_verdict, plain_check, plain_ran};
 
 use rules::{
     Answer, CRATE, Checked, Direction, Done, Foretold, Found, Mode, Part, Prepared, Ran, Reading,
@@ -10,7 +10,7 @@ use rules::{
 };
 
 pub fn answered(w: Written) -> Answer
-    ensures { result ≡ plainWritten w }
+    ensures { result ≡ plain_written w }
 {
     match w {
         Written::Wrote(bytes) => Answer {
@@ -31,7 +31,7 @@ pub fn answered(w: Written) -> Answer
 // ---- the walk over the steps
 
 pub fn part_of(found: Found) -> Part
-    ensures { result ≡ plainFound found }
+    ensures { result ≡ plain_found found }
 {
     match found {
         Found::Step { from, to, then } => Part {
@@ -52,7 +52,7 @@ pub fn part_of(found: Found) -> Part
 // ---- step tables
 
 pub fn counted(p: Prepared) -> Answer
-    ensures { result ≡ plainPrepared p }
+    ensures { result ≡ plain_prepared p }
 {
     match p {
         Prepared::Steps(steps) => Answer {
@@ -96,7 +96,7 @@ pub fn mode_of(number: u8) -> Mode
 
 // 0 is forward, any other number inverse.
 pub fn direction_of(inverse: u8) -> Direction
-    ensures { result ≡ directionOf inverse }
+    ensures { result ≡ direction_of inverse }
 {
     if inverse == 0 {
         return Direction::Forward;
@@ -105,7 +105,7 @@ pub fn direction_of(inverse: u8) -> Direction
 }
 
 pub fn verdict_of(v: Verdict) -> Said
-    ensures { result ≡ plainVerdict v }
+    ensures { result ≡ plain_verdict v }
 {
     match v {
         Verdict::Passes => Said {
@@ -128,7 +128,7 @@ pub fn verdict_of(v: Verdict) -> Said
 }
 
 pub fn checked_of(f: Foretold) -> Checked
-    ensures { result ≡ plainCheck f }
+    ensures { result ≡ plain_check f }
 {
     let verdict = f.verdict;
     let span = f.span;
@@ -148,7 +148,7 @@ pub fn checked_of(f: Foretold) -> Checked
 }
 
 pub fn ended(ran: Ran) -> Done
-    ensures { result ≡ plainRan ran }
+    ensures { result ≡ plain_ran ran }
 {
     match ran {
         Ran::Done { count, left } => Done {

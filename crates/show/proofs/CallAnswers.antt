@@ -12,7 +12,7 @@ use Rattle.rules.specs.Text.Bytes.{Bytes}
 use Rattle.rules.specs.Text.Refusal.{Reply, answers, refuses, refuses12, and_then, tested, lent, outcome, written, Writes}
 use Rattle.rules.specs.Text.Split.{line, split}
 use Rattle.rules.specs.Proj.Translate.{translate}
-use Rattle.rules.specs.Pipeline.Prepare.{prepareAs}
+use Rattle.rules.specs.Pipeline.Prepare.{prepare_as}
 use Rattle.laws_lists.specs.Tests.{never}
 use Rattle.rules.specs.declared.Mode.{Mode}
 use Rattle.rules.specs.declared.Reading.{Reading}
@@ -22,7 +22,7 @@ use Rattle.rules.specs.declared.Written.TheVariants as variant
 use Rattle.laws_text.specs.Entry.{answers-so}
 use Rattle.laws_text.specs.Refusals.{Refusing, tested-refuses}
 use Rattle.text.specs.Wrote.{Wrote, WroteAt}
-use Rattle.rules.specs.Face.Shown.{refusalText, offsetText, headed, orRefused, called, shownChecks, shownSteps, translatedLine, shown, bothChecks}
+use Rattle.rules.specs.Face.Shown.{refusal_text, offset_text, headed, or_refused, called, shown_checks, shown_steps, translated_line, shown, both_checks}
 use Rattle.show.proofs.Located.{Other}
 
 -- a piece by another name
@@ -95,30 +95,30 @@ called-refused {own} {t} {buf} {r} {buf'} {n} {place} h e w l =
 -- ---- what is printed then
 
 module _ (r : Reading) (mode : Mode) (t : Bytes) where
-  pub steps-refused : {n place : ℕ} → called split t ≡ refuses n place → shownSteps r mode t ≡ line (refusalText n place)
-  unfolding shownSteps orRefused
+  pub steps-refused : {n place : ℕ} → called split t ≡ refuses n place → shown_steps r mode t ≡ line (refusal_text n place)
+  unfolding shown_steps or_refused
   steps-refused e = rw e
 
-  pub steps-wrote : {lines : Bytes} → called split t ≡ answers lines → shownSteps r mode t ≡ headed 1 false lines ++ shownChecks r mode t
-  unfolding shownSteps orRefused
+  pub steps-wrote : {lines : Bytes} → called split t ≡ answers lines → shown_steps r mode t ≡ headed 1 false lines ++ shown_checks r mode t
+  unfolding shown_steps or_refused
   steps-wrote e = rw e
 
-  pub text-refused : {n place : ℕ} → called translate t ≡ refuses n place → shown r mode t ≡ line (refusalText n place)
-  unfolding shown orRefused
+  pub text-refused : {n place : ℕ} → called translate t ≡ refuses n place → shown r mode t ≡ line (refusal_text n place)
+  unfolding shown or_refused
   text-refused e = rw e
 
-  pub text-wrote : {u : Bytes} → called translate t ≡ answers u → shown r mode t ≡ translatedLine u ++ shownSteps r mode u
-  unfolding shown orRefused
+  pub text-wrote : {u : Bytes} → called translate t ≡ answers u → shown r mode t ≡ translated_line u ++ shown_steps r mode u
+  unfolding shown or_refused
   text-wrote e = rw e
 
-  pub checks-refused : {n place : ℕ} → tested (prepareAs r mode) t ≡ refuses n place → shownChecks r mode t ≡ line (refusalText n place)
-  unfolding shownChecks orRefused
+  pub checks-refused : {n place : ℕ} → tested (prepare_as r mode) t ≡ refuses n place → shown_checks r mode t ≡ line (refusal_text n place)
+  unfolding shown_checks or_refused
   checks-refused e = rw e
 
-  pub checks-located : {place offset : ℕ} → tested (prepareAs r mode) t ≡ refuses12 place offset → shownChecks r mode t ≡ line (offsetText place offset)
-  unfolding shownChecks orRefused
+  pub checks-located : {place offset : ℕ} → tested (prepare_as r mode) t ≡ refuses12 place offset → shown_checks r mode t ≡ line (offset_text place offset)
+  unfolding shown_checks or_refused
   checks-located e = rw e
 
-  pub checks-told : {ss : List Step} → tested (prepareAs r mode) t ≡ answers ss → shownChecks r mode t ≡ bothChecks ss
-  unfolding shownChecks orRefused
+  pub checks-told : {ss : List Step} → tested (prepare_as r mode) t ≡ answers ss → shown_checks r mode t ≡ both_checks ss
+  unfolding shown_checks or_refused
   checks-told e = rw e

@@ -9,14 +9,14 @@ use lib.ListN.{length, length-append}
 use lib.Dec.{ltb}
 use Rattle.rules.specs.Text.Ascii.{ascii, is}
 use Rattle.rules.specs.Text.Lists.{any_of}
-use Rattle.rules.specs.Text.Bytes.{Bytes, inDomain, words}
+use Rattle.rules.specs.Text.Bytes.{Bytes, in_domain, words}
 use Rattle.rules.specs.Text.Refusal.{Reply, answers, refuses, refuses12, tested}
 use Rattle.rules.specs.Text.Normal.{normal}
 use Rattle.rules.specs.Text.Comments.{stripped}
-use Rattle.rules.specs.Text.Split.{stepText, steps, line, split}
+use Rattle.rules.specs.Text.Split.{step_text, steps, line, split}
 use Rattle.rules.specs.Proj.Translate.{translate}
-use Rattle.rules.specs.Pipeline.Offsets.{cutText}
-use Rattle.rules.specs.Pipeline.Prepare.{prepareAs}
+use Rattle.rules.specs.Pipeline.Offsets.{cut_text}
+use Rattle.rules.specs.Pipeline.Prepare.{prepare_as}
 use Rattle.rules.specs.Face.Demands.{FirstFault}
 use Rattle.rules.specs.declared.Mode.{Mode}
 use Rattle.rules.specs.declared.Reading.{Reading}
@@ -54,10 +54,10 @@ one-of-lines (t ∷ before) step rest = omega (arith, one-of-lines before step r
 
 module _ {t : Bytes} {place offset : ℕ} (f : FirstFault t place offset) where
   -- the fault stands in the step's text, or at its end
-  within_text : offset ≤ length (cutText f.step)
+  within_text : offset ≤ length (cut_text f.step)
   within_text = go (any_of (is "=") f.at-fault.word) refl
     where
-      go : (b : Bool) → any_of (is "=") f.at-fault.word ≡ b → offset ≤ length (cutText f.step)
+      go : (b : Bool) → any_of (is "=") f.at-fault.word ≡ b → offset ≤ length (cut_text f.step)
       go true e =
           let s = f.stands e in
           omega (arith, ap length s.in_order, s.begins, length-append s.front (f.at-fault.bad ++ s.rest))
@@ -69,26 +69,26 @@ module _ {t : Bytes} {place offset : ℕ} (f : FirstFault t place offset) where
 
   -- which is a tenfold of the step's at most, and that of the text's
   offset-small : length t ≤ 4096 → offset < 10 ^ 6
-  unfolding cutText line steps
+  unfolding cut_text line steps
   offset-small h =
       let u = normal f.step in
       let lines : length (flat_map line (f.before ++ (f.step ∷ f.rest))) ≤ suc (length (normal (stripped t))) =
       rw (← f.in_order) (lines-length (normal (stripped t))) in
-      omega (arith, h, within_text, line-within u, length-append (stepText (words u)) (ascii "\n"), normal-length f.step, one-of-lines f.before f.step f.rest, lines, steps-length t)
+      omega (arith, h, within_text, line-within u, length-append (step_text (words u)) (ascii "\n"), normal-length f.step, one-of-lines f.before f.step f.rest, lines, steps-length t)
 
 short-12 : (own : Bytes → Reply (List Step)) (t : Bytes) (place offset : ℕ) → tested own t ≡ refuses12 place offset → length t ≤ 4096
 unfolding tested
 short-12 own t place offset h = go (ltb 4096 (length t)) refl h
   where
-    go : (b : Bool) → ltb 4096 (length t) ≡ b → cond b (refuses 1 0) (cond (not (inDomain t)) (refuses 2 0) (own t)) ≡ refuses12 place offset → length t ≤ 4096
+    go : (b : Bool) → ltb 4096 (length t) ≡ b → cond b (refuses 1 0) (cond (not (in_domain t)) (refuses 2 0) (own t)) ≡ refuses12 place offset → length t ≤ 4096
     go true e h = absurd (never (cc h))
     go false e h = ltb-false 4096 (length t) e
 
-pub prepare-located : (r : Reading) (m : Mode) (t : Bytes) → Located (tested (prepareAs r m) t)
+pub prepare-located : (r : Reading) (m : Mode) (t : Bytes) → Located (tested (prepare_as r m) t)
 unfolding Located
-prepare-located r m t = go (tested (prepareAs r m) t) refl
+prepare-located r m t = go (tested (prepare_as r m) t) refl
   where
-    go : (x : Reply (List Step)) → tested (prepareAs r m) t ≡ x → Located x
+    go : (x : Reply (List Step)) → tested (prepare_as r m) t ≡ x → Located x
     go (answers l) e = tt
     go (refuses number place) e = never-12 r m t number place e
-    go (refuses12 place offset) e = offset-small (tested-fault r m t place offset e) (short-12 (prepareAs r m) t place offset e)
+    go (refuses12 place offset) e = offset-small (tested-fault r m t place offset e) (short-12 (prepare_as r m) t place offset e)

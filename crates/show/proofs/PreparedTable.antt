@@ -8,7 +8,7 @@ use lib.ListN.{length, take, drop}
 use lib.Seq.{take_at}
 use Rattle.rules.specs.Text.Bytes.{Bytes}
 use Rattle.rules.specs.Text.Refusal.{Reply, answers, refuses, refuses12, tested, lent, prepared}
-use Rattle.rules.specs.Pipeline.Prepare.{prepareAs}
+use Rattle.rules.specs.Pipeline.Prepare.{prepare_as}
 use Rattle.rules.specs.Pipeline.Record.{listed}
 use Rattle.laws_lists.specs.Tests.{never}
 use Rattle.rules.specs.declared.Mode.{Mode}
@@ -17,7 +17,7 @@ use Rattle.rules.specs.declared.Step.{Step}
 use Rattle.rules.specs.declared.Table.{Table}
 use Rattle.rules.specs.declared.Prepared.TheVariants as variant
 use Rattle.prepare.specs.declared.Preparing.{Preparing}
-use Rattle.prepare.specs.Lent.{with_row, lentTo, preparingAs}
+use Rattle.prepare.specs.Lent.{with_row, lent_to, preparing_as}
 use Rattle.rows.specs.Row.{blanks, tabled, emptied}
 use Rattle.show.proofs.Located.{Located, prepare-located}
 use Rattle.show.proofs.Replies.{Of, AtMost, prepared-few}
@@ -34,8 +34,8 @@ record Told (reply : Reply (List Step)) (q : Preparing) : Type 0 where
   located : (n place offset : ℕ) → q.answer ≡ variant.Refused n place offset → n ≡ 12 → reply ≡ refuses12 place offset
   records : (n : ℕ) → q.answer ≡ variant.Steps n → reply ≡ answers (listed (tabled q.table.steps n))
 
-told : (reply : Reply (List Step)) → Of (AtMost 64) reply → Located reply → Told reply (lentTo reply (emptied 64))
-unfolding lentTo with_row lent prepared Of Located
+told : (reply : Reply (List Step)) → Of (AtMost 64) reply → Located reply → Told reply (lent_to reply (emptied 64))
+unfolding lent_to with_row lent prepared Of Located
 told (refuses m q) few l =
     record {
       refusal = λ n place offset e h. let a : m ≡ n = cc e in let b : q ≡ place = cc e in rw (a, b);
@@ -62,16 +62,16 @@ told (answers xs) few l =
     room : length xs ≤ length (take 64 blanks)
     room = unfold blanks in few
 
-module _ (r : Reading) (mode : Mode) (t : Bytes) {e : Table} {q : Preparing} (f : e ≡ emptied 64) (g : q ≡ preparingAs r mode t e) where
-  all_told : Told (tested (prepareAs r mode) t) q
-  unfolding preparingAs
-  all_told = subst (Told (tested (prepareAs r mode) t)) (sym (g ∙ ap (preparingAs r mode t) f)) (told (tested (prepareAs r mode) t) (prepared-few r mode t) (prepare-located r mode t))
+module _ (r : Reading) (mode : Mode) (t : Bytes) {e : Table} {q : Preparing} (f : e ≡ emptied 64) (g : q ≡ preparing_as r mode t e) where
+  all_told : Told (tested (prepare_as r mode) t) q
+  unfolding preparing_as
+  all_told = subst (Told (tested (prepare_as r mode) t)) (sym (g ∙ ap (preparing_as r mode t) f)) (told (tested (prepare_as r mode) t) (prepared-few r mode t) (prepare-located r mode t))
 
-  pub prepare-refused : {n place offset : ℕ} → q.answer ≡ variant.Refused n place offset → (n ≡ 12 → ⊥) → tested (prepareAs r mode) t ≡ refuses n place
+  pub prepare-refused : {n place offset : ℕ} → q.answer ≡ variant.Refused n place offset → (n ≡ 12 → ⊥) → tested (prepare_as r mode) t ≡ refuses n place
   prepare-refused {n} {place} {offset} h k = all_told.refusal n place offset h k
 
-  pub prepare-faulty : {n place offset : ℕ} → q.answer ≡ variant.Refused n place offset → n ≡ 12 → tested (prepareAs r mode) t ≡ refuses12 place offset
+  pub prepare-faulty : {n place offset : ℕ} → q.answer ≡ variant.Refused n place offset → n ≡ 12 → tested (prepare_as r mode) t ≡ refuses12 place offset
   prepare-faulty {n} {place} {offset} h k = all_told.located n place offset h k
 
-  pub prepare-steps : {n : ℕ} {u : Table} → q.answer ≡ variant.Steps n → u ≡ tabled q.table.steps n → tested (prepareAs r mode) t ≡ answers (listed u)
+  pub prepare-steps : {n : ℕ} {u : Table} → q.answer ≡ variant.Steps n → u ≡ tabled q.table.steps n → tested (prepare_as r mode) t ≡ answers (listed u)
   prepare-steps {n} {u} h k = all_told.records n h ∙ ap (λ (x : Table). answers (listed x)) (sym k)

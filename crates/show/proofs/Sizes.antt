@@ -12,9 +12,9 @@ use Rattle.rules.specs.Text.Bytes.{Bytes}
 use Rattle.rules.specs.Text.Refusal.{Reply, answers, refuses, refuses12, tested}
 use Rattle.rules.specs.Text.Normal.{normal}
 use Rattle.rules.specs.Text.Comments.{stripped}
-use Rattle.rules.specs.Text.Split.{line, steps, splitSteps, split}
+use Rattle.rules.specs.Text.Split.{line, steps, split_steps, split}
 use Rattle.rules.specs.Proj.Translate.{translate}
-use Rattle.rules.specs.Pipeline.Prepare.{prepareIn, prepareAs}
+use Rattle.rules.specs.Pipeline.Prepare.{prepare_in, prepare_as}
 use Rattle.rules.specs.Pipeline.Check.{nth, check}
 use Rattle.rules.specs.declared.Mode.{Mode}
 use Rattle.rules.specs.declared.Reading.{Reading}
@@ -26,8 +26,8 @@ use Rattle.rules.specs.declared.Verdict.{Verdict}
 use Rattle.rules.specs.declared.Verdict.TheVariants.{Passes, TooFew, TooMany, Refused}
 use Rattle.rules.specs.declared.Foretold.{Foretold}
 use Rattle.rules.specs.Text.Numerals.{digits}
-use Rattle.rules.specs.Face.Shown.{counted, refusalText, offsetText, heading, headed, orRefused, called, shownChecks, shownSteps, translatedLine, shown, signedPlace, twoPlaces, fourPlaces}
-use Rattle.rules.specs.Face.Shown.{passText, verdictText, verdictLine, bothChecks}
+use Rattle.rules.specs.Face.Shown.{counted, refusal_text, offset_text, heading, headed, or_refused, called, shown_checks, shown_steps, translated_line, shown, signed_place, two_places, four_places}
+use Rattle.rules.specs.Face.Shown.{pass_text, verdict_text, verdict_line, both_checks}
 use Rattle.laws_text.specs.Numerals.{digits-length}
 use Rattle.laws_text.specs.Sizes.{steps-few, proj-few}
 use Rattle.laws_text.specs.Refusals.{Refusing, OfAStep, then-refuses, tested-refuses, split-refuses, translate-refuses, prepare-refuses}
@@ -54,16 +54,16 @@ line-length : (t : Bytes) → length (line t) ≡ length t + 1
 unfolding line ascii
 line-length t = length-append t (10 ∷ [])
 
-refused-length : (n place : ℕ) → Small n → Small place → length (refusalText n place) ≤ 19
-unfolding refusalText ascii
+refused-length : (n place : ℕ) → Small n → Small place → length (refusal_text n place) ≤ 19
+unfolding refusal_text ascii
 refused-length n place h k =
     omega (arith, length-append (counted (ascii "refused ") n) (counted (ascii " ") place), counted-length (ascii "refused ") n h, counted-length (ascii " ") place k)
 
 -- (an offset has six digits at most)
-offset-length : (place offset : ℕ) → Small place → offset < 10 ^ 6 → length (offsetText place offset) ≤ 26
-unfolding offsetText counted ascii
+offset-length : (place offset : ℕ) → Small place → offset < 10 ^ 6 → length (offset_text place offset) ≤ 26
+unfolding offset_text counted ascii
 offset-length place offset h k =
-    omega (arith, length-append (refusalText 12 place) (counted (ascii " ") offset), refused-length 12 place (omega arith) h, length-append (ascii " ") (digits offset), digits-length 5 offset k)
+    omega (arith, length-append (refusal_text 12 place) (counted (ascii " ") offset), refused-length 12 place (omega arith) h, length-append (ascii " ") (digits offset), digits-length 5 offset k)
 
 -- ---- a check's line
 
@@ -72,33 +72,33 @@ unfolding ascii
 mark-length true = omega arith
 mark-length false = omega arith
 
-signed-length : (w : Bytes) (p : Place) → Named p → length (signedPlace w p) ≤ length w + 6
-unfolding signedPlace
+signed-length : (w : Bytes) (p : Place) → Named p → length (signed_place w p) ≤ length w + 6
+unfolding signed_place
 signed-length w p h =
     let l : Small p.axis = omega (arith, h.most) in
     omega (arith, counted-length (w ++ cond p.minus (ascii "-") []) p.axis l, length-append w (cond p.minus (ascii "-") []), mark-length p.minus)
 
-pair-length : (w : Bytes) (p q : Place) → Named p → Named q → length (twoPlaces w p q) ≤ length w + 13
-unfolding twoPlaces ascii
-pair-length w p q h k = omega (arith, length-append (signedPlace w p) (signedPlace (ascii ",") q), signed-length w p h, signed-length (ascii ",") q k)
+pair-length : (w : Bytes) (p q : Place) → Named p → Named q → length (two_places w p q) ≤ length w + 13
+unfolding two_places ascii
+pair-length w p q h k = omega (arith, length-append (signed_place w p) (signed_place (ascii ",") q), signed-length w p h, signed-length (ascii ",") q k)
 
-places-length : (b : Bool) (l : List Place) → (b ≡ true → FourNamed l) → length (cond b (fourPlaces l) []) ≤ 35
-unfolding fourPlaces ascii
+places-length : (b : Bool) (l : List Place) → (b ≡ true → FourNamed l) → length (cond b (four_places l) []) ≤ 35
+unfolding four_places ascii
 places-length true l h =
     let n = h refl in
-    let x = twoPlaces (ascii " places ") (nth l 0) (nth l 1) in
-    let y = twoPlaces (ascii ",") (nth l 2) (nth l 3) in
+    let x = two_places (ascii " places ") (nth l 0) (nth l 1) in
+    let y = two_places (ascii ",") (nth l 2) (nth l 3) in
     let a = pair-length (ascii " places ") (nth l 0) (nth l 1) n.first n.second in
     let b = pair-length (ascii ",") (nth l 2) (nth l 3) n.third n.fourth in
     omega (arith, length-append x y)
 places-length false l h = omega arith
 
-passed_length : (f : Foretold) → Small f.deepest → Small f.left → (f.told ≡ true → FourNamed f.places) → length (passText f) ≤ 59
-unfolding passText ascii
+passed_length : (f : Foretold) → Small f.deepest → Small f.left → (f.told ≡ true → FourNamed f.places) → length (pass_text f) ≤ 59
+unfolding pass_text ascii
 passed_length f h k n =
     let x = counted (ascii "deepest ") f.deepest in
     let y = counted (ascii " left ") f.left in
-    let z = cond f.told (fourPlaces f.places) [] in
+    let z = cond f.told (four_places f.places) [] in
     let a = counted-length (ascii "deepest ") f.deepest h in
     let b = counted-length (ascii " left ") f.left k in
     omega (arith, length-append (x ++ y) z, length-append x y, places-length f.told f.places n)
@@ -108,12 +108,12 @@ unfolding ascii
 step-length k w h = omega (arith, length-append (counted (ascii "step ") k) w, counted-length (ascii "step ") k h)
 
 -- of a table that was prepared in a reading and a mode
-module _ (r : Reading) (mode : Mode) (t : Bytes) (ss : List Step) (e : tested (prepareAs r mode) t ≡ answers ss) where
+module _ (r : Reading) (mode : Mode) (t : Bytes) (ss : List Step) (e : tested (prepare_as r mode) t ≡ answers ss) where
   step_small : (k : ℕ) → k ≤ length ss → Small k
-  step_small k h = omega (arith, (prepare-as-made r mode t ss (tested-answers (prepareAs r mode) t ss e)).1)
+  step_small k h = omega (arith, (prepare-as-made r mode t ss (tested-answers (prepare_as r mode) t ss e)).1)
 
-  judged-length : (d : Direction) (v : Verdict) → (check d ss).verdict ≡ v → length (verdictText v (check d ss)) ≤ 59
-  unfolding verdictText ascii
+  judged-length : (d : Direction) (v : Verdict) → (check d ss).verdict ≡ v → length (verdict_text v (check d ss)) ≤ 59
+  unfolding verdict_text ascii
   judged-length d Passes h =
       let w = pass-within d ss h in
       passed_length (check d ss) (omega arith) (omega arith) (foretells d ss [] h).named
@@ -121,17 +121,17 @@ module _ (r : Reading) (mode : Mode) (t : Bytes) (ss : List Step) (e : tested (p
   judged-length d (TooMany k) h = omega (arith, step-length k (ascii " too many") (step_small k (many-within d ss k h)))
   judged-length d (Refused n k) h = absurd (check-never-18 r mode t ss e d n k h)
 
-  verdict-length : (w : Bytes) (d : Direction) → length (verdictLine w (check d ss)) ≤ length w + 60
-  unfolding verdictLine
+  verdict-length : (w : Bytes) (d : Direction) → length (verdict_line w (check d ss)) ≤ length w + 60
+  unfolding verdict_line
   verdict-length w d =
-      let u = verdictText (check d ss).verdict (check d ss) in
+      let u = verdict_text (check d ss).verdict (check d ss) in
       omega (arith, line-length (w ++ u), length-append w u, judged-length d (check d ss).verdict refl)
 
-  checks-length : length (bothChecks ss) ≤ 138
-  unfolding bothChecks ascii
+  checks-length : length (both_checks ss) ≤ 138
+  unfolding both_checks ascii
   checks-length =
-      let x = verdictLine (ascii "forward: ") (check Forward ss) in
-      let y = verdictLine (ascii "inverse: ") (check Inverse ss) in
+      let x = verdict_line (ascii "forward: ") (check Forward ss) in
+      let y = verdict_line (ascii "inverse: ") (check Inverse ss) in
       omega (arith, length-append x y, verdict-length (ascii "forward: ") Forward, verdict-length (ascii "inverse: ") Inverse)
 
 -- ---- the steps' lines
@@ -161,7 +161,7 @@ made-lines t texts m =
 split-lines : (t : Bytes) → Of Lines (split t)
 unfolding split
 split-lines t =
-    of-then (Made (steps t)) Lines (splitSteps (steps t)) (λ texts. answers (flat_map line texts)) (split-made (steps t))
+    of-then (Made (steps t)) Lines (split_steps (steps t)) (λ texts. answers (flat_map line texts)) (split-made (steps t))
     (λ texts m. unfold Of in made-lines t texts m)
 
 -- ---- the whole
@@ -184,11 +184,11 @@ abbrev BothSmall : ℕ → ℕ → Type 0
 BothSmall n place = Small n × Small place
 
 printed : {A : Type 0} (P : A → Type 0) (r : Reply A) (next : A → Bytes) (m : ℕ) → 27 ≤ m → Refusing BothSmall r → Located r → Of P r
-    → ((x : A) → P x → length (next x) ≤ m) → length (orRefused r next) ≤ m
-unfolding orRefused Of Refusing Located
+    → ((x : A) → P x → length (next x) ≤ m) → length (or_refused r next) ≤ m
+unfolding or_refused Of Refusing Located
 printed P (answers x) next m k w l h f = f x h
-printed P (refuses n place) next m k w l h f = omega (arith, line-length (refusalText n place), refused-length n place w.0 w.1)
-printed P (refuses12 place offset) next m k w l h f = omega (arith, line-length (offsetText place offset), offset-length place offset w.1 l)
+printed P (refuses n place) next m k w l h f = omega (arith, line-length (refusal_text n place), refused-length n place w.0 w.1)
+printed P (refuses12 place offset) next m k w l h f = omega (arith, line-length (offset_text place offset), offset-length place offset w.1 l)
 
 module _ (P : ℕ → ℕ → Type 0) (own : Bytes → Reply Bytes) (t : Bytes) where
   called-refuses : P 1 0 → P 2 0 → P 7 0 → (length t ≤ 4096 → Refusing P (own t)) → Refusing P (called own t)
@@ -235,27 +235,27 @@ of-a-step k s =
     }
 
 -- either reading refuses what preparing in the mode refuses, by the same number at the same place
-prepare-small : (r : Reading) (mode : Mode) (t : Bytes) → length t ≤ 4096 → Refusing BothSmall (prepareAs r mode t)
-unfolding prepareAs Refusing
+prepare-small : (r : Reading) (mode : Mode) (t : Bytes) → length t ≤ 4096 → Refusing BothSmall (prepare_as r mode t)
+unfolding prepare_as Refusing
 prepare-small r mode t l =
-    then-refuses BothSmall (prepareIn mode t) _ (prepare-refuses BothSmall mode t (λ k h. of-a-step k (omega (arith, steps-few t))) (omega arith)) (λ ss e. tt)
+    then-refuses BothSmall (prepare_in mode t) _ (prepare-refuses BothSmall mode t (λ k h. of-a-step k (omega (arith, steps-few t))) (omega arith)) (λ ss e. tt)
 
-shown-checks-length : (r : Reading) (mode : Mode) (t : Bytes) → length (shownChecks r mode t) ≤ 138
-unfolding shownChecks
+shown-checks-length : (r : Reading) (mode : Mode) (t : Bytes) → length (shown_checks r mode t) ≤ 138
+unfolding shown_checks
 shown-checks-length r mode t =
-    let reply = tested (prepareAs r mode) t in
+    let reply = tested (prepare_as r mode) t in
     let Is : List Step → Type 0 = λ ss. reply ≡ answers ss in
-    printed Is reply bothChecks 138 (omega arith) (tested-refuses BothSmall (prepareAs r mode) t (omega arith) (omega arith) (prepare-small r mode t)) (prepare-located r mode t)
+    printed Is reply both_checks 138 (omega arith) (tested-refuses BothSmall (prepare_as r mode) t (omega arith) (omega arith) (prepare-small r mode t)) (prepare-located r mode t)
     (of-answers Is reply (λ ss e. e))
     (checks-length r mode t)
 
-shown-steps-length : (r : Reading) (mode : Mode) (t : Bytes) → length (shownSteps r mode t) ≤ 66442
-unfolding shownSteps
+shown-steps-length : (r : Reading) (mode : Mode) (t : Bytes) → length (shown_steps r mode t) ≤ 66442
+unfolding shown_steps
 shown-steps-length r mode t =
-    printed (Fits Lines) (called split t) (λ lines. headed 1 false lines ++ shownChecks r mode t) 66442 (omega arith) (called-small split t (split-small t))
+    printed (Fits Lines) (called split t) (λ lines. headed 1 false lines ++ shown_checks r mode t) 66442 (omega arith) (called-small split t (split-small t))
     (called-located split t (split-other t))
     (called-fits Lines split t (split-lines t))
-    (λ lines m. omega (arith, length-append (headed 1 false lines) (shownChecks r mode t), m.size, m.holds.fits, shown-checks-length r mode t))
+    (λ lines m. omega (arith, length-append (headed 1 false lines) (shown_checks r mode t), m.size, m.holds.fits, shown-checks-length r mode t))
 
 -- any text
 any-text : (r : Reply Bytes) → Of (λ t. 0 ≤ length t) r
@@ -264,17 +264,17 @@ any-text (answers t) = omega arith
 any-text (refuses n place) = omega arith
 any-text (refuses12 place offset) = omega arith
 
-translation-length : (t : Bytes) → length (translatedLine t) ≡ length t + 13
-unfolding translatedLine ascii
+translation-length : (t : Bytes) → length (translated_line t) ≡ length t + 13
+unfolding translated_line ascii
 translation-length t = omega (arith, line-length (ascii "translated: " ++ t), length-append (ascii "translated: ") t)
 
 pub shown-length : (r : Reading) (mode : Mode) (text : Bytes) → length (shown r mode text) ≤ 139264
 unfolding shown
 shown-length r mode text =
-    printed (Fits (λ t. 0 ≤ length t)) (called translate text) (λ t. translatedLine t ++ shownSteps r mode t) 139264 (omega arith)
+    printed (Fits (λ t. 0 ≤ length t)) (called translate text) (λ t. translated_line t ++ shown_steps r mode t) 139264 (omega arith)
     (called-small translate text (translate-small text)) (called-located translate text (translate-other text))
     (called-fits (λ t. 0 ≤ length t) translate text (any-text (translate text)))
-    (λ t m. omega (arith, length-append (translatedLine t) (shownSteps r mode t), translation-length t, m.size, shown-steps-length r mode t))
+    (λ t m. omega (arith, length-append (translated_line t) (shown_steps r mode t), translation-length t, m.size, shown-steps-length r mode t))
 
 pub shown-room : (r : Reading) (mode : Mode) (text d : Bytes) → 139264 ≤ length d → 0 + length (shown r mode text) ≤ length d
 shown-room r mode text d h = omega (arith, shown-length r mode text)

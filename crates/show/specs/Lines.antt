@@ -6,9 +6,9 @@ use Rattle.std.proofs.lemmas.Bool.{false≢true}
 use mathlib.Core.List.{List, [], ◌∷◌, ◌++◌, map, flat_map, append_assoc}
 use Rattle.std.proofs.Math.Seq.{append_snoc}
 use Rattle.rules.specs.Text.Ascii.{ascii, is}
-use Rattle.rules.specs.Text.Lists.{all_of, kept, nonEmpty}
-use Rattle.rules.specs.Text.Bytes.{Bytes, Words, Steps, white, onto, cut, words, afterEach, joinedBy, joined}
-use Rattle.rules.specs.Text.Split.{modifier, leading, following, turned, steps_of, stepText, line}
+use Rattle.rules.specs.Text.Lists.{all_of, kept, non_empty}
+use Rattle.rules.specs.Text.Bytes.{Bytes, Words, Steps, white, onto, cut, words, after_each, joined_by, joined}
+use Rattle.rules.specs.Text.Split.{modifier, leading, following, turned, steps_of, step_text, line}
 use Rattle.rules.specs.Face.Shown.{heading, headed}
 use Rattle.laws_lists.specs.Tests.{and_left, and_right}
 use Rattle.laws_lists.specs.Lists.{all_append}
@@ -48,7 +48,7 @@ cut-free (x ∷ t) = go (white x) refl (cut-free t)
 
 words-free : (t : Bytes) → all_of free (words t) ≡ true
 unfolding words
-words-free t = all-kept free nonEmpty (cut white t) (cut-free t)
+words-free t = all-kept free non_empty (cut white t) (cut-free t)
 
 -- ---- a step's text
 
@@ -70,20 +70,20 @@ following-free (w ∷ ws) e = go (modifier w) (following-free ws (and_right (fre
     go true h = h
     go false h = e
 
-spaced-free : (ws : Words) → all_of free ws ≡ true → free (afterEach (32 ∷ []) ws) ≡ true
-unfolding all_of free afterEach
+spaced-free : (ws : Words) → all_of free ws ≡ true → free (after_each (32 ∷ []) ws) ≡ true
+unfolding all_of free after_each
 spaced-free [] e = refl
 spaced-free (w ∷ ws) e =
-    all_append (λ (b : ℕ). not (eqb b 10)) w (afterEach (32 ∷ []) ws) (and_left (free w) (all_of free ws) e) (spaced-free ws (and_right (free w) (all_of free ws) e))
+    all_append (λ (b : ℕ). not (eqb b 10)) w (after_each (32 ∷ []) ws) (and_left (free w) (all_of free ws) e) (spaced-free ws (and_right (free w) (all_of free ws) e))
 
 joined_free : (ws : Words) → all_of free ws ≡ true → free (joined ws) ≡ true
-unfolding all_of free joined joinedBy
+unfolding all_of free joined joined_by
 joined_free [] e = refl
 joined_free (w ∷ ws) e =
-    all_append (λ (b : ℕ). not (eqb b 10)) w (afterEach (32 ∷ []) ws) (and_left (free w) (all_of free ws) e) (spaced-free ws (and_right (free w) (all_of free ws) e))
+    all_append (λ (b : ℕ). not (eqb b 10)) w (after_each (32 ∷ []) ws) (and_left (free w) (all_of free ws) e) (spaced-free ws (and_right (free w) (all_of free ws) e))
 
-text-free : (ws : Words) → all_of free ws ≡ true → free (stepText ws) ≡ true
-unfolding stepText turned
+text-free : (ws : Words) → all_of free ws ≡ true → free (step_text ws) ≡ true
+unfolding step_text turned
 text-free ws e = joined_free (following ws ++ leading ws) (all_append free (following ws) (leading ws) (following-free ws e) (leading-free ws e))
 
 -- ---- all steps' texts
@@ -93,18 +93,18 @@ unfolding all_of
 all_words [] = refl
 all_words (p ∷ ps) = both (words-free p) (all_words ps)
 
-all-texts : (ss : Steps) → all_of (λ (ws : Words). all_of free ws) ss ≡ true → all_of free (map stepText ss) ≡ true
+all-texts : (ss : Steps) → all_of (λ (ws : Words). all_of free ws) ss ≡ true → all_of free (map step_text ss) ≡ true
 unfolding all_of
 all-texts [] e = refl
 all-texts (s ∷ ss) e =
     both (text-free s (and_left (all_of free s) (all_of (λ (ws : Words). all_of free ws) ss) e))
     (all-texts ss (and_right (all_of free s) (all_of (λ (ws : Words). all_of free ws) ss) e))
 
-pub texts-free : (n : Bytes) → all_of free (map stepText (steps_of n)) ≡ true
+pub texts-free : (n : Bytes) → all_of free (map step_text (steps_of n)) ≡ true
 unfolding steps_of
 texts-free n =
-    all-texts (kept nonEmpty (map words (cut (is "|") n)))
-    (all-kept (λ (ws : Words). all_of free ws) nonEmpty (map words (cut (is "|") n)) (all_words (cut (is "|") n)))
+    all-texts (kept non_empty (map words (cut (is "|") n)))
+    (all-kept (λ (ws : Words). all_of free ws) non_empty (map words (cut (is "|") n)) (all_words (cut (is "|") n)))
 
 -- ---- the lines, one after the other
 
@@ -147,5 +147,5 @@ lines-numbered k (t ∷ ts) e =
     ∙ ap (λ (u : Bytes). (heading k ++ line t) ++ u) (lines-numbered (suc k) ts (and_right (free t) (all_of free ts) e)))))
 
 -- so for the lines that splitting writes of a normalised text
-pub steps-numbered : (n : Bytes) → headed 1 false (flat_map line (map stepText (steps_of n))) ≡ numbered 1 (map stepText (steps_of n))
-steps-numbered n = lines-numbered 1 (map stepText (steps_of n)) (texts-free n)
+pub steps-numbered : (n : Bytes) → headed 1 false (flat_map line (map step_text (steps_of n))) ≡ numbered 1 (map step_text (steps_of n))
+steps-numbered n = lines-numbered 1 (map step_text (steps_of n)) (texts-free n)

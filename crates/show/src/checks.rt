@@ -4,7 +4,7 @@ ghost use Rattle.std.specs.Prelude.{◌++◌, ◌+◌, ◌≤◌, length};
 ghost use Rattle.rules.specs.Text.Ascii.{ascii};
 ghost use Rattle.rules.specs.Pipeline.Record.{listed};
 ghost use Rattle.text.specs.Wrote.{WroteAt};
-ghost use Rattle.rules.specs.Face.Shown.{counted, passText, verdictText, verdictLine, bothChecks};
+ghost use Rattle.rules.specs.Face.Shown.{counted, pass_text, verdict_text, verdict_line, both_checks};
 
 use crate::pieces::{say_counted, say_refused, say_step};
 use crate::places::say_told;
@@ -23,8 +23,8 @@ fn say_depths(deepest: usize, left: usize, out: &mut [u8], at: usize) -> usize
 
 // What a pass foretells.
 fn say_passed(f: Foretold, out: &mut [u8], at: usize) -> usize
-    requires { at + length (passText f) ≤ length out.old }
-    ensures { WroteAt (passText f) out.old at result out.new }
+    requires { at + length (pass_text f) ≤ length out.old }
+    ensures { WroteAt (pass_text f) out.old at result out.new }
 {
     let places = f.places;
     let o = say_depths(f.deepest, f.left, out, at);
@@ -33,8 +33,8 @@ fn say_passed(f: Foretold, out: &mut [u8], at: usize) -> usize
 
 // A verdict: what a pass foretells, the step at fault, or the refusal.
 fn say_judged(f: Foretold, out: &mut [u8], at: usize) -> usize
-    requires { at + length (verdictText f.verdict f) ≤ length out.old }
-    ensures { WroteAt (verdictText f.verdict f) out.old at result out.new }
+    requires { at + length (verdict_text f.verdict f) ≤ length out.old }
+    ensures { WroteAt (verdict_text f.verdict f) out.old at result out.new }
 {
     let v = f.verdict;
     match v {
@@ -47,8 +47,8 @@ fn say_judged(f: Foretold, out: &mut [u8], at: usize) -> usize
 
 // A direction, and the verdict behind it.
 fn say_verdict(direction: &[u8], f: Foretold, out: &mut [u8], at: usize) -> usize
-    requires { at + length (direction.now ++ verdictText f.verdict f) ≤ length out.old }
-    ensures { WroteAt (direction.now ++ verdictText f.verdict f) out.old at result out.new }
+    requires { at + length (direction.now ++ verdict_text f.verdict f) ≤ length out.old }
+    ensures { WroteAt (direction.now ++ verdict_text f.verdict f) out.old at result out.new }
 {
     let o = put(direction, out, at);
     say_judged(f, out, o)
@@ -56,8 +56,8 @@ fn say_verdict(direction: &[u8], f: Foretold, out: &mut [u8], at: usize) -> usiz
 
 // The line of a check, with its newline.
 fn say_check(direction: &[u8], f: Foretold, out: &mut [u8], at: usize) -> usize
-    requires { at + length (verdictLine direction.now f) ≤ length out.old }
-    ensures { WroteAt (verdictLine direction.now f) out.old at result out.new }
+    requires { at + length (verdict_line direction.now f) ≤ length out.old }
+    ensures { WroteAt (verdict_line direction.now f) out.old at result out.new }
 {
     let o = say_verdict(direction, f, out, at);
     out[o] = 10;
@@ -66,8 +66,8 @@ fn say_check(direction: &[u8], f: Foretold, out: &mut [u8], at: usize) -> usize
 
 // "checks forward and inverse"
 pub fn say_checks(table: Table, out: &mut [u8], at: usize) -> usize
-    requires { at + length (bothChecks (listed table)) ≤ length out.old }
-    ensures { WroteAt (bothChecks (listed table)) out.old at result out.new }
+    requires { at + length (both_checks (listed table)) ≤ length out.old }
+    ensures { WroteAt (both_checks (listed table)) out.old at result out.new }
 {
     let forward = check(table, Direction::Forward);
     let o = say_check(b"forward: ", forward, out, at);

@@ -7,7 +7,7 @@ mod places;
 ghost use Rattle.std.specs.Prelude.{◌≡◌, false, ◌++◌, ◌+◌, ◌≤◌, length};
 ghost use Rattle.rows.specs.Row.{tabled};
 ghost use Rattle.text.specs.Wrote.{Wrote, WroteAt};
-ghost use Rattle.rules.specs.Face.Shown.{headed, shownChecks, shownSteps, translatedLine, shown};
+ghost use Rattle.rules.specs.Face.Shown.{headed, shown_checks, shown_steps, translated_line, shown};
 
 use checks::say_checks;
 use pieces::{say_offset, say_refusal, say_steps};
@@ -27,8 +27,8 @@ fn first_of(table: Table, n: usize) -> Table
 
 // "prepares, then checks"
 fn show_checks(text: &[u8], reading: Reading, mode: Mode, out: &mut [u8], at: usize) -> usize
-    requires { at + length (shownChecks reading mode text.now) ≤ length out.old }
-    ensures { WroteAt (shownChecks reading mode text.now) out.old at result out.new }
+    requires { at + length (shown_checks reading mode text.now) ≤ length out.old }
+    ensures { WroteAt (shown_checks reading mode text.now) out.old at result out.new }
 {
     let p = prepare_as(text, reading, mode, rows::empty(64));
     let answer = p.answer;
@@ -60,8 +60,8 @@ fn show_lines(
     out: &mut [u8],
     at: usize,
 ) -> usize
-    requires { at + length (headed 1 false lines.now ++ shownChecks reading mode text.now) ≤ length out.old }
-    ensures { WroteAt (headed 1 false lines.now ++ shownChecks reading mode text.now) out.old at result out.new }
+    requires { at + length (headed 1 false lines.now ++ shown_checks reading mode text.now) ≤ length out.old }
+    ensures { WroteAt (headed 1 false lines.now ++ shown_checks reading mode text.now) out.old at result out.new }
 {
     let o = say_steps(lines, out, at);
     show_checks(text, reading, mode, out, o)
@@ -77,8 +77,8 @@ fn show_steps(
     at: usize,
 ) -> usize
     requires b_len { length b.old ≡ 65536 }
-    requires text_in_bounds { at + length (shownSteps reading mode text.now) ≤ length out.old }
-    ensures { WroteAt (shownSteps reading mode text.now) out.old at result out.new }
+    requires text_in_bounds { at + length (shown_steps reading mode text.now) ≤ length out.old }
+    ensures { WroteAt (shown_steps reading mode text.now) out.old at result out.new }
 {
     let written = split(text, b);
     match written {
@@ -98,8 +98,8 @@ fn say_words(word: &[u8], text: &[u8], out: &mut [u8], at: usize) -> usize
 
 // The line of the translation.
 fn say_translation(text: &[u8], out: &mut [u8], at: usize) -> usize
-    requires { at + length (translatedLine text.now) ≤ length out.old }
-    ensures { WroteAt (translatedLine text.now) out.old at result out.new }
+    requires { at + length (translated_line text.now) ≤ length out.old }
+    ensures { WroteAt (translated_line text.now) out.old at result out.new }
 {
     let o = say_words(b"translated: ", text, out, at);
     out[o] = 10;
@@ -116,8 +116,8 @@ fn show_translation(
     at: usize,
 ) -> usize
     requires b_len { length b.old ≡ 65536 }
-    requires text_in_bounds { at + length (translatedLine text.now ++ shownSteps reading mode text.now) ≤ length out.old }
-    ensures { WroteAt (translatedLine text.now ++ shownSteps reading mode text.now) out.old at result out.new }
+    requires text_in_bounds { at + length (translated_line text.now ++ shown_steps reading mode text.now) ≤ length out.old }
+    ensures { WroteAt (translated_line text.now ++ shown_steps reading mode text.now) out.old at result out.new }
 {
     let o = say_translation(text, out, at);
     show_steps(text, reading, mode, b, out, o)

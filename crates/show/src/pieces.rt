@@ -4,7 +4,7 @@ ghost use Rattle.std.specs.Prelude.{◌≡◌, false, ◌++◌, ◌+◌, ◌≤�
 ghost use Rattle.rules.specs.Text.Ascii.{ascii};
 ghost use Rattle.rules.specs.Text.Split.{line};
 ghost use Rattle.text.specs.Wrote.{WroteAt};
-ghost use Rattle.rules.specs.Face.Shown.{counted, refusalText, offsetText, headed};
+ghost use Rattle.rules.specs.Face.Shown.{counted, refusal_text, offset_text, headed};
 
 use numbers::put_digits;
 use text::put;
@@ -27,8 +27,8 @@ pub fn wide(x: u8) -> usize
 
 // A refusal: its number and its place.
 pub fn say_refused(number: u8, place: usize, out: &mut [u8], at: usize) -> usize
-    requires { at + length (refusalText number place) ≤ length out.old }
-    ensures { WroteAt (refusalText number place) out.old at result out.new }
+    requires { at + length (refusal_text number place) ≤ length out.old }
+    ensures { WroteAt (refusal_text number place) out.old at result out.new }
 {
     let n = wide(number);
     let o = say_counted(b"refused ", n, out, at);
@@ -37,8 +37,8 @@ pub fn say_refused(number: u8, place: usize, out: &mut [u8], at: usize) -> usize
 
 // "A refusal ends its output with a line."
 pub fn say_refusal(number: u8, place: usize, out: &mut [u8], at: usize) -> usize
-    requires { at + length (line (refusalText number place)) ≤ length out.old }
-    ensures { WroteAt (line (refusalText number place)) out.old at result out.new }
+    requires { at + length (line (refusal_text number place)) ≤ length out.old }
+    ensures { WroteAt (line (refusal_text number place)) out.old at result out.new }
 {
     let o = say_refused(number, place, out, at);
     out[o] = 10;
@@ -47,8 +47,8 @@ pub fn say_refusal(number: u8, place: usize, out: &mut [u8], at: usize) -> usize
 
 // The refusal that has an offset: its number 12, its place and the offset.
 fn say_faulty(place: usize, offset: usize, out: &mut [u8], at: usize) -> usize
-    requires { at + length (offsetText place offset) ≤ length out.old }
-    ensures { WroteAt (offsetText place offset) out.old at result out.new }
+    requires { at + length (offset_text place offset) ≤ length out.old }
+    ensures { WroteAt (offset_text place offset) out.old at result out.new }
 {
     let o = say_refused(12, place, out, at);
     say_counted(b" ", offset, out, o)
@@ -56,8 +56,8 @@ fn say_faulty(place: usize, offset: usize, out: &mut [u8], at: usize) -> usize
 
 // The same as a line.
 pub fn say_offset(place: usize, offset: usize, out: &mut [u8], at: usize) -> usize
-    requires { at + length (line (offsetText place offset)) ≤ length out.old }
-    ensures { WroteAt (line (offsetText place offset)) out.old at result out.new }
+    requires { at + length (line (offset_text place offset)) ≤ length out.old }
+    ensures { WroteAt (line (offset_text place offset)) out.old at result out.new }
 {
     let o = say_faulty(place, offset, out, at);
     out[o] = 10;

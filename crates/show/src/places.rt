@@ -3,7 +3,7 @@
 ghost use Rattle.std.specs.Prelude.{cond, [], ◌++◌, ◌+◌, ◌≤◌, length};
 ghost use Rattle.rules.specs.Text.Ascii.{ascii};
 ghost use Rattle.text.specs.Wrote.{WroteAt};
-ghost use Rattle.rules.specs.Face.Shown.{signedPlace, twoPlaces, fourPlaces};
+ghost use Rattle.rules.specs.Face.Shown.{signed_place, two_places, four_places};
 
 use crate::pieces::wide;
 use numbers::put_digits;
@@ -25,8 +25,8 @@ fn say_marked(word: &[u8], minus: bool, out: &mut [u8], at: usize) -> usize
 
 // A place with its sign, behind a word.
 fn say_signed(word: &[u8], p: Place, out: &mut [u8], at: usize) -> usize
-    requires { at + length (signedPlace word.now p) ≤ length out.old }
-    ensures { WroteAt (signedPlace word.now p) out.old at result out.new }
+    requires { at + length (signed_place word.now p) ≤ length out.old }
+    ensures { WroteAt (signed_place word.now p) out.old at result out.new }
 {
     let n = wide(p.axis);
     let o = say_marked(word, p.minus, out, at);
@@ -35,8 +35,8 @@ fn say_signed(word: &[u8], p: Place, out: &mut [u8], at: usize) -> usize
 
 // Two places with a comma between, the first behind a word.
 fn say_pair(word: &[u8], p: Place, q: Place, out: &mut [u8], at: usize) -> usize
-    requires { at + length (twoPlaces word.now p q) ≤ length out.old }
-    ensures { WroteAt (twoPlaces word.now p q) out.old at result out.new }
+    requires { at + length (two_places word.now p q) ≤ length out.old }
+    ensures { WroteAt (two_places word.now p q) out.old at result out.new }
 {
     let o = say_signed(word, p, out, at);
     say_signed(b",", q, out, o)
@@ -44,8 +44,8 @@ fn say_pair(word: &[u8], p: Place, q: Place, out: &mut [u8], at: usize) -> usize
 
 // The four places, behind their word.
 fn say_places(places: [Place; 4], out: &mut [u8], at: usize) -> usize
-    requires { at + length (fourPlaces places) ≤ length out.old }
-    ensures { WroteAt (fourPlaces places) out.old at result out.new }
+    requires { at + length (four_places places) ≤ length out.old }
+    ensures { WroteAt (four_places places) out.old at result out.new }
 {
     let a = places[0];
     let b = places[1];
@@ -57,8 +57,8 @@ fn say_places(places: [Place; 4], out: &mut [u8], at: usize) -> usize
 
 // The places, if they are told.
 pub fn say_told(told: bool, places: [Place; 4], out: &mut [u8], at: usize) -> usize
-    requires { at + length (cond told (fourPlaces places) []) ≤ length out.old }
-    ensures { WroteAt (cond told (fourPlaces places) []) out.old at result out.new }
+    requires { at + length (cond told (four_places places) []) ≤ length out.old }
+    ensures { WroteAt (cond told (four_places places) []) out.old at result out.new }
 {
     if told {
         return say_places(places, out, at);

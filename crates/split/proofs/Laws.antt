@@ -4,7 +4,7 @@ use mathlib.Core.Bool.{true}
 use Prim.Native.Nat.{ℕ, ◌*◌, ◌≤◌, ◌<◌}
 use native.Mathlib.Omega.{arith}
 use lib.ListN.{length, take}
-use Rattle.rules.specs.Text.Bytes.{Bytes, inDomain}
+use Rattle.rules.specs.Text.Bytes.{Bytes, in_domain}
 use Rattle.rules.specs.Text.Refusal.{Reply, answers, Writes, Lends}
 use Rattle.rules.specs.Text.Normal.{normal}
 use Rattle.rules.specs.Text.Comments.{stripped}
@@ -16,7 +16,7 @@ use Rattle.laws_text.specs.Sizes.{steps-length}
 pub use Rattle.laws_text.specs.Sizes.{tenfold, tenfold-less}
 use Rattle.text.specs.Wrote.{Holds}
 use Rattle.text.proofs.Wrote.{wrote-front}
-use Rattle.split.specs.Lines.{splitNormal, Lined}
+use Rattle.split.specs.Lines.{split_normal, Lined}
 
 -- ---- the answer
 
@@ -34,7 +34,7 @@ module _ {reply : Reply Bytes} {b : Bytes} where
 
 -- ---- the text on its way
 
-is-split : (t : Bytes) → split t ≡ splitNormal (normal (stripped t))
+is-split : (t : Bytes) → split t ≡ split_normal (normal (stripped t))
 unfolding split steps
 is-split t = refl
 
@@ -42,5 +42,5 @@ module _ (t : Bytes) {a : Bytes} {n : ℕ} (w : Holds (normal (stripped t)) n a)
   pub normal-fits : {x y : ℕ} → 10 * length t < x → y ≡ x → length (take n a) < y
   normal-fits h e = rw (wrote-front w) (omega (arith, steps-length t))
 
-  pub split-so : {out out' : Bytes} {r : Written} → length t ≤ 4096 → inDomain t ≡ true → Lends (splitNormal (take n a)) out r out' → Writes split t out r out'
+  pub split-so : {out out' : Bytes} {r : Written} → length t ≤ 4096 → in_domain t ≡ true → Lends (split_normal (take n a)) out r out' → Writes split t out r out'
   split-so h d v = lends-so h d (is-split t) (rw (wrote-front w) at v)

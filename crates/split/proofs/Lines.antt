@@ -6,7 +6,7 @@ use native.Mathlib.Omega.{arith}
 use lib.ListN.{length, drop}
 use Rattle.rules.specs.Text.Bytes.{Bytes, Words, Steps, words}
 use Rattle.rules.specs.Text.Refusal.{and_then}
-use Rattle.rules.specs.Text.Split.{steps_of, stepText, line}
+use Rattle.rules.specs.Text.Split.{steps_of, step_text, line}
 use Rattle.rules.specs.Text.Reader.{next, part}
 use Rattle.rules.specs.declared.Cursor.{Cursor}
 use Rattle.rules.specs.declared.Found.TheVariants.{Step, End}
@@ -14,7 +14,7 @@ use Rattle.rules.specs.declared.Written.TheVariants as written_is
 use Rattle.laws_text.specs.Walk.{walk_step, walk_end}
 use Rattle.text.specs.Wrote.{Wrote}
 use Rattle.text.proofs.Wrote.{Sofar, sofar-start, sofar-part, sofar-part-room, sofar-end, sofar-length, wrote-front, wrote-fits}
-use Rattle.split.specs.Lines.{lines_of, splitNormal, HasLine, IsLine, Lined}
+use Rattle.split.specs.Lines.{lines_of, split_normal, HasLine, IsLine, Lined}
 use Rattle.split.specs.declared.step.Line.{Line}
 use Rattle.split.specs.declared.step.Line.TheVariants as line-is
 use Rattle.split.proofs.StepsPassed.{Passed, passed_none, passed-many, passed-well, passed-only, passed-next}
@@ -33,7 +33,7 @@ module _ {s dst₀ : Bytes} {at n o : ℕ} {dst : Bytes} (m : Lines s dst₀ at 
   lines-kept = sofar-length m.sofar
 
   -- the walk is at its end
-  pub lines-many : next s at ≡ End → 64 < n → Lined (splitNormal s) (written_is.Refused 8 0) dst
+  pub lines-many : next s at ≡ End → 64 < n → Lined (split_normal s) (written_is.Refused 8 0) dst
   unfolding and_then
   lines-many f h = record { within = omega arith; told = rw (passed-many m.walked f h) }
 
@@ -41,7 +41,7 @@ module _ {s dst₀ : Bytes} {at n o : ℕ} {dst : Bytes} (m : Lines s dst₀ at 
   unfolding flat_map
   lines-done f = sofar-end (subst (λ (ss : Steps). Sofar (lines_of (steps_of s)) (lines_of ss) dst₀ o dst) (walk_end s at f) m.sofar)
 
-  pub lines-all : next s at ≡ End → n ≤ 64 → Lined (splitNormal s) (written_is.Wrote o) dst
+  pub lines-all : next s at ≡ End → n ≤ 64 → Lined (split_normal s) (written_is.Wrote o) dst
   unfolding and_then
   lines-all f h = record {
     within = wrote-fits (lines-done f);
@@ -54,18 +54,18 @@ module _ {s dst₀ : Bytes} {at n o : ℕ} {dst : Bytes} (m : Lines s dst₀ at 
     abbrev here : Words
     here = words (part from to s)
 
-    here-sofar : Sofar (lines_of (steps_of s)) (line (stepText here) ++ lines_of (steps_of (drop then.at s))) dst₀ o dst
+    here-sofar : Sofar (lines_of (steps_of s)) (line (step_text here) ++ lines_of (steps_of (drop then.at s))) dst₀ o dst
     unfolding flat_map
     here-sofar = subst (λ (ss : Steps). Sofar (lines_of (steps_of s)) (lines_of ss) dst₀ o dst) (walk_step s at from to then f) m.sofar
 
-    pub lines-room : o + length (line (stepText here)) ≤ length dst
-    lines-room = sofar-part-room (line (stepText here)) (lines_of (steps_of (drop then.at s))) here-sofar
+    pub lines-room : o + length (line (step_text here)) ≤ length dst
+    lines-room = sofar-part-room (line (step_text here)) (lines_of (steps_of (drop then.at s))) here-sofar
 
-    pub lines-only : {r : Line} {last : Bytes} → IsLine here dst o r last → r ≡ line-is.Modifiers → Lined (splitNormal s) (written_is.Refused 6 (n + 1)) last
+    pub lines-only : {r : Line} {last : Bytes} → IsLine here dst o r last → r ≡ line-is.Modifiers → Lined (split_normal s) (written_is.Refused 6 (n + 1)) last
     unfolding and_then
     lines-only w e = record { within = omega arith; told = rw (passed-only m.walked f (rw e at w)) }
 
     pub lines_more : {r : Line} {end : ℕ} {last : Bytes} → IsLine here dst o r last → r ≡ line-is.To end → Lines s dst₀ then.at (n + 1) end last
     lines_more {r} {end} {last} w e =
         let l : HasLine here dst o end last = rw e at w in
-        record { walked = passed-next m.walked f l.other; sofar = sofar-part (line (stepText here)) here-sofar l.wrote.wrote }
+        record { walked = passed-next m.walked f l.other; sofar = sofar-part (line (step_text here)) here-sofar l.wrote.wrote }

@@ -6,9 +6,9 @@ use mathlib.Core.List.{[], ◌∷◌, ◌++◌, append_assoc}
 use Prim.Native.Nat.{ℕ, ◌+◌, ◌-◌, ◌≤◌, ◌<◌}
 use native.Mathlib.Omega.{arith}
 use lib.ListN.{length, take, drop, set, length-append, length-set}
-use Rattle.rules.specs.Text.Lists.{all_of, nonEmpty}
-use Rattle.rules.specs.Text.Bytes.{Bytes, Words, white, words, afterEach, joinedBy, joined}
-use Rattle.rules.specs.Text.Split.{modifier, leading, following, turned, stepText}
+use Rattle.rules.specs.Text.Lists.{all_of, non_empty}
+use Rattle.rules.specs.Text.Bytes.{Bytes, Words, white, words, after_each, joined_by, joined}
+use Rattle.rules.specs.Text.Split.{modifier, leading, following, turned, step_text}
 use Rattle.text.specs.Wrote.{WroteAt}
 use Rattle.text.proofs.WroteAt.{wrote_nothing, wrote-both, wrote-room, wrote-byte}
 use Rattle.text.specs.Runs.{Lead}
@@ -19,31 +19,31 @@ use Rattle.text.proofs.Lead.{part-from, following-some}
 -- ---- words, each after a space
 
 pub spaced-none : (t : Bytes) → all_of white t ≡ true → spaced (words t) ≡ []
-unfolding afterEach
+unfolding after_each
 spaced-none t e = ap spaced (words-none t e)
 
 pub spaced-some : (t : Bytes) → all_of white t ≡ false → spaced (words t) ≡ (32 ∷ []) ++ joined (words t)
 spaced-some t e = go (words t) (words-blank t ∙ ap not e)
   where
-    go : (ws : Words) → nonEmpty ws ≡ true → spaced ws ≡ (32 ∷ []) ++ joined ws
-    go [] f = unfold nonEmpty in absurd (false≢true f)
-    go (w ∷ ws) f = unfold afterEach joined joinedBy in refl
+    go : (ws : Words) → non_empty ws ≡ true → spaced ws ≡ (32 ∷ []) ++ joined ws
+    go [] f = unfold non_empty in absurd (false≢true f)
+    go (w ∷ ws) f = unfold after_each joined joined_by in refl
 
 -- ---- a step's text
 
 spaced-append : (ws us : Words) → spaced (ws ++ us) ≡ spaced ws ++ spaced us
-unfolding afterEach
+unfolding after_each
 spaced-append [] us = refl
 spaced-append (w ∷ ws) us = ap (λ (r : Bytes). 32 ∷ (w ++ r)) (spaced-append ws us) ∙ ap (λ (r : Bytes). 32 ∷ r) (sym (append_assoc w (spaced ws) (spaced us)))
 
-joined-append : (ws us : Words) → nonEmpty ws ≡ true → joined (ws ++ us) ≡ joined ws ++ spaced us
-unfolding joined joinedBy nonEmpty
+joined-append : (ws us : Words) → non_empty ws ≡ true → joined (ws ++ us) ≡ joined ws ++ spaced us
+unfolding joined joined_by non_empty
 joined-append [] us e = absurd (false≢true e)
 joined-append (w ∷ ws) us e = ap (λ (r : Bytes). w ++ r) (spaced-append ws us) ∙ sym (append_assoc w (spaced ws) (spaced us))
 
 -- by the place where the modifiers in front end
-pub step_is : {s : Bytes} {k : ℕ} → Lead s k → all_of modifier (words s) ≡ false → stepText (words s) ≡ joined (words (drop k s)) ++ spaced (words (take k s))
-unfolding stepText turned
+pub step_is : {s : Bytes} {k : ℕ} → Lead s k → all_of modifier (words s) ≡ false → step_text (words s) ≡ joined (words (drop k s)) ++ spaced (words (take k s))
+unfolding step_text turned
 step_is {s} {k} m e = joined-append (following (words s)) (leading (words s)) (following-some (words s) e) ∙ rw (m.front, m.rest)
 
 -- ---- for the functions, need by need
@@ -74,7 +74,7 @@ front s k = spaced (words (take k s))
 
 -- a step's text
 module _ {s : Bytes} {k : ℕ} (m : Lead s k) (e : all_of modifier (words s) ≡ false) (dst : Bytes) (at : ℕ)
-    (h : at + length (stepText (words s)) ≤ length dst) where
+    (h : at + length (step_text (words s)) ≤ length dst) where
   from-k : behind s k ≡ joined (words (drop k s))
   from-k = ap (λ (u : Bytes). joined (words u)) (part-from s k)
 
@@ -88,7 +88,7 @@ module _ {s : Bytes} {k : ℕ} (m : Lead s k) (e : all_of modifier (words s) ≡
   step-second w = wrote-room (behind s k) (front s k) both-fit w
 
   pub step-done : {o r : ℕ} {dst₁ dst₂ : Bytes} → WroteAt (behind s k) dst at o dst₁
-      → WroteAt (front s k) dst₁ o r dst₂ → WroteAt (stepText (words s)) dst at r dst₂
+      → WroteAt (front s k) dst₁ o r dst₂ → WroteAt (step_text (words s)) dst at r dst₂
   step-done {o} {r} {dst₁} {dst₂} v w =
-      let whole : behind s k ++ front s k ≡ stepText (words s) = ap (λ (x : Bytes). x ++ front s k) from-k ∙ sym (step_is m e) in
+      let whole : behind s k ++ front s k ≡ step_text (words s) = ap (λ (x : Bytes). x ++ front s k) from-k ∙ sym (step_is m e) in
       subst (λ (x : Bytes). WroteAt x dst at r dst₂) whole (wrote-both (behind s k) (front s k) both-fit v w)

@@ -4,7 +4,7 @@ use mathlib.Core.List.{map, flat_map}
 use Rattle.rules.specs.Text.Lists.{all_of}
 use Rattle.rules.specs.Text.Bytes.{Bytes, Words, Steps}
 use Rattle.rules.specs.Text.Refusal.{Reply, answers, refuses, and_then}
-use Rattle.rules.specs.Text.Split.{modifier, steps_of, splitSteps, stepText, line}
+use Rattle.rules.specs.Text.Split.{modifier, steps_of, split_steps, step_text, line}
 use Rattle.rules.specs.declared.Written.{Written}
 use Rattle.rules.specs.declared.Written.TheVariants as written_is
 use Rattle.text.specs.Wrote.{WroteAt}
@@ -13,16 +13,16 @@ use Rattle.split.specs.declared.step.Line.TheVariants as line-is
 
 -- "Steps .. are written each with a newline after it."
 abbrev pub lines_of : Steps → Bytes
-lines_of ss = flat_map line (map stepText ss)
+lines_of ss = flat_map line (map step_text ss)
 
 -- what splitting replies of a normalised text
-abbrev pub splitNormal : Bytes → Reply Bytes
-splitNormal normalised = and_then (splitSteps (steps_of normalised)) (λ texts. answers (flat_map line texts))
+abbrev pub split_normal : Bytes → Reply Bytes
+split_normal normalised = and_then (split_steps (steps_of normalised)) (λ texts. answers (flat_map line texts))
 
 -- a step's line stands in the buffer from `at` on, and the step is not modifiers alone
 pub record HasLine (ws : Words) (dst₀ : Bytes) (at to : ℕ) (dst : Bytes) : Type 0 where
   pub other : all_of modifier ws ≡ false
-  pub wrote : WroteAt (line (stepText ws)) dst₀ at to dst
+  pub wrote : WroteAt (line (step_text ws)) dst₀ at to dst
 
 -- what comes of a step of these words
 abbrev pub IsLine : Words → Bytes → ℕ → Line → Bytes → Type 0
@@ -30,9 +30,9 @@ IsLine ws dst₀ at (line-is.To to) dst = HasLine ws dst₀ at to dst
 IsLine ws dst₀ at line-is.Modifiers dst = all_of modifier ws ≡ true
 
 -- the reply that a buffer and a word on it tell: a refusal, or the answer, which stands in the buffer's first bytes
-abbrev pub toldBy : Written → Bytes → Reply Bytes
-toldBy (written_is.Refused number place) dst = refuses number place
-toldBy (written_is.Wrote m) dst = answers (take m dst)
+abbrev pub told_by : Written → Bytes → Reply Bytes
+told_by (written_is.Refused number place) dst = refuses number place
+told_by (written_is.Wrote m) dst = answers (take m dst)
 
 -- how many of the buffer's bytes are the answer
 abbrev pub count : Written → ℕ
@@ -42,4 +42,4 @@ count (written_is.Wrote m) = m
 -- a reply stands in a buffer
 pub record Lined (reply : Reply Bytes) (r : Written) (dst : Bytes) : Type 0 where
   pub within : count r ≤ length dst
-  pub told : reply ≡ toldBy r dst
+  pub told : reply ≡ told_by r dst

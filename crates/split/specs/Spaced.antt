@@ -1,7 +1,7 @@
 -- Words, as they are written.
 use Rattle.std.specs.Prelude.{[], ◌∷◌}
-use Rattle.rules.specs.Text.Bytes.{Bytes, Words, afterEach}
+use Rattle.rules.specs.Text.Bytes.{Bytes, Words, after_each}
 
 -- each word after a space
 abbrev pub spaced : Words → Bytes
-spaced ws = afterEach (32 ∷ []) ws
+spaced ws = after_each (32 ∷ []) ws

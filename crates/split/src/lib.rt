@@ -2,10 +2,10 @@
 mod step;
 
 ghost use Rattle.std.specs.Prelude.{◌≡◌, true, ◌*◌, ◌<◌, ◌≤◌, length};
-ghost use Rattle.rules.specs.Text.Bytes.{inDomain};
+ghost use Rattle.rules.specs.Text.Bytes.{in_domain};
 ghost use Rattle.rules.specs.Text.Split.{split};
 ghost use Rattle.rules.specs.Text.Refusal.{Writes, Lends};
-ghost use Rattle.split.specs.Lines.{splitNormal, Lined};
+ghost use Rattle.split.specs.Lines.{split_normal, Lined};
 
 use normalise::clean_into;
 use reader::next_from;
@@ -20,7 +20,7 @@ const FEW: usize = 409;
 // alone, and then 8.
 fn lines_of(normal: &[u8], dst: &mut [u8]) -> Written
     requires { length normal.now < length dst.old }
-    ensures { Lined (splitNormal normal.now) result dst.new }
+    ensures { Lined (split_normal normal.now) result dst.new }
 {
     let mut place = 0;
     let mut n = 0;
@@ -53,7 +53,7 @@ fn lines_of(normal: &[u8], dst: &mut [u8]) -> Written
 // Splits a normalised text into out: 6, 8, then 7. The lines are written into b first, and out only gets them whole.
 fn steps_out(normal: &[u8], out: &mut [u8], b: &mut [u8]) -> Written
     requires { length normal.now < length b.old }
-    ensures { Lends (splitNormal normal.now) out.old result out.new }
+    ensures { Lends (split_normal normal.now) out.old result out.new }
 {
     let lined = lines_of(normal, b);
     match lined {
@@ -68,7 +68,7 @@ fn steps_out(normal: &[u8], out: &mut [u8], b: &mut [u8]) -> Written
 // The answer for a text that is neither too long nor outside the domain; a, b and c are room to work in.
 fn answer(text: &[u8], out: &mut [u8], a: &mut [u8], b: &mut [u8], c: &mut [u8]) -> Written
     requires text_len_bound { length text.now ≤ 4096 }
-    requires text_value { inDomain text.now ≡ true }
+    requires text_value { in_domain text.now ≡ true }
     requires text_in_bounds { 10 * length text.now ≤ length a.old }
     requires text_in_bounds_2 { 10 * length text.now < length b.old }
     requires text_in_bounds_3 { 10 * length text.now < length c.old }
@@ -81,7 +81,7 @@ fn answer(text: &[u8], out: &mut [u8], a: &mut [u8], b: &mut [u8], c: &mut [u8])
 // The answer for a short text, over small buffers of its own: to clear large ones would cost more than the rest.
 fn short(text: &[u8], out: &mut [u8]) -> Written
     requires text_len_bound { length text.now ≤ 409 }
-    requires text_value { inDomain text.now ≡ true }
+    requires text_value { in_domain text.now ≡ true }
     ensures { Writes split text.now out.old result out.new }
 {
     let mut a = [0u8; 4096];
@@ -93,7 +93,7 @@ fn short(text: &[u8], out: &mut [u8]) -> Written
 // The answer for any text, over buffers for the longest.
 fn long(text: &[u8], out: &mut [u8]) -> Written
     requires text_len_bound { length text.now ≤ 4096 }
-    requires text_value { inDomain text.now ≡ true }
+    requires text_value { in_domain text.now ≡ true }
     ensures { Writes split text.now out.old result out.new }
 {
     let mut a = [0u8; 40960];

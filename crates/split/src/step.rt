@@ -3,7 +3,7 @@
 ghost use Rattle.std.specs.Prelude.{◌≡◌, false, ◌+◌, ◌≤◌, length};
 ghost use Rattle.rules.specs.Text.Lists.{all_of};
 ghost use Rattle.rules.specs.Text.Bytes.{words, joined};
-ghost use Rattle.rules.specs.Text.Split.{modifier, stepText, line};
+ghost use Rattle.rules.specs.Text.Split.{modifier, step_text, line};
 ghost use Rattle.text.specs.Runs.{Lead};
 ghost use Rattle.text.specs.Wrote.{WroteAt};
 ghost use Rattle.split.specs.Lines.{IsLine};
@@ -43,8 +43,8 @@ fn more_words_at(src: &[u8], dst: &mut [u8], at: usize) -> usize
 fn step_at(step: &[u8], lead: usize, dst: &mut [u8], at: usize) -> usize
     requires lead { Lead step.now lead }
     requires step_value { all_of modifier (words step.now) ≡ false }
-    requires step_in_bounds { at + length (stepText (words step.now)) ≤ length dst.old }
-    ensures { WroteAt (stepText (words step.now)) dst.old at result dst.new }
+    requires step_in_bounds { at + length (step_text (words step.now)) ≤ length dst.old }
+    ensures { WroteAt (step_text (words step.now)) dst.old at result dst.new }
 {
     let o = words_at(&step[lead..], dst, at);
     more_words_at(&step[..lead], dst, o)
@@ -53,7 +53,7 @@ fn step_at(step: &[u8], lead: usize, dst: &mut [u8], at: usize) -> usize
 // Writes a step's line into dst from at, unless nothing but white space stands behind the modifiers in front: they are looked for
 // once.
 pub fn line_at(step: &[u8], dst: &mut [u8], at: usize) -> Line
-    requires { at + length (line (stepText (words step.now))) ≤ length dst.old }
+    requires { at + length (line (step_text (words step.now))) ≤ length dst.old }
     ensures { IsLine (words step.now) dst.old at result dst.new }
 {
     let lead = lead_end(step);

@@ -6,21 +6,21 @@ use native.Mathlib.Omega.{arith}
 use lib.ListN.{length}
 use lib.IntN.{ℤ}
 use lib.Ieee.{Float}
-use Rattle.rules.specs.Operators.Acts.{pops, popsAll, flips, rolls}
+use Rattle.rules.specs.Operators.Acts.{pops, pops_all, flips, rolls}
 use Rattle.rules.specs.Operators.Arguments.{places}
 use Rattle.rules.specs.Pipeline.Columns.{moved, takes}
 use Rattle.rules.specs.Pipeline.Tuples.{tuples, starved}
 use Rattle.rules.specs.declared.Coord.{Coord}
-use Rattle.laws_steps.specs.Depth.{depthAfter}
+use Rattle.laws_steps.specs.Depth.{depth_after}
 use Rattle.laws_steps.specs.PlacesOf.{places-length}
-use Rattle.columns.specs.Coords.{noTuple}
+use Rattle.columns.specs.Coords.{no_tuple}
 use Rattle.columns.specs.Machine.{Acted}
 use Rattle.columns.proofs.Acted.{acted-so, enough-so, stomped-so}
 
-module _ (d : ℕ) (xs s xs' : List Float) (len : length xs' ≡ length xs) (h : tuples xs' ≡ map (λ (_ : Coord). noTuple) (tuples xs)) where
-  pub pop-all-few : (l : List ℤ) → d < length l → Acted (popsAll (places l)) d xs s xs' s
+module _ (d : ℕ) (xs s xs' : List Float) (len : length xs' ≡ length xs) (h : tuples xs' ≡ map (λ (_ : Coord). no_tuple) (tuples xs)) where
+  pub pop-all-few : (l : List ℤ) → d < length l → Acted (pops_all (places l)) d xs s xs' s
   unfolding takes starved
-  pop-all-few l few = stomped-so (popsAll (places l)) d xs s xs' (omega (arith, places-length l)) refl len h
+  pop-all-few l few = stomped-so (pops_all (places l)) d xs s xs' (omega (arith, places-length l)) refl len h
 
   pub flip-few : (l : List ℤ) → d < length l → Acted (flips (places l)) d xs s xs' s
   unfolding takes starved
@@ -31,11 +31,11 @@ module _ (d : ℕ) (xs s xs' : List Float) (len : length xs' ≡ length xs) (h :
   roll-few m n few = stomped-so (rolls m n) d xs s xs' few refl len h
 
 -- a pop that finds enough columns
-pub pop-all-acted : (l : List ℤ) (d : ℕ) (xs s xs' s' : List Float) → length l ≤ d → Acted (pops (places l)) d xs s xs' s' → Acted (popsAll (places l)) d xs s xs' s'
+pub pop-all-acted : (l : List ℤ) (d : ℕ) (xs s xs' s' : List Float) → length l ≤ d → Acted (pops (places l)) d xs s xs' s' → Acted (pops_all (places l)) d xs s xs' s'
 unfolding takes moved
 pop-all-acted l d xs s xs' s' enough h =
-    acted-so (popsAll (places l)) d xs s (depthAfter (pops (places l)) d) xs' s'
+    acted-so (pops_all (places l)) d xs s (depth_after (pops (places l)) d) xs' s'
     (h.machine
     ∙ enough-so (pops (places l)) d xs s (omega (arith, places-length l))
-    ∙ sym (enough-so (popsAll (places l)) d xs s (omega (arith, places-length l))))
+    ∙ sym (enough-so (pops_all (places l)) d xs s (omega (arith, places-length l))))
     h.beyond

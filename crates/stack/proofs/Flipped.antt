@@ -13,11 +13,11 @@ use lib.Ieee.{Float, nan}
 use Rattle.rules.specs.Operators.Arguments.{size, places}
 use Rattle.rules.specs.Operators.Acts.{flips}
 use Rattle.rules.specs.Pipeline.Columns.{flipped, topped, moved, takes}
-use Rattle.rules.specs.Pipeline.Tuples.{State, tuples, column, stored, onNumbers}
+use Rattle.rules.specs.Pipeline.Tuples.{State, tuples, column, stored, on_numbers}
 use Rattle.rules.specs.declared.Coord.{Coord}
 use Rattle.laws_steps.specs.PlacesOf.{places-length, places-many, places-more}
 use Rattle.laws_steps.specs.Walk.{flipped-more}
-use Rattle.columns.specs.Stores.{col, columnsOf, held, Stacked}
+use Rattle.columns.specs.Stores.{col, columns_of, held, Stacked}
 use Rattle.columns.specs.Machine.{Acted}
 use Rattle.columns.proofs.Acted.{acted-so, enough-so}
 use Rattle.columns.proofs.InStore.{under, drop-same, columns-length, columns-at, columns-are, put-own, put-else, put-after}
@@ -25,25 +25,25 @@ use Rattle.columns.proofs.InStore.{under, drop-same, columns-length, columns-at,
 -- ---- one of the columns stored anew
 
 columns-put : (n d j : ℕ) (s s' v : List Float) → s' ≡ paste s ((d - 1 - j) * n) v n → j < d → (d - 1 - j) * n + n ≤ length s → d * n ≤ length s → length v ≡ n → length s' ≡ length s
-    → columnsOf n d s' ≡ set (columnsOf n d s) j v
+    → columns_of n d s' ≡ set (columns_of n d s) j v
 columns-put n d j s s' v e h fits room long len =
-    columns-are n d s' (set (columnsOf n d s) j v) (length-set (columnsOf n d s) j v ∙ columns-length n d s) (λ i b. go i b (eqb i j) refl)
+    columns-are n d s' (set (columns_of n d s) j v) (length-set (columns_of n d s) j v ∙ columns-length n d s) (λ i b. go i b (eqb i j) refl)
   where
     q : ℕ
     q = d - 1 - j
 
-    go : (i : ℕ) → i < d → (b : Bool) → eqb i j ≡ b → col n (d - 1 - i) s' ≡ get_or (set (columnsOf n d s) j v) i []
+    go : (i : ℕ) → i < d → (b : Bool) → eqb i j ≡ b → col n (d - 1 - i) s' ≡ get_or (set (columns_of n d s) j v) i []
     go i b true f =
         let same : i ≡ j = eqb-true i j f in
         ap (λ (z : ℕ). col n (d - 1 - z) s') same
         ∙ put-own n q s s' v e fits long len
-        ∙ sym (get_or-set_same (columnsOf n d s) j v [] (omega (arith, columns-length n d s)))
-        ∙ ap (λ (z : ℕ). get_or (set (columnsOf n d s) j v) z []) (sym same)
+        ∙ sym (get_or-set_same (columns_of n d s) j v [] (omega (arith, columns-length n d s)))
+        ∙ ap (λ (z : ℕ). get_or (set (columns_of n d s) j v) z []) (sym same)
     go i b false f =
         let differ : i ≡ j → ⊥ = eqb-false i j f in
         put-else n q s s' v e fits long len (d - 1 - i) (apart differ) (omega (arith, under (d - 1 - i) d n (omega arith)))
         ∙ sym (columns-at n d i s b)
-        ∙ sym (get_or-set_other (columnsOf n d s) j i v [] differ)
+        ∙ sym (get_or-set_other (columns_of n d s) j i v [] differ)
       where
         apart : (i ≡ j → ⊥) → d - 1 - i ≡ q → ⊥
         apart x y = x (omega arith)
@@ -52,14 +52,14 @@ columns-put n d j s s' v e h fits room long len =
 
 -- j places have been exchanged
 pub record Flipping (n d : ℕ) (l : List ℤ) (ts₀ : List Coord) (s₀ : List Float) (ts : List Coord) (s : List Float) (j : ℕ) : Type 0 where
-  pub tuples : ts ≡ (flipped onNumbers (places (take j l)) ts₀ (columnsOf n d s₀)).tuples
-  pub here : columnsOf n d s ≡ (flipped onNumbers (places (take j l)) ts₀ (columnsOf n d s₀)).columns
+  pub tuples : ts ≡ (flipped on_numbers (places (take j l)) ts₀ (columns_of n d s₀)).tuples
+  pub here : columns_of n d s ≡ (flipped on_numbers (places (take j l)) ts₀ (columns_of n d s₀)).columns
   pub beyond : (i : ℕ) → d * n ≤ i → get_or s i nan ≡ get_or s₀ i nan
   pub same_length : length s ≡ length s₀
   pub upto : j ≤ length l
 
 -- the columns below the places are as they were
-flip-below : (is : List ℕ) (ts : List Coord) (l : List (List Float)) → get_or (flipped onNumbers is ts l).columns (length is) [] ≡ get_or l (length is) []
+flip-below : (is : List ℕ) (ts : List Coord) (l : List (List Float)) → get_or (flipped on_numbers is ts l).columns (length is) [] ≡ get_or l (length is) []
 unfolding flipped topped
 flip-below [] ts l = refl
 flip-below (i ∷ is) ts [] = refl
@@ -78,19 +78,19 @@ module _ (n d : ℕ) (l : List ℤ) (ts₀ : List Coord) (s₀ : List Float) whe
   flip-turn ts ts' s s' j r inv h deep many room er len et es =
       let i = size (get_or l j (pos 0)) in
       let is = places (take j l) in
-      let c₀ = columnsOf n d s₀ in
-      let f = flipped onNumbers is ts₀ c₀ in
+      let c₀ = columns_of n d s₀ in
+      let f = flipped on_numbers is ts₀ c₀ in
       let q = d - 1 - j in
       let v = column r ts in
       let long : length v ≡ n = length-map ts _ ∙ many in
       let fits : q * n + n ≤ length s = omega (arith, under q d n (omega arith), inv.same_length) in
       let count : length is ≡ j = places-many l j (omega arith) in
-      let whole : flipped onNumbers (places (take (j + 1) l)) ts₀ c₀
+      let whole : flipped on_numbers (places (take (j + 1) l)) ts₀ c₀
       ≡ record { tuples = stored i (get_or c₀ (length is) []) f.tuples; columns = set f.columns (length is) (column i f.tuples) } =
-      ap (λ (z : List ℕ). flipped onNumbers z ts₀ c₀) (places-more l j h) ∙ flipped-more onNumbers is i [] ts₀ c₀ (omega (arith, columns-length n d s₀)) in
+      ap (λ (z : List ℕ). flipped on_numbers z ts₀ c₀) (places-more l j h) ∙ flipped-more on_numbers is i [] ts₀ c₀ (omega (arith, columns-length n d s₀)) in
       let was : col n q s ≡ get_or c₀ (length is) [] =
       sym (columns-at n d j s (omega arith)) ∙ ap (λ (z : List (List Float)). get_or z j []) inv.here ∙ ap (λ (z : ℕ). get_or f.columns z []) (sym count) ∙ flip-below is ts₀ c₀ in
-      let now : columnsOf n d s' ≡ set (columnsOf n d s) j v = columns-put n d j s s' v es (omega arith) fits (omega (arith, inv.same_length)) long len in
+      let now : columns_of n d s' ≡ set (columns_of n d s) j v = columns-put n d j s s' v es (omega arith) fits (omega (arith, inv.same_length)) long len in
       record {
         tuples =
             et
@@ -107,24 +107,24 @@ module _ (n d : ℕ) (l : List ℤ) (ts₀ : List Coord) (s₀ : List Float) whe
       }
 
   pub flip-end : (ts : List Coord) (s : List Float) (j : ℕ) → Flipping n d l ts₀ s₀ ts s j → length l ≤ j
-      → (ts ≡ (flipped onNumbers (places l) ts₀ (columnsOf n d s₀)).tuples) × Stacked n d (flipped onNumbers (places l) ts₀ (columnsOf n d s₀)).columns s₀ s
+      → (ts ≡ (flipped on_numbers (places l) ts₀ (columns_of n d s₀)).tuples) × Stacked n d (flipped on_numbers (places l) ts₀ (columns_of n d s₀)).columns s₀ s
   flip-end ts s j inv h =
       let e : take j l ≡ l = take_all j l h in (
-        inv.tuples ∙ ap (λ (z : List ℤ). (flipped onNumbers (places z) ts₀ (columnsOf n d s₀)).tuples) e,
+        inv.tuples ∙ ap (λ (z : List ℤ). (flipped on_numbers (places z) ts₀ (columns_of n d s₀)).tuples) e,
         record {
-          columns = inv.here ∙ ap (λ (z : List ℤ). (flipped onNumbers (places z) ts₀ (columnsOf n d s₀)).columns) e;
+          columns = inv.here ∙ ap (λ (z : List ℤ). (flipped on_numbers (places z) ts₀ (columns_of n d s₀)).columns) e;
           beyond = drop-same (d * n) s₀ s inv.same_length inv.beyond;
         },
       )
 
 -- ---- the act
 
-pub flip-acted : (l : List ℤ) (d : ℕ) (xs s xs' s' : List Float) → length l ≤ d → length xs' ≡ length xs → tuples xs' ≡ (flipped onNumbers (places l) (tuples xs) (columnsOf (length xs / 4) d s)).tuples
-    → Stacked (length xs / 4) d (flipped onNumbers (places l) (tuples xs) (columnsOf (length xs / 4) d s)).columns s s' → Acted (flips (places l)) d xs s xs' s'
+pub flip-acted : (l : List ℤ) (d : ℕ) (xs s xs' s' : List Float) → length l ≤ d → length xs' ≡ length xs → tuples xs' ≡ (flipped on_numbers (places l) (tuples xs) (columns_of (length xs / 4) d s)).tuples
+    → Stacked (length xs / 4) d (flipped on_numbers (places l) (tuples xs) (columns_of (length xs / 4) d s)).columns s s' → Acted (flips (places l)) d xs s xs' s'
 unfolding held moved takes
 flip-acted l d xs s xs' s' deep len h k =
     let same : max d d ≡ d = omega arith in
-    let all = ap (λ (z : ℕ). columnsOf (z / 4) d s') len ∙ k.columns in
+    let all = ap (λ (z : ℕ). columns_of (z / 4) d s') len ∙ k.columns in
     acted-so (flips (places l)) d xs s d xs' s'
     ((λ i. record { tuples = h i; columns = all i }) ∙ sym (enough-so (flips (places l)) d xs s (omega (arith, places-length l))))
     (subst (λ (e : ℕ). drop (e * (length xs / 4)) s' ≡ drop (e * (length xs / 4)) s) (sym same) k.beyond)

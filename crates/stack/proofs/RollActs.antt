@@ -9,8 +9,8 @@ use lib.IntN.{ℤ}
 use Rattle.rules.specs.Text.Decimal.{minus}
 use Rattle.rules.specs.Text.Lists.{all_of}
 use Rattle.rules.specs.Operators.Arguments.{size, arg}
-use Rattle.rules.specs.Operators.Stack.{isRoll, rolling, unrolling}
-use Rattle.rules.specs.Pipeline.Record.{nineDigits}
+use Rattle.rules.specs.Operators.Stack.{is_roll, rolling, unrolling}
+use Rattle.rules.specs.Pipeline.Record.{nine_digits}
 use Rattle.laws_lists.specs.Tests.{so, and_left, and_right}
 use lib.Dec.{leb, eqb, leb→le, ltb→lt, eqb→eq}
 use lib.ListN.{length}
@@ -37,13 +37,13 @@ module _ (x y : ℤ) {m n : ℕ} (l : List ℤ) (p : m ≡ size x) (q : n ≡ si
 
 -- ---- the arguments of a roll
 
-first-digits : (l : List ℤ) → all_of nineDigits l ≡ true → size (arg 1 l) ≤ 999999999
-unfolding all_of nineDigits arg
+first-digits : (l : List ℤ) → all_of nine_digits l ≡ true → size (arg 1 l) ≤ 999999999
+unfolding all_of nine_digits arg
 first-digits [] e = omega arith
 first-digits (x ∷ l) e = leb→le _ _ (so (and_left (leb (size x) 999999999) _ e))
 
-pub roll-made : (l : List ℤ) → all_of nineDigits l ≡ true → isRoll l ≡ true → Roll l
-unfolding isRoll
+pub roll-made : (l : List ℤ) → all_of nine_digits l ≡ true → is_roll l ≡ true → Roll l
+unfolding is_roll
 roll-made l d e =
     let rest = and_right (eqb (length l) 2) _ e in
     record {

@@ -13,8 +13,8 @@ use Rattle.rules.specs.Operators.Acts.{rolls}
 use Rattle.rules.specs.Pipeline.Columns as columns
 use Rattle.rules.specs.Pipeline.Columns.{rolled, takes}
 use Rattle.rules.specs.Pipeline.Tuples.{tuples}
-use Rattle.laws_steps.specs.Rolls.{turnedTop, top-length, rolled-is}
-use Rattle.columns.specs.Stores.{col, columnsOf, held, Stacked, Reversed}
+use Rattle.laws_steps.specs.Rolls.{turned_top, top-length, rolled-is}
+use Rattle.columns.specs.Stores.{col, columns_of, held, Stacked, Reversed}
 use Rattle.columns.specs.Machine.{Acted}
 use Rattle.columns.proofs.Acted.{acted-so, enough-so}
 use Rattle.columns.proofs.InStore.{under, not-over, drop-same, col-same, columns-length, columns-at, columns-are}
@@ -24,12 +24,12 @@ use Rattle.stack.proofs.FullTurns.{turned-alike}
 -- ---- three times turned round
 
 -- where the column comes from that stands at j after a roll of the top w, r times
-turnedPlace : ℕ → ℕ → ℕ → ℕ
-turnedPlace j r w = cond (ltb (j + r) w) (j + r) (j + r - w)
+turned_place : ℕ → ℕ → ℕ → ℕ
+turned_place j r w = cond (ltb (j + r) w) (j + r) (j + r - w)
 
 module _ {A : Type 0} where
-  top-at : (w r j : ℕ) (l : List A) (d : A) → r ≤ w → w ≤ length l → j < w → get_or (turnedTop w r l) j d ≡ get_or l (turnedPlace j r w) d
-  unfolding turnedTop turnedPlace
+  top-at : (w r j : ℕ) (l : List A) (d : A) → r ≤ w → w ≤ length l → j < w → get_or (turned_top w r l) j d ≡ get_or l (turned_place j r w) d
+  unfolding turned_top turned_place
   top-at w r j l d h b g = go (ltb (j + r) w) refl
     where
       Y : List A
@@ -115,8 +115,8 @@ module _ (n d w r : ℕ) (s₀ s₁ s₂ s₃ : List Float) (h : r ≤ w) (deep 
       col-same n q q s₃ s₂ (omega arith) (omega arith) (λ k l. three.below (q * n + k) (omega arith))
 
   -- a column of the top w
-  top-col : (j : ℕ) → j < w → col n (d - 1 - j) s₃ ≡ col n (d - 1 - turnedPlace j r w) s₀
-  unfolding turnedPlace
+  top-col : (j : ℕ) → j < w → col n (d - 1 - j) s₃ ≡ col n (d - 1 - turned_place j r w) s₀
+  unfolding turned_place
   top-col j b = three.inside (d - 1 - j) (omega arith) (omega arith) ∙ ap (λ (q : ℕ). col n q s₂) mirror ∙ go (ltb (j + r) w) refl
     where
       mirror : d - w + d - 1 - (d - 1 - j) ≡ d - w + j
@@ -132,15 +132,15 @@ module _ (n d w r : ℕ) (s₀ s₁ s₂ s₃ : List Float) (h : r ≤ w) (deep 
           let m : d - r + d - 1 - (d - w + j) ≡ d - 1 - (j + r - w) = turned d w r j h deep b f in
           above-two (d - w + j) (goes-high d w r j h deep f) (within d w j deep b) ∙ one.inside (d - w + j) (goes-high d w r j h deep f) (within d w j deep b) ∙ ap (λ (q : ℕ). col n q s₀) m
 
-  place-below : (j : ℕ) → j < w → turnedPlace j r w < d
-  unfolding turnedPlace
+  place-below : (j : ℕ) → j < w → turned_place j r w < d
+  unfolding turned_place
   place-below j b = place (ltb (j + r) w) refl
     where
       place : (t : Bool) → ltb (j + r) w ≡ t → cond t (j + r) (j + r - w) < d
       place true e = omega (arith, ltb-true (j + r) w e)
       place false e = omega arith
 
-  pub roll-end : Stacked n d (rolled w r (columnsOf n d s₀)) s₀ s₃
+  pub roll-end : Stacked n d (rolled w r (columns_of n d s₀)) s₀ s₃
   roll-end =
       record {
         columns = columns-are n d s₃ (rolled w r c₀) (ap length is ∙ long) (λ j b. go j b (ltb j w) refl);
@@ -150,22 +150,22 @@ module _ (n d w r : ℕ) (s₀ s₁ s₂ s₃ : List Float) (h : r ≤ w) (deep 
       }
     where
       c₀ : List (List Float)
-      c₀ = columnsOf n d s₀
+      c₀ = columns_of n d s₀
 
       many : length c₀ ≡ d
       many = columns-length n d s₀
 
-      is : rolled w r c₀ ≡ turnedTop w r c₀ ++ drop w c₀
+      is : rolled w r c₀ ≡ turned_top w r c₀ ++ drop w c₀
       is = rolled-is w r c₀ h (omega (arith, many))
 
-      top : length (turnedTop w r c₀) ≡ w
+      top : length (turned_top w r c₀) ≡ w
       top = top-length w r c₀ h (omega (arith, many))
 
-      long : length (turnedTop w r c₀ ++ drop w c₀) ≡ d
-      long = length-append (turnedTop w r c₀) (drop w c₀) ∙ omega (arith, top, length-drop w c₀, many)
+      long : length (turned_top w r c₀ ++ drop w c₀) ≡ d
+      long = length-append (turned_top w r c₀) (drop w c₀) ∙ omega (arith, top, length-drop w c₀, many)
 
-      turned-below : (j : ℕ) → turnedPlace j r w < d → j < w → col n (d - 1 - turnedPlace j r w) s₀ ≡ get_or c₀ (turnedPlace j r w) []
-      turned-below j b l = sym (columns-at n d (turnedPlace j r w) s₀ b)
+      turned-below : (j : ℕ) → turned_place j r w < d → j < w → col n (d - 1 - turned_place j r w) s₀ ≡ get_or c₀ (turned_place j r w) []
+      turned-below j b l = sym (columns-at n d (turned_place j r w) s₀ b)
 
       go : (j : ℕ) → j < d → (t : Bool) → ltb j w ≡ t → col n (d - 1 - j) s₃ ≡ get_or (rolled w r c₀) j []
       go j b true e =
@@ -173,12 +173,12 @@ module _ (n d w r : ℕ) (s₀ s₁ s₂ s₃ : List Float) (h : r ≤ w) (deep 
           top-col j l
           ∙ turned-below j (place-below j l) l
           ∙ sym (top-at w r j c₀ [] h (omega (arith, many)) l)
-          ∙ sym (get_or-append (turnedTop w r c₀) (drop w c₀) [] j (omega (arith, top)))
+          ∙ sym (get_or-append (turned_top w r c₀) (drop w c₀) [] j (omega (arith, top)))
           ∙ ap (λ (z : List (List Float)). get_or z j []) (sym is)
       go j b false e =
           let l = ltb-false j w e in
           let low : d - 1 - j < d - w = omega arith in
-          let m : j ≡ length (turnedTop w r c₀) + (j - w) = omega (arith, top) in
+          let m : j ≡ length (turned_top w r c₀) + (j - w) = omega (arith, top) in
           let back : w + (j - w) ≡ j = omega arith in
           below-three (d - 1 - j) low
           ∙ below_two (d - 1 - j) low
@@ -186,18 +186,18 @@ module _ (n d w r : ℕ) (s₀ s₁ s₂ s₃ : List Float) (h : r ≤ w) (deep 
           ∙ sym (columns-at n d j s₀ b)
           ∙ ap (λ (z : ℕ). get_or c₀ z []) (sym back)
           ∙ sym (get_or-drop w c₀ (j - w) [])
-          ∙ sym (get_or-append-add (turnedTop w r c₀) (drop w c₀) (j - w) [])
-          ∙ ap (λ (z : ℕ). get_or (turnedTop w r c₀ ++ drop w c₀) z []) (sym m)
+          ∙ sym (get_or-append-add (turned_top w r c₀) (drop w c₀) (j - w) [])
+          ∙ ap (λ (z : ℕ). get_or (turned_top w r c₀ ++ drop w c₀) z []) (sym m)
           ∙ ap (λ (z : List (List Float)). get_or z j []) (sym is)
 
 -- ---- the act
 
-pub roll-acted : (w n r d : ℕ) (xs s s' : List Float) → w ≤ d → Turns w n r → Stacked (length xs / 4) d (rolled w r (columnsOf (length xs / 4) d s)) s s' → Acted (rolls w n) d xs s xs s'
+pub roll-acted : (w n r d : ℕ) (xs s s' : List Float) → w ≤ d → Turns w n r → Stacked (length xs / 4) d (rolled w r (columns_of (length xs / 4) d s)) s s' → Acted (rolls w n) d xs s xs s'
 unfolding held columns.moved takes
 roll-acted w n r d xs s s' deep t h =
     let same : max d d ≡ d = omega arith in
-    let many : length (columnsOf (length xs / 4) d s) ≡ d = columns-length (length xs / 4) d s in
-    let all = h.columns ∙ sym (turned-alike w n r (columnsOf (length xs / 4) d s) (omega (arith, many)) t) in
+    let many : length (columns_of (length xs / 4) d s) ≡ d = columns-length (length xs / 4) d s in
+    let all = h.columns ∙ sym (turned-alike w n r (columns_of (length xs / 4) d s) (omega (arith, many)) t) in
     acted-so (rolls w n) d xs s d xs s'
     ((λ i. record { tuples = tuples xs; columns = all i }) ∙ sym (enough-so (rolls w n) d xs s deep))
     (subst (λ (e : ℕ). drop (e * (length xs / 4)) s' ≡ drop (e * (length xs / 4)) s) (sym same) h.beyond)

@@ -9,15 +9,15 @@ use lib.IntN.{ℤ}
 use lib.ListN.{length}
 use borrow.Author.Tests.{le-leb}
 use Rattle.rules.specs.Text.Lists.{all_of}
-use Rattle.rules.specs.Operators.Arguments.{isPlace}
-use Rattle.rules.specs.Operators.Stack.{isPlaces}
+use Rattle.rules.specs.Operators.Arguments.{is_place}
+use Rattle.rules.specs.Operators.Stack.{is_places}
 use Rattle.laws_lists.specs.Tests.{and_right}
 
-pub places-so : (l : List ℤ) → (length l ≡ 0 → ⊥) → all_of isPlace l ≡ isPlaces l
-unfolding isPlaces
+pub places-so : (l : List ℤ) → (length l ≡ 0 → ⊥) → all_of is_place l ≡ is_places l
+unfolding is_places
 places-so [] n = absurd (n refl)
 places-so (x ∷ l) n = rw (le-leb 1 (suc (length l)) (omega arith)) refl
 
-pub some-places : (l : List ℤ) → isPlaces l ≡ true → all_of isPlace l ≡ true
-unfolding isPlaces
+pub some-places : (l : List ℤ) → is_places l ≡ true → all_of is_place l ≡ true
+unfolding is_places
 some-places l e = and_right (leb 1 (length l)) _ e

@@ -10,7 +10,7 @@ use lib.Seq.{drop-drop, drop-set-lt, drop-set-add, get_or-drop, take_all}
 use Rattle.rules.specs.Operators.Arguments.{size, places}
 use Rattle.rules.specs.Operators.Acts.{flips}
 use Rattle.rules.specs.Pipeline.Columns.{Machine, moved, flipped}
-use Rattle.rules.specs.Pipeline.Check.{noPlace, place, putPlace, onPlaces}
+use Rattle.rules.specs.Pipeline.Check.{no_place, place, put_place, on_places}
 use Rattle.rules.specs.declared.Place.{Place}
 use Rattle.laws_steps.specs.PlacesOf.{places-many, places-more}
 use Rattle.laws_steps.specs.Walk.{flipped-more}
@@ -24,7 +24,7 @@ pub record Flipping (tuple₀ columns₀ : List Place) (top : ℕ) (l : List ℤ
   pub most : length columns ≡ 64
   pub ahead : i ≤ length l
   pub untouched : drop (top + i) columns ≡ drop (top + i) columns₀
-  pub same : record { tuples = tuple; columns = drop top columns } ≡ flipped onPlaces (places (take i l)) tuple₀ (drop top columns₀)
+  pub same : record { tuples = tuple; columns = drop top columns } ≡ flipped on_places (places (take i l)) tuple₀ (drop top columns₀)
 
 pub flip-none : (tuple columns : List Place) (top : ℕ) (l : List ℤ) → length tuple ≡ 4 → length columns ≡ 64 → Flipping tuple columns top l tuple columns 0
 unfolding flipped places
@@ -32,21 +32,21 @@ flip-none tuple columns top l e f = record { four = e; most = f; ahead = omega a
 
 pub flip-turn : {tuple₀ columns₀ tuple columns : List Place} {top i k : ℕ} {l : List ℤ} → Flipping tuple₀ columns₀ top l tuple columns i
     → i < length l → top + length l ≤ 64 → length columns₀ ≡ 64 → AxisAt l i k
-    → Flipping tuple₀ columns₀ top l (set tuple k (get_or columns (top + i) noPlace)) (set columns (top + i) (get_or tuple k noPlace)) (i + 1)
+    → Flipping tuple₀ columns₀ top l (set tuple k (get_or columns (top + i) no_place)) (set columns (top + i) (get_or tuple k no_place)) (i + 1)
 unfolding flipped
 flip-turn {tuple₀} {columns₀} {tuple} {columns} {top} {i} {k} {l} p h room most a =
-    let v = get_or columns (top + i) noPlace in
-    let x = get_or tuple k noPlace in
+    let v = get_or columns (top + i) no_place in
+    let x = get_or tuple k no_place in
     let is = places (take i l) in
     let j = size (get_or l i (pos 0)) in
-    let m = flipped onPlaces is tuple₀ (drop top columns₀) in
+    let m = flipped on_places is tuple₀ (drop top columns₀) in
     let so-many : length is ≡ i = places-many l i p.ahead in
     let deep : length is < length (drop top columns₀) = rw (length-drop, so-many, most) (omega (arith, h, room)) in
-    let old : v ≡ get_or (drop top columns₀) i noPlace =
-    first columns (top + i) noPlace
-    ∙ ap (λ (r : List Place). get_or r 0 noPlace) p.untouched
-    ∙ sym (first columns₀ (top + i) noPlace)
-    ∙ sym (get_or-drop top columns₀ i noPlace) in
+    let old : v ≡ get_or (drop top columns₀) i no_place =
+    first columns (top + i) no_place
+    ∙ ap (λ (r : List Place). get_or r 0 no_place) p.untouched
+    ∙ sym (first columns₀ (top + i) no_place)
+    ∙ sym (get_or-drop top columns₀ i no_place) in
     record {
       four = length-set tuple k v ∙ p.four;
       most = length-set columns (top + i) x ∙ p.most;
@@ -58,15 +58,15 @@ flip-turn {tuple₀} {columns₀} {tuple} {columns} {top} {i} {k} {l} p h room m
           ∙ sym (further columns₀);
       same =
           ap (λ (u : List Place). record { tuples = u; columns = drop top (set columns (top + i) x) }) (sym (put_is tuple v k p.four a.below))
-          ∙ ap (λ (c : List Place). record { tuples = putPlace (suc k) v tuple; columns = c }) (drop-set-add top columns i x)
-          ∙ ap (λ (y : Place). record { tuples = putPlace (suc k) v tuple; columns = set (drop top columns) i y }) (sym (place_is tuple k a.below))
-          ∙ ap (λ (n : ℕ). record { tuples = putPlace n v tuple; columns = set (drop top columns) i (place n tuple) }) (sym a.named)
-          ∙ ap (λ (m : Machine (List Place) Place). record { tuples = putPlace j v m.tuples; columns = set m.columns i (place j m.tuples) }) p.same
-          ∙ ap (λ (y : Place). record { tuples = putPlace j y m.tuples; columns = set m.columns i (place j m.tuples) }) old
-          ∙ ap (λ (n : ℕ). record { tuples = putPlace j (get_or (drop top columns₀) n noPlace) m.tuples; columns = set m.columns n (place j m.tuples) })
+          ∙ ap (λ (c : List Place). record { tuples = put_place (suc k) v tuple; columns = c }) (drop-set-add top columns i x)
+          ∙ ap (λ (y : Place). record { tuples = put_place (suc k) v tuple; columns = set (drop top columns) i y }) (sym (place_is tuple k a.below))
+          ∙ ap (λ (n : ℕ). record { tuples = put_place n v tuple; columns = set (drop top columns) i (place n tuple) }) (sym a.named)
+          ∙ ap (λ (m : Machine (List Place) Place). record { tuples = put_place j v m.tuples; columns = set m.columns i (place j m.tuples) }) p.same
+          ∙ ap (λ (y : Place). record { tuples = put_place j y m.tuples; columns = set m.columns i (place j m.tuples) }) old
+          ∙ ap (λ (n : ℕ). record { tuples = put_place j (get_or (drop top columns₀) n no_place) m.tuples; columns = set m.columns n (place j m.tuples) })
           (sym so-many)
-          ∙ sym (flipped-more onPlaces is j noPlace tuple₀ (drop top columns₀) deep)
-          ∙ sym (ap (λ (ks : List ℕ). flipped onPlaces ks tuple₀ (drop top columns₀)) (places-more l i h));
+          ∙ sym (flipped-more on_places is j no_place tuple₀ (drop top columns₀) deep)
+          ∙ sym (ap (λ (ks : List ℕ). flipped on_places ks tuple₀ (drop top columns₀)) (places-more l i h));
     }
   where
     first : (c : List Place) (n : ℕ) (d : Place) → get_or c n d ≡ get_or (drop n c) 0 d
@@ -84,7 +84,7 @@ pub flips-none : (t : Traced) (l : List ℤ) → Whole t → Flips t l t 0
 flips-none t l w = record { top = refl; own = flip-none t.tuple t.columns t.top l w.four w.most }
 
 pub flips-turn : {t r : Traced} {l : List ℤ} {i k : ℕ} → Flips t l r i → i < length l → t.top + length l ≤ 64 → Whole t → AxisAt l i k
-    → Flips t l (record { tuple = set r.tuple k (get_or r.columns (t.top + i) noPlace); columns = set r.columns (t.top + i) (get_or r.tuple k noPlace); top = r.top }) (i + 1)
+    → Flips t l (record { tuple = set r.tuple k (get_or r.columns (t.top + i) no_place); columns = set r.columns (t.top + i) (get_or r.tuple k no_place); top = r.top }) (i + 1)
 flips-turn p h room w a = record { top = p.top; own = flip-turn p.own h room w.most a }
 
 pub flips-end : {t r : Traced} {l : List ℤ} {i : ℕ} → Whole t → Flips t l r i → length l ≤ i → Moved (flips (places l)) t r
@@ -95,5 +95,5 @@ flips-end {t} {r} {l} {i} w f h =
       whole = record { four = p.four; most = p.most; within = omega (arith, f.top, w.within) };
       same =
           ap (λ (n : ℕ). record { tuples = r.tuple; columns = drop n r.columns }) f.top
-          ∙ p.same ∙ ap (λ (m : List ℤ). flipped onPlaces (places m) t.tuple (drop t.top t.columns)) (take_all i l h);
+          ∙ p.same ∙ ap (λ (m : List ℤ). flipped on_places (places m) t.tuple (drop t.top t.columns)) (take_all i l h);
     }

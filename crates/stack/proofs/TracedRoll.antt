@@ -7,10 +7,10 @@ use native.Mathlib.Numerals.{add-one}
 use lib.ListN.{length, get_or, set, take, drop, length-drop, length-set}
 use lib.Seq.{drop-cons, drop-drop, drop-set-add, get_or-drop, paste, length-paste, paste-zero, paste-suc, take-paste, drop-paste, drop_at, take-nil, length-take-le}
 use Rattle.rules.specs.Operators.Acts.{Act, swaps, rolls}
-use Rattle.rules.specs.Pipeline.Columns.{moved, rolled, swappedTop}
-use Rattle.rules.specs.Pipeline.Check.{noPlace, onPlaces}
+use Rattle.rules.specs.Pipeline.Columns.{moved, rolled, swapped_top}
+use Rattle.rules.specs.Pipeline.Check.{no_place, on_places}
 use Rattle.rules.specs.declared.Place.{Place}
-use Rattle.laws_steps.specs.Rolls.{turnedTop, rolled-is}
+use Rattle.laws_steps.specs.Rolls.{turned_top, rolled-is}
 use Rattle.columns.specs.declared.traced.Traced.{Traced}
 use Rattle.columns.specs.Traces.{machine, Whole, Moved}
 use Rattle.columns.proofs.StoredPlace.{drop-set}
@@ -20,24 +20,24 @@ use Rattle.stack.proofs.FullTurns.{turned-alike}
 
 -- ---- swap
 
-pub few-stay : (l : List Place) → length l ≤ 1 → l ≡ swappedTop l
-unfolding swappedTop
+pub few-stay : (l : List Place) → length l ≤ 1 → l ≡ swapped_top l
+unfolding swapped_top
 few-stay [] h = refl
 few-stay (v ∷ []) h = refl
 few-stay (v ∷ w ∷ l) h = absurd (omega (arith, h))
 
 pub swap-two : (c : List Place) (top : ℕ) → top + 1 < length c
-    → drop top (set (set c top (get_or c (top + 1) noPlace)) (top + 1) (get_or c top noPlace)) ≡ swappedTop (drop top c)
-unfolding swappedTop
+    → drop top (set (set c top (get_or c (top + 1) no_place)) (top + 1) (get_or c top no_place)) ≡ swapped_top (drop top c)
+unfolding swapped_top
 swap-two c top h =
-    let a = get_or c top noPlace in
-    let b = get_or c (top + 1) noPlace in
+    let a = get_or c top no_place in
+    let b = get_or c (top + 1) no_place in
     drop-set-add top (set c top b) 1 a
     ∙ ap (λ (l : List Place). set l 1 a) (drop-set c top b (omega (arith, h)) ∙ ap (λ (l : List Place). b ∷ l) next)
-    ∙ sym (ap swappedTop (drop-cons c top noPlace (omega (arith, h)) ∙ ap (λ (l : List Place). a ∷ l) next))
+    ∙ sym (ap swapped_top (drop-cons c top no_place (omega (arith, h)) ∙ ap (λ (l : List Place). a ∷ l) next))
   where
-    next : drop (suc top) c ≡ get_or c (top + 1) noPlace ∷ drop (suc (top + 1)) c
-    next = ap (λ (n : ℕ). drop n c) (sym (add-one top)) ∙ drop-cons c (top + 1) noPlace h
+    next : drop (suc top) c ≡ get_or c (top + 1) no_place ∷ drop (suc (top + 1)) c
+    next = ap (λ (n : ℕ). drop n c) (sym (add-one top)) ∙ drop-cons c (top + 1) no_place h
 
 -- ---- roll
 
@@ -47,14 +47,14 @@ pub record Pasting (into from : List Place) (at start n : ℕ) (r : List Place) 
 
 pub paste-turn : {into from r : List Place} {at start n i : ℕ} → Pasting into from at start n r i → i < n
     → length into ≡ 64 → length from ≡ 64 → at + n ≤ 64 → start + n ≤ 64
-    → Pasting into from at start n (set r (at + i) (get_or from (start + i) noPlace)) (i + 1)
+    → Pasting into from at start n (set r (at + i) (get_or from (start + i) no_place)) (i + 1)
 paste-turn {into} {from} {r} {at} {start} {n} {i} p h a b room source =
     record {
       ahead = omega (arith, h);
       same =
-          ap (λ (x : Place). set r (at + i) x) (sym (get_or-drop start from i noPlace))
-          ∙ ap (λ (l : List Place). set l (at + i) (get_or (drop start from) i noPlace)) p.same
-          ∙ paste-suc into at (drop start from) i noPlace (omega (arith, h, a, room)) (rw (length-drop, b) (omega (arith, h, source)))
+          ap (λ (x : Place). set r (at + i) x) (sym (get_or-drop start from i no_place))
+          ∙ ap (λ (l : List Place). set l (at + i) (get_or (drop start from) i no_place)) p.same
+          ∙ paste-suc into at (drop start from) i no_place (omega (arith, h, a, room)) (rw (length-drop, b) (omega (arith, h, source)))
           ∙ ap (λ (j : ℕ). paste into at (drop start from) j) (sym (add-one i));
     }
 
@@ -81,7 +81,7 @@ drop-take (suc k) (suc m) (x ∷ l) h = drop-take k m l (omega (arith, h)) ∙ a
 
 pub roll-columns : (c : List Place) (top m k : ℕ) → length c ≡ 64 → top + m ≤ 64 → k ≤ m
     → drop top (paste (paste c top (drop (top + k) c) (m - k)) (top + (m - k)) (drop top c) k) ≡ rolled m k (drop top c)
-unfolding turnedTop
+unfolding turned_top
 roll-columns c top m k e room h =
     let l = drop top c in
     let others = paste c top (drop (top + k) c) (m - k) in
@@ -108,7 +108,7 @@ roll-columns c top m k e room h =
 -- ---- the columns are turned, and nothing else
 
 turned-columns : {t : Traced} {c : List Place} {a : Act} → Whole t → length c ≡ 64
-    → record { tuples = t.tuple; columns = drop t.top c } ≡ moved onPlaces a (machine t) → Moved a t (record { tuple = t.tuple; columns = c; top = t.top })
+    → record { tuples = t.tuple; columns = drop t.top c } ≡ moved on_places a (machine t) → Moved a t (record { tuple = t.tuple; columns = c; top = t.top })
 unfolding machine
 turned-columns w most e = record { whole = record { four = w.four; most = most; within = w.within }; same = e }
 
@@ -123,12 +123,12 @@ swaps-few {t} w h =
     }
 
 pub swaps-some : {t : Traced} → Whole t → t.top ≤ 62
-    → Moved swaps t (record { tuple = t.tuple; columns = set (set t.columns t.top (get_or t.columns (t.top + 1) noPlace)) (t.top + 1) (get_or t.columns t.top noPlace); top = t.top })
+    → Moved swaps t (record { tuple = t.tuple; columns = set (set t.columns t.top (get_or t.columns (t.top + 1) no_place)) (t.top + 1) (get_or t.columns t.top no_place); top = t.top })
 unfolding moved machine
 swaps-some {t} w h =
     let c = t.columns in
-    let b = get_or c (t.top + 1) noPlace in
-    let a = get_or c t.top noPlace in
+    let b = get_or c (t.top + 1) no_place in
+    let a = get_or c t.top no_place in
     turned-columns w (length-set (set c t.top b) (t.top + 1) a ∙ length-set c t.top b ∙ w.most)
     (ap (λ (l : List Place). record { tuples = t.tuple; columns = l }) (swap-two c t.top (rw w.most (omega (arith, h)))))
 

@@ -3,8 +3,8 @@ use Rattle.std.specs.Prelude.{◌≡◌, ℕ, ◌-◌, ◌≤◌, ◌<◌, true,
 use Rattle.rules.specs.Text.Lists.{all_of}
 use Rattle.rules.specs.Operators.Acts as rules
 use Rattle.rules.specs.Operators.Arguments.{size, arg}
-use Rattle.rules.specs.Operators.Table.{operatorOf, isArgs}
-use Rattle.rules.specs.Pipeline.Record.{nineDigits}
+use Rattle.rules.specs.Operators.Table.{operator_of, is_args}
+use Rattle.rules.specs.Pipeline.Record.{nine_digits}
 use Rattle.columns.specs.Doings.{does, able}
 use Rattle.columns.specs.declared.acts.Act.{Act}
 use Rattle.columns.specs.declared.acts.Doing.{Doing}
@@ -14,8 +14,8 @@ pub record Action (operator : ℕ) (args : List ℤ) (n : ℕ) : Type 0 where
   pub least : 2 ≤ operator
   pub most : operator ≤ 8
   pub slots : n ≤ 8
-  pub digits : all_of nineDigits (take n args) ≡ true
-  pub rule : isArgs (operatorOf operator) (take n args) ≡ true
+  pub digits : all_of nine_digits (take n args) ≡ true
+  pub rule : is_args (operator_of operator) (take n args) ≡ true
 
 abbrev pub acting : Act → List ℤ → ℕ → Doing
 acting act args n = record { act = act; args = args; n = n }

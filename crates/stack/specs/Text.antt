@@ -4,16 +4,16 @@ use Rattle.rules.specs.Text.Bytes.{Bytes}
 use Rattle.rules.specs.Operators.Descriptions.{Operator, Push, Pop, StackPush, StackPop, StackFlip, StackRoll, StackUnroll, StackSwap, StackDrop, Axisswap, Adapt, Documented}
 use Rattle.std.specs.Prelude.{[]}
 
-unfoldable pub actionText : Operator → Bytes
-actionText Push = []
-actionText Pop = []
-actionText StackPush = ascii "stack push="
-actionText StackPop = ascii "stack pop="
-actionText StackFlip = ascii "stack flip="
-actionText StackRoll = ascii "stack roll="
-actionText StackUnroll = ascii "stack unroll="
-actionText StackSwap = ascii "stack swap"
-actionText StackDrop = ascii "stack drop"
-actionText Axisswap = []
-actionText Adapt = []
-actionText Documented = []
+unfoldable pub action_text : Operator → Bytes
+action_text Push = []
+action_text Pop = []
+action_text StackPush = ascii "stack push="
+action_text StackPop = ascii "stack pop="
+action_text StackFlip = ascii "stack flip="
+action_text StackRoll = ascii "stack roll="
+action_text StackUnroll = ascii "stack unroll="
+action_text StackSwap = ascii "stack swap"
+action_text StackDrop = ascii "stack drop"
+action_text Axisswap = []
+action_text Adapt = []
+action_text Documented = []

@@ -2,8 +2,8 @@
 ghost use Rattle.std.specs.Prelude.{◌≡◌, ◌*◌, ◌<◌, take};
 ghost use Rattle.rules.specs.Operators.Arguments.{arg};
 ghost use Rattle.rules.specs.Operators.Stack.{rolling, unrolling};
-ghost use Rattle.rules.specs.Operators.Table.{operatorOf, forward, inverse};
-ghost use Rattle.rules.specs.Pipeline.Running.{actOf};
+ghost use Rattle.rules.specs.Operators.Table.{operator_of, forward, inverse};
+ghost use Rattle.rules.specs.Pipeline.Running.{act_of};
 ghost use Rattle.columns.specs.Doings.{Does};
 ghost use Rattle.stack.specs.Actions.{Roll, Rolled, Action, Turns, acting};
 
@@ -61,7 +61,7 @@ fn doing(act: Act, args: [i32; 8], n: usize) -> Doing
 
 fn forward(operator: u8, args: [i32; 8], n: usize) -> Doing
     requires { Action operator args n }
-    ensures { Does (forward (operatorOf operator) (take n args)) result }
+    ensures { Does (forward (operator_of operator) (take n args)) result }
 {
     match operator {
         STACK_PUSH => doing(Act::Pushes, args, n),
@@ -77,7 +77,7 @@ fn forward(operator: u8, args: [i32; 8], n: usize) -> Doing
 // "Inverse push is pop with arguments reversed, and the other way round; flip is not reversed."
 fn inverse(operator: u8, args: [i32; 8], n: usize) -> Doing
     requires { Action operator args n }
-    ensures { Does (inverse (operatorOf operator) (take n args)) result }
+    ensures { Does (inverse (operator_of operator) (take n args)) result }
 {
     match operator {
         STACK_PUSH => doing(Act::PopsAll, reversed(args, n), n),
@@ -92,7 +92,7 @@ fn inverse(operator: u8, args: [i32; 8], n: usize) -> Doing
 
 pub fn act_of(operator: u8, args: [i32; 8], n: usize, direction: Direction) -> Doing
     requires { Action operator args n }
-    ensures { Does (actOf direction (operatorOf operator) (take n args)) result }
+    ensures { Does (act_of direction (operator_of operator) (take n args)) result }
 {
     match direction {
         Direction::Forward => forward(operator, args, n),

@@ -1,14 +1,14 @@
 // The tests of its arguments: used where a step is prepared, and where a record is tested.
 ghost use Rattle.std.specs.Prelude.{◌≡◌, ◌≤◌};
-ghost use Rattle.rules.specs.Operators.Stack.{isPlaces, isRoll};
-ghost use Rattle.rules.specs.Operators.Table.{operatorOf, isArgs};
+ghost use Rattle.rules.specs.Operators.Stack.{is_places, is_roll};
+ghost use Rattle.rules.specs.Operators.Table.{operator_of, is_args};
 
 use numbers::{Kind, are_of, minus_at, size_at};
 use rules::{STACK_FLIP, STACK_POP, STACK_PUSH, STACK_ROLL, STACK_UNROLL};
 
 // push, pop, flip: at least one place.
 fn is_places(l: &[i32]) -> bool
-    ensures { result ≡ isPlaces l.now }
+    ensures { result ≡ is_places l.now }
 {
     if l.len() == 0 {
         return false;
@@ -18,7 +18,7 @@ fn is_places(l: &[i32]) -> bool
 
 // roll, unroll: m and n, m above the size of n.
 fn is_roll(l: &[i32]) -> bool
-    ensures { result ≡ isRoll l.now }
+    ensures { result ≡ is_roll l.now }
 {
     if l.len() != 2 {
         return false;
@@ -32,7 +32,7 @@ fn is_roll(l: &[i32]) -> bool
 // The arguments of an action; swap and drop have none.
 pub fn is_args(operator: u8, l: &[i32]) -> bool
     requires { (2 ≤ operator) × (operator ≤ 8) }
-    ensures { result ≡ isArgs (operatorOf operator) l.now }
+    ensures { result ≡ is_args (operator_of operator) l.now }
 {
     match operator {
         STACK_PUSH | STACK_POP | STACK_FLIP => is_places(l),

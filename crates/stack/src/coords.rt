@@ -1,11 +1,11 @@
 // Its actions on numbers: columns of a lent store exchanged with the coordinates of a list, or among themselves. Column q of n
 // numbers stands in the store from q * n on. "too few columns, or fewer than m for a roll, make every number NaN"
 ghost use Rattle.std.specs.Prelude.{◌≡◌, ◌*◌, ◌≤◌, ◌<◌, ◌/◌, length};
-ghost use Rattle.rules.specs.Operators.Acts.{popsAll, flips, rolls, swaps};
+ghost use Rattle.rules.specs.Operators.Acts.{pops_all, flips, rolls, swaps};
 ghost use Rattle.rules.specs.Operators.Arguments.{places};
 ghost use Rattle.rules.specs.Pipeline.Columns.{rolled, flipped};
-ghost use Rattle.rules.specs.Pipeline.Tuples.{tuples, onNumbers};
-ghost use Rattle.columns.specs.Stores.{columnsOf, Stacked};
+ghost use Rattle.rules.specs.Pipeline.Tuples.{tuples, on_numbers};
+ghost use Rattle.columns.specs.Stores.{columns_of, Stacked};
 ghost use Rattle.columns.specs.Machine.{Acted};
 
 use crate::acts::turns;
@@ -16,7 +16,7 @@ use pushpop::pop;
 // Pop: the top column into each place, in their order, all or none.
 pub fn pop_all(xs: &mut [f64], store: &[f64], depth: usize, args: &[i32])
     requires { depth * (length xs.old / 4) ≤ length store.now }
-    ensures { Acted (popsAll (places args.now)) depth xs.old store.now xs.new store.now }
+    ensures { Acted (pops_all (places args.now)) depth xs.old store.now xs.new store.now }
 {
     if depth < args.len() {
         nan_all(xs);
@@ -29,7 +29,7 @@ pub fn pop_all(xs: &mut [f64], store: &[f64], depth: usize, args: &[i32])
 fn flip_columns(xs: &mut [f64], store: &mut [f64], depth: usize, args: &[i32])
     requires args_len_bound { length args.now ≤ depth }
     requires xs_in_bounds { depth * (length xs.old / 4) ≤ length store.old }
-    ensures { (tuples xs.new ≡ (flipped onNumbers (places args.now) (tuples xs.old) (columnsOf (length xs.old / 4) depth store.old)).tuples) × Stacked (length xs.old / 4) depth (flipped onNumbers (places args.now) (tuples xs.old) (columnsOf (length xs.old / 4) depth store.old)).columns store.old store.new }
+    ensures { (tuples xs.new ≡ (flipped on_numbers (places args.now) (tuples xs.old) (columns_of (length xs.old / 4) depth store.old)).tuples) × Stacked (length xs.old / 4) depth (flipped on_numbers (places args.now) (tuples xs.old) (columns_of (length xs.old / 4) depth store.old)).columns store.old store.new }
 {
     let n = xs.len() / 4;
     let mut j = 0;
@@ -56,7 +56,7 @@ pub fn flip(xs: &mut [f64], store: &mut [f64], depth: usize, args: &[i32])
 fn roll_columns(store: &mut [f64], n: usize, depth: usize, m: usize, r: usize)
     requires r_le_m { (r ≤ m) × ((m ≤ depth) × (depth ≤ 64)) }
     requires n_in_bounds { depth * n ≤ length store.old }
-    ensures { Stacked n depth (rolled m r (columnsOf n depth store.old)) store.old store.new }
+    ensures { Stacked n depth (rolled m r (columns_of n depth store.old)) store.old store.new }
 {
     reverse(store, n, depth - r, depth);
     reverse(store, n, depth - m, depth - r);

@@ -1,14 +1,14 @@
 // Its keys: an action each. Those with arguments take a series, the two without a flag.
 ghost use Rattle.std.specs.Prelude.{◌≡◌};
-ghost use Rattle.rules.specs.Operators.Keys.{kindIn};
-ghost use Rattle.rules.specs.Operators.Stack.{actionKeys};
+ghost use Rattle.rules.specs.Operators.Keys.{kind_in};
+ghost use Rattle.rules.specs.Operators.Stack.{action_keys};
 
 use rules::Kind;
 use text::is_same;
 
 // What a key takes, if it is one of them.
 pub fn kind_of(key: &[u8]) -> Kind
-    ensures { result ≡ kindIn actionKeys key.now }
+    ensures { result ≡ kind_in action_keys key.now }
 {
     if is_same(key, b"push") {
         return Kind::Series;

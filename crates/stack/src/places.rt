@@ -5,7 +5,7 @@ ghost use Rattle.rules.specs.Operators.Arguments.{places};
 ghost use Rattle.rules.specs.Operators.Acts.{flips, swaps, rolls};
 ghost use Rattle.columns.specs.Traces.{Whole, Moved};
 ghost use Rattle.stack.specs.Places.{Pasted};
-ghost use Rattle.numbers.specs.Axes.{isAxis};
+ghost use Rattle.numbers.specs.Axes.{is_axis};
 
 use crate::acts::turns;
 use columns::Traced;
@@ -15,7 +15,7 @@ use rules::Place;
 // Each place exchanged with its column, the top one first.
 pub fn flip_places(t: Traced, l: &[i32]) -> Traced
     requires whole { Whole t }
-    requires l_value { all_of isAxis l.now ≡ true }
+    requires l_value { all_of is_axis l.now ≡ true }
     requires l_bound { t.top + length l.now ≤ 64 }
     ensures { Moved (flips (places l.now)) t result }
 {

@@ -1,11 +1,11 @@
 // Its text: the name, the action and the arguments.
 ghost use Rattle.std.specs.Prelude.{◌≡◌, true, ◌≤◌};
 ghost use Rattle.rules.specs.Text.Bytes.{joined};
-ghost use Rattle.rules.specs.Operators.Table.{operatorOf, isArgs};
-ghost use Rattle.rules.specs.Pipeline.Write.{operatorWords};
+ghost use Rattle.rules.specs.Operators.Table.{operator_of, is_args};
+ghost use Rattle.rules.specs.Pipeline.Write.{operator_words};
 ghost use Rattle.text.specs.Wrote.{WroteAt};
 ghost use Rattle.numbers.specs.Parts.{Room};
-ghost use Rattle.stack.specs.Text.{actionText};
+ghost use Rattle.stack.specs.Text.{action_text};
 
 use numbers::put_list;
 use rules::{STACK_FLIP, STACK_POP, STACK_PUSH, STACK_ROLL, STACK_SWAP, STACK_UNROLL};
@@ -14,8 +14,8 @@ use text::put;
 // The name and the action, up to its arguments.
 fn action(operator: u8, out: &mut [u8], o: usize) -> usize
     requires le_operator { (2 ≤ operator) × (operator ≤ 8) }
-    requires room { Room (actionText (operatorOf operator)) o out.old }
-    ensures { WroteAt (actionText (operatorOf operator)) out.old o result out.new }
+    requires room { Room (action_text (operator_of operator)) o out.old }
+    ensures { WroteAt (action_text (operator_of operator)) out.old o result out.new }
 {
     match operator {
         STACK_PUSH => put(b"stack push=", out, o),
@@ -31,9 +31,9 @@ fn action(operator: u8, out: &mut [u8], o: usize) -> usize
 // The whole: `swap` and `drop` have no arguments.
 pub fn write_words(operator: u8, l: &[i32], out: &mut [u8], o: usize) -> usize
     requires le_operator { (2 ≤ operator) × (operator ≤ 8) }
-    requires l_value { isArgs (operatorOf operator) l.now ≡ true }
-    requires room { Room (joined (operatorWords (operatorOf operator) l.now)) o out.old }
-    ensures { WroteAt (joined (operatorWords (operatorOf operator) l.now)) out.old o result out.new }
+    requires l_value { is_args (operator_of operator) l.now ≡ true }
+    requires room { Room (joined (operator_words (operator_of operator) l.now)) o out.old }
+    ensures { WroteAt (joined (operator_words (operator_of operator) l.now)) out.old o result out.new }
 {
     let e = action(operator, out, o);
     put_list(l, out, e)

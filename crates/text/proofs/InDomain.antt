@@ -10,7 +10,7 @@ use borrow.Author.Tests.{lt-ltb, le-ltb}
 use lib.Dec.{leb, eqb}
 use lib.ListN.{length, drop, get_or, length-drop, drop_of_length-le, get_or-eq_default}
 use lib.Seq.{get_or-drop}
-use Rattle.rules.specs.Text.Bytes.{Bytes, subscript, inDomain}
+use Rattle.rules.specs.Text.Bytes.{Bytes, subscript, in_domain}
 use Rattle.text.specs.Domain.{Clear}
 use Rattle.laws_text.specs.Passes.{digit, domain-ascii, domain-digit, domain-stop}
 use Rattle.text.proofs.Wrote.{drop-next}
@@ -21,16 +21,16 @@ and-false false = refl
 
 -- ---- a digit at a place
 
-pub digit_at : (s : Bytes) (i : ℕ)
+pub digit-at : (s : Bytes) (i : ℕ)
     → digit (drop i s) ≡ eqb (get_or s i 0) 226 && (eqb (get_or s (i + 1) 0) 130 && (leb 128 (get_or s (i + 2) 0) && leb (get_or s (i + 2) 0) 137))
 unfolding digit subscript
-digit_at s i = rw (get_or-drop i s 0 0, get_or-drop i s 1 0, get_or-drop i s 2 0, add-zero)
+digit-at s i = rw (get_or-drop i s 0 0, get_or-drop i s 1 0, get_or-drop i s 2 0, add-zero)
 
 -- there is no third byte
 pub digit-short : (s : Bytes) (i : ℕ) → length s - i < 3 → i ≤ length s → digit (drop i s) ≡ false
 digit-short s i h l =
     let n : length s ≤ i + 2 = omega arith in
-    digit_at s i ∙ rw (get_or-eq_default s 0 n) (rw (and-false (eqb (get_or s (i + 1) 0) 130)) (and-false (eqb (get_or s i 0) 226)))
+    digit-at s i ∙ rw (get_or-eq_default s 0 n) (rw (and-false (eqb (get_or s (i + 1) 0) 130)) (and-false (eqb (get_or s i 0) 226)))
 
 digit-length : (t : Bytes) → digit t ≡ true → 2 < length t
 digit-length t e = go (digit-short t 0)
@@ -48,7 +48,7 @@ module _ {s : Bytes} {from i : ℕ} (m : Clear s from i) where
   clear_next h l = record {
     onward = omega (arith, m.onward);
     within = omega arith;
-    same = m.same ∙ ap inDomain (drop-next s i h) ∙ domain-ascii (get_or s i 0) (drop (i + 1) s) (lt-ltb (get_or s i 0) 128 l);
+    same = m.same ∙ ap in_domain (drop-next s i h) ∙ domain-ascii (get_or s i 0) (drop (i + 1) s) (lt-ltb (get_or s i 0) 128 l);
   }
 
   pub clear-on : {r : ℕ} → Clear s i r → Clear s from r
@@ -76,7 +76,7 @@ module _ {s : Bytes} {from to j : ℕ} {all_of : Bool} (m : Clearing s from to j
 
 pub record Scanning (s : Bytes) (i : ℕ) : Type 0 where
   pub within : i ≤ length s
-  pub same : inDomain s ≡ inDomain (drop i s)
+  pub same : in_domain s ≡ in_domain (drop i s)
 
 -- from the start on, or from where it is gone on
 pub scanning-from : {s : Bytes} {r : ℕ} → Clear s 0 r → Scanning s r
@@ -89,7 +89,7 @@ module _ {s : Bytes} {i : ℕ} (m : Scanning s i) where
   pub scanning-ascii : i < length s → get_or s i 0 < 128 → Scanning s (i + 1)
   scanning-ascii h l = record {
     within = omega arith;
-    same = m.same ∙ ap inDomain (drop-next s i h) ∙ domain-ascii (get_or s i 0) (drop (i + 1) s) (lt-ltb (get_or s i 0) 128 l);
+    same = m.same ∙ ap in_domain (drop-next s i h) ∙ domain-ascii (get_or s i 0) (drop (i + 1) s) (lt-ltb (get_or s i 0) 128 l);
   }
 
   pub scanning-fits : digit (drop i s) ≡ true → i + 3 ≤ length s
@@ -107,14 +107,14 @@ module _ {s : Bytes} {i : ℕ} (m : Scanning s i) where
       let n = three (scanning-fits e) in
       record {
         within = scanning-fits e;
-        same = m.same ∙ ap inDomain n ∙ domain-digit (get_or s i 0) (get_or s (i + 1) 0) (get_or s (i + 2) 0) (drop (i + 3) s) (le-ltb (get_or s i 0) 128 l) (rw n at e);
+        same = m.same ∙ ap in_domain n ∙ domain-digit (get_or s i 0) (get_or s (i + 1) 0) (get_or s (i + 2) 0) (drop (i + 3) s) (le-ltb (get_or s i 0) 128 l) (rw n at e);
       }
 
-  pub scanning-stop : i < length s → 128 ≤ get_or s i 0 → digit (drop i s) ≡ false → inDomain s ≡ false
+  pub scanning-stop : i < length s → 128 ≤ get_or s i 0 → digit (drop i s) ≡ false → in_domain s ≡ false
   scanning-stop h l e =
       let n = drop-next s i h in
-      m.same ∙ ap inDomain n ∙ domain-stop (get_or s i 0) (drop (i + 1) s) (le-ltb (get_or s i 0) 128 l) (rw n at e)
+      m.same ∙ ap in_domain n ∙ domain-stop (get_or s i 0) (drop (i + 1) s) (le-ltb (get_or s i 0) 128 l) (rw n at e)
 
-  pub scanning-end : length s ≤ i → inDomain s ≡ true
-  unfolding inDomain
-  scanning-end h = m.same ∙ ap inDomain (drop_of_length-le s h)
+  pub scanning-end : length s ≤ i → in_domain s ≡ true
+  unfolding in_domain
+  scanning-end h = m.same ∙ ap in_domain (drop_of_length-le s h)

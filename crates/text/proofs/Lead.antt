@@ -8,7 +8,7 @@ use native.Mathlib.Omega.{arith}
 use lib.ListN.{length, take, drop, get_or, length-drop, drop_of_length-le, take-append-drop}
 use lib.Seq.{drop-drop, take-add, take_all}
 use Rattle.rules.specs.Text.Ascii.{ascii}
-use Rattle.rules.specs.Text.Lists.{all_of, kept, nonEmpty}
+use Rattle.rules.specs.Text.Lists.{all_of, kept, non_empty}
 use Rattle.rules.specs.Text.Bytes.{Bytes, Words, white, same, cut, words}
 use Rattle.rules.specs.Text.Split.{modifier, leading, following}
 use Rattle.rules.specs.Text.Reader.{part}
@@ -33,7 +33,7 @@ words-word x [] e = rw (words-cons x []) (go (white x) e)
   where
     go : (b : Bool) → (not b && true) ≡ true → cond b (words []) (grow x (in_word []) (words [])) ≡ (x ∷ []) ∷ []
     go true f = absurd (false≢true f)
-    go false f = unfold words kept cut nonEmpty in refl
+    go false f = unfold words kept cut non_empty in refl
 words-word x (y ∷ w) e = rw (words-cons x (y ∷ w)) (go (white x) (white y) e (words-word y w))
   where
     go : (b d : Bool) → (not b && (not d && all_of (other white) w)) ≡ true → ((not d && all_of (other white) w) ≡ true → words (y ∷ w) ≡ (y ∷ w) ∷ [])
@@ -77,10 +77,10 @@ pub record Leads (s : Bytes) (k : ℕ) : Type 0 where
   pub within : k ≤ length s
   pub modifiers : all_of modifier (words (take k s)) ≡ true
   pub whole : words s ≡ words (take k s) ++ words (drop k s)
-  pub edge : (nonEmpty (take k s) && in_word (drop k s)) ≡ false
+  pub edge : (non_empty (take k s) && in_word (drop k s)) ≡ false
 
 pub leads-none : (s : Bytes) → Leads s 0
-unfolding all_of nonEmpty
+unfolding all_of non_empty
 leads-none s = record { within = omega arith; modifiers = rw words-nil; whole = rw words-nil; edge = refl }
 
 -- the end of a word
@@ -111,8 +111,8 @@ take_part : (s : Bytes) (k e : ℕ) → k ≤ e → take e s ≡ take k s ++ par
 take_part s k e h = let n : e ≡ k + (e - k) = omega arith in ap (λ (j : ℕ). take j s) n ∙ take-add k (e - k) s
 
 -- words of a text and of a part behind it
-edge-words : (t u v : Bytes) → (nonEmpty t && in_word (u ++ v)) ≡ false → (x : ℕ) (r : Bytes) → u ≡ x ∷ r → words (t ++ u) ≡ words t ++ words u
-unfolding nonEmpty in_word
+edge-words : (t u v : Bytes) → (non_empty t && in_word (u ++ v)) ≡ false → (x : ℕ) (r : Bytes) → u ≡ x ∷ r → words (t ++ u) ≡ words t ++ words u
+unfolding non_empty in_word
 edge-words [] u v e x r z = rw words-nil
 edge-words (y ∷ t) u v e x r z = words_append (y ∷ t) u (ap in_word z ∙ sym (ap (λ (w : Bytes). in_word (w ++ v)) z) ∙ e)
 
@@ -167,14 +167,14 @@ module _ {s : Bytes} {k a e : ℕ} (m : Leads s k) (p : Run white s k a) (q : Ru
       let j : part k e s ≡ part k a s ++ part a e s = part_join s k a e p.ahead q.ahead in
       let w : words (part k e s) ≡ part a e s ∷ [] = ap words j ∙ words-white (part k a s) (part a e s) p.whole ∙ one_word p q h in
       let z = part-some s k e (omega (arith, p.ahead)) q.within in
-      let g : (nonEmpty (take k s) && in_word (part k e s ++ drop e s)) ≡ false = ap (λ (u : Bytes). nonEmpty (take k s) && in_word u) (sym (part-rest s k e k≤e)) ∙ m.edge in
+      let g : (non_empty (take k s) && in_word (part k e s ++ drop e s)) ≡ false = ap (λ (u : Bytes). non_empty (take k s) && in_word u) (sym (part-rest s k e k≤e)) ∙ m.edge in
       let t : words (take e s) ≡ words (take k s) ++ (part a e s ∷ []) =
       ap words (take_part s k e k≤e) ∙ edge-words (take k s) (part k e s) (drop e s) g _ _ z ∙ ap (λ (u : Words). words (take k s) ++ u) w in
       record {
         within = q.within;
         modifiers = ap (all_of modifier) t ∙ all_more (words (take k s)) (part a e s) m.modifiers f;
         whole = ap words (sym (take-append-drop e s)) ∙ words_append (take e s) (drop e s) (word-edge q);
-        edge = ap (λ (b : Bool). nonEmpty (take e s) && b) (word-edge q) ∙ and-false (nonEmpty (take e s));
+        edge = ap (λ (b : Bool). non_empty (take e s) && b) (word-edge q) ∙ and-false (non_empty (take e s));
       }
 
   -- another word, or none
@@ -209,18 +209,18 @@ leads-end {s} {k} m h =
 
 -- ---- modifiers alone
 
-following-all : (ws : Words) → not (nonEmpty (following ws)) ≡ all_of modifier ws
-unfolding following all_of nonEmpty
+following-all : (ws : Words) → not (non_empty (following ws)) ≡ all_of modifier ws
+unfolding following all_of non_empty
 following-all [] = refl
 following-all (w ∷ ws) = go (modifier w) (following-all ws)
   where
-    go : (b : Bool) → not (nonEmpty (following ws)) ≡ all_of modifier ws → not (nonEmpty (cond b (following ws) (w ∷ ws))) ≡ (b && all_of modifier ws)
+    go : (b : Bool) → not (non_empty (following ws)) ≡ all_of modifier ws → not (non_empty (cond b (following ws) (w ∷ ws))) ≡ (b && all_of modifier ws)
     go true h = h
     go false h = refl
 
 -- where not all words are modifiers, there is a word after those in front
-pub following-some : (ws : Words) → all_of modifier ws ≡ false → nonEmpty (following ws) ≡ true
-following-some ws e = sym (not-not (nonEmpty (following ws))) ∙ ap not (following-all ws ∙ e)
+pub following-some : (ws : Words) → all_of modifier ws ≡ false → non_empty (following ws) ≡ true
+following-some ws e = sym (not-not (non_empty (following ws))) ∙ ap not (following-all ws ∙ e)
 
 -- the part of a text from a place on
 pub part-from : (s : Bytes) (k : ℕ) → take (length s - k) (drop k s) ≡ drop k s
@@ -228,4 +228,4 @@ part-from s k = take_all (length s - k) (drop k s) (omega (arith, length-drop k 
 
 pub lead-all : {s : Bytes} {k : ℕ} {r : Bool} → Lead s k → r ≡ all_of white (take (length s - k) (drop k s)) → r ≡ all_of modifier (words s)
 lead-all {s} {k} {r} m e =
-    e ∙ ap (all_of white) (part-from s k) ∙ sym (not-not (all_of white (drop k s))) ∙ ap not (sym (words-blank (drop k s)) ∙ ap nonEmpty m.rest) ∙ following-all (words s)
+    e ∙ ap (all_of white) (part-from s k) ∙ sym (not-not (all_of white (drop k s))) ∙ ap not (sym (words-blank (drop k s)) ∙ ap non_empty m.rest) ∙ following-all (words s)

@@ -7,22 +7,22 @@ use native.Mathlib.Nat.{not-suc-le-zero}
 use native.Mathlib.Omega.{arith}
 use lib.ListN.{length, take, drop, length-drop, drop_of_length-le}
 use lib.Seq.{drop-drop, take_all}
-use Rattle.rules.specs.Text.Bytes.{Bytes, starts, replaceFrom, replace}
+use Rattle.rules.specs.Text.Bytes.{Bytes, starts, replace_from, replace}
 use Rattle.text.specs.Wrote.{Wrote}
 use Rattle.text.specs.Places.{ahead}
 use Rattle.text.proofs.Wrote.{Sofar, sofar-start, sofar-part, sofar-end, sofar-part-room}
 use Rattle.text.proofs.Finds.{starts-length}
 
 -- bytes that are passed over
-replace-skip : (k : ℕ) (old new t : Bytes) → replaceFrom k old new t ≡ replace old new (drop k t)
-unfolding replace replaceFrom
+replace-skip : (k : ℕ) (old new t : Bytes) → replace_from k old new t ≡ replace old new (drop k t)
+unfolding replace replace_from
 replace-skip zero old new [] = refl
 replace-skip (suc k) old new [] = refl
 replace-skip zero old new (x ∷ t) = refl
 replace-skip (suc k) old new (x ∷ t) = replace-skip k old new t
 
 pub replace-here : (old new t : Bytes) → 0 < length old → starts old t ≡ true → replace old new t ≡ new ++ replace old new (drop (length old) t)
-unfolding replace replaceFrom
+unfolding replace replace_from
 replace-here [] new t h e = absurd (not-suc-le-zero h)
 replace-here (p ∷ old) new [] h e = absurd (not-suc-le-zero (starts-length (p ∷ old) [] e))
 replace-here (p ∷ old) new (x ∷ t) h e =
@@ -51,19 +51,19 @@ ahead-starts old (x ∷ t) h = go (starts old (x ∷ t)) refl (ahead-starts old 
     go false e f l = f (omega arith)
 
 replace-ahead : (old new t : Bytes) → replace old new t ≡ take (ahead old t) t ++ replace old new (drop (ahead old t) t)
-unfolding replace replaceFrom ahead
+unfolding replace replace_from ahead
 replace-ahead old new [] = refl
 replace-ahead old new (x ∷ t) = go (starts old (x ∷ t)) refl (replace-ahead old new t)
   where
-    go : (b : Bool) → starts old (x ∷ t) ≡ b → replaceFrom zero old new t ≡ take (ahead old t) t ++ replaceFrom zero old new (drop (ahead old t) t)
-        → cond b (new ++ replaceFrom (length old - 1) old new t) (x ∷ replaceFrom zero old new t)
-        ≡ take (cond b 0 (suc (ahead old t))) (x ∷ t) ++ replaceFrom zero old new (drop (cond b 0 (suc (ahead old t))) (x ∷ t))
+    go : (b : Bool) → starts old (x ∷ t) ≡ b → replace_from zero old new t ≡ take (ahead old t) t ++ replace_from zero old new (drop (ahead old t) t)
+        → cond b (new ++ replace_from (length old - 1) old new t) (x ∷ replace_from zero old new t)
+        ≡ take (cond b 0 (suc (ahead old t))) (x ∷ t) ++ replace_from zero old new (drop (cond b 0 (suc (ahead old t))) (x ∷ t))
     go true e f = rw e
     go false e f = ap (λ (l : Bytes). x ∷ l) f
 
 -- where there is none, nothing changes
 pub replace-none : (old new t : Bytes) → length t ≤ ahead old t → replace old new t ≡ t
-unfolding replace replaceFrom
+unfolding replace replace_from
 replace-none old new t h = replace-ahead old new t ∙ rw (take_all (ahead old t) t h, drop_of_length-le t h, append-nil)
 
 -- ---- `replace_from`: all of `src` before i is written, replaced, and the next `old` stands at k
@@ -116,5 +116,5 @@ module _ {src old new dst₀ : Bytes} {i o k : ℕ} {dst : Bytes} (m : Replacing
 
   -- no `old` comes any more
   pub replacing-end : {r : ℕ} {last : Bytes} → length src ≤ k → Wrote (take o dst ++ between src i k) dst r last → Wrote (replace old new src) dst₀ r last
-  unfolding replace replaceFrom
+  unfolding replace replace_from
   replacing-end h w = sofar-end (rw (drop_of_length-le src h) at (sofar-part (between src i k) part w))

@@ -8,7 +8,7 @@ use borrow.Author.Tests.{le-leb, lt-leb, ne_eqb, eq-eqb}
 use lib.ListN.{length, take, drop, get_or, length-drop, drop_of_length-le, take-append-drop}
 use lib.Seq.{take-suc, get_or-drop, drop-drop, length-take-le}
 use lib.Dec.{leb, eqb}
-use Rattle.rules.specs.Text.Lists.{all_of, kept, nonEmpty}
+use Rattle.rules.specs.Text.Lists.{all_of, kept, non_empty}
 use Rattle.rules.specs.Text.Bytes.{Bytes, Words, white, cut, words, same}
 use Rattle.rules.specs.Text.Reader.{part}
 use Rattle.laws_text.specs.Passes.{in_word, grow, words-cons, grow-some}
@@ -38,21 +38,21 @@ module _ {s : Bytes} {i : ℕ} (m : Blank s i) where
   blank-end h = sym (m.same ∙ ap (all_of white) (drop_of_length-le s h))
 
 -- a text has a word exactly where it is not all white space
-pub words-blank : (t : Bytes) → nonEmpty (words t) ≡ not (all_of white t)
+pub words-blank : (t : Bytes) → non_empty (words t) ≡ not (all_of white t)
 unfolding all_of
-words-blank [] = unfold words kept cut nonEmpty in refl
+words-blank [] = unfold words kept cut non_empty in refl
 words-blank (x ∷ t) = rw (words-cons x t) (go (white x) (words-blank t))
   where
-    go : (b : Bool) → nonEmpty (words t) ≡ not (all_of white t) → nonEmpty (cond b (words t) (grow x (in_word t) (words t))) ≡ not (b && all_of white t)
+    go : (b : Bool) → non_empty (words t) ≡ not (all_of white t) → non_empty (cond b (words t) (grow x (in_word t) (words t))) ≡ not (b && all_of white t)
     go true h = h
     go false h = grow-some x (in_word t) (words t)
 
 pub words-none : (t : Bytes) → all_of white t ≡ true → words t ≡ []
 words-none t e = go (words t) (words-blank t ∙ ap not e)
   where
-    go : (ws : Words) → nonEmpty ws ≡ false → ws ≡ []
+    go : (ws : Words) → non_empty ws ≡ false → ws ≡ []
     go [] f = refl
-    go (w ∷ ws) f = unfold nonEmpty in absurd (true≢false f)
+    go (w ∷ ws) f = unfold non_empty in absurd (true≢false f)
 
 -- ---- `run_end`: every byte from the start up to i passes the test
 

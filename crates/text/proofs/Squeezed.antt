@@ -5,15 +5,15 @@ use mathlib.Core.List.{[], ◌∷◌}
 use Prim.Native.Nat.{ℕ, zero, suc, ◌+◌, ◌≤◌, ◌<◌}
 use native.Mathlib.Omega.{arith}
 use lib.ListN.{length, drop, get_or, set, drop_of_length-le}
-use Rattle.rules.specs.Text.Lists.{kept, nonEmpty}
-use Rattle.rules.specs.Text.Bytes.{Bytes, Words, white, cut, words, afterEach, joinedBy, joined}
+use Rattle.rules.specs.Text.Lists.{kept, non_empty}
+use Rattle.rules.specs.Text.Bytes.{Bytes, Words, white, cut, words, after_each, joined_by, joined}
 use Rattle.laws_text.specs.Passes.{in_word, grow, words-cons}
 use Rattle.text.specs.Wrote.{Wrote}
 use Rattle.text.proofs.Wrote.{Sofar, sofar-start, sofar-byte, sofar-end, sofar-byte-room, drop-next}
 
 -- each word after a space
 abbrev spaced : Words → Bytes
-spaced ws = afterEach (32 ∷ []) ws
+spaced ws = after_each (32 ∷ []) ws
 
 -- what is left to write of a text: 1 within a word, 2 after one, else before the first
 pub left : ℕ → Bytes → Bytes
@@ -23,14 +23,14 @@ left (suc (suc zero)) t = spaced (words t)
 left (suc (suc (suc k))) t = joined (words t)
 
 pub left_end : (k : ℕ) → left k [] ≡ []
-unfolding left words kept nonEmpty cut in_word joined joinedBy afterEach
+unfolding left words kept non_empty cut in_word joined joined_by after_each
 left_end zero = refl
 left_end (suc zero) = refl
 left_end (suc (suc zero)) = refl
 left_end (suc (suc (suc k))) = refl
 
 grow-grow : (x y : ℕ) (b : Bool) (ws : Words) → joined (grow x true (grow y b ws)) ≡ x ∷ joined (grow y b ws)
-unfolding joined joinedBy grow
+unfolding joined joined_by grow
 grow-grow x y true [] = refl
 grow-grow x y true (w ∷ ws) = refl
 grow-grow x y false ws = refl
@@ -39,17 +39,17 @@ grow-grow x y false ws = refl
 grow-before : (x y : ℕ) (white? b : Bool) (ws : Words)
     → let vs = cond white? ws (grow y b ws) in
     joined (grow x (not white?) vs) ≡ x ∷ cond (not white?) (joined vs) (spaced vs)
-unfolding joined joinedBy grow
+unfolding joined joined_by grow
 grow-before x y true b ws = refl
 grow-before x y false b ws = grow-grow x y b ws
 
 joined-grow : (x : ℕ) (t : Bytes) → joined (grow x (in_word t) (words t)) ≡ x ∷ left 1 t
 unfolding in_word left
-joined-grow x [] = unfold joined joinedBy afterEach grow words kept nonEmpty cut in refl
+joined-grow x [] = unfold joined joined_by after_each grow words kept non_empty cut in refl
 joined-grow x (y ∷ t) = rw (words-cons y t) (grow-before x y (white y) (in_word t) (words t))
 
 spaced-grow : (x : ℕ) (b : Bool) (ws : Words) → spaced (grow x b ws) ≡ 32 ∷ joined (grow x b ws)
-unfolding afterEach grow joined joinedBy
+unfolding after_each grow joined joined_by
 spaced-grow x true [] = refl
 spaced-grow x true (w ∷ ws) = refl
 spaced-grow x false ws = refl

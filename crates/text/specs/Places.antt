@@ -1,6 +1,6 @@
 -- Places in a text: where a pass finds something, and what a trim takes away and leaves.
 use Rattle.std.specs.Prelude.{◌≡◌, ℕ, suc, ◌+◌, ◌≤◌, Bool, false, cond, [], ◌∷◌, length, take, drop, eqb}
-use Rattle.rules.specs.Text.Bytes.{Bytes, white, starts, trimStart, trimEnd}
+use Rattle.rules.specs.Text.Bytes.{Bytes, white, starts, trim_start, trim_end}
 use Rattle.text.specs.declared.ends.Edge.{Edge}
 use Rattle.text.specs.declared.ends.Edge.TheVariants.{White, Byte}
 
@@ -20,16 +20,16 @@ pub record Sought (src : Bytes) (from : ℕ) (old : Bytes) (r : ℕ) (found : Bo
   pub none : found ≡ false → Passed src from old r
 
 -- the bytes that a trim takes away
-abbrev pub cutBy : Edge → ℕ → Bool
-cutBy White b = white b
-cutBy (Byte c) b = eqb b c
+abbrev pub cut_by : Edge → ℕ → Bool
+cut_by White b = white b
+cut_by (Byte c) b = eqb b c
 
 -- a trim at the start leaves what stands from r on
 pub record LeftFrom (test : ℕ → Bool) (s : Bytes) (r : ℕ) : Type 0 where
   pub within : r ≤ length s
-  pub part : drop r s ≡ trimStart test s
+  pub part : drop r s ≡ trim_start test s
 
 -- a trim at the end leaves what stands before r
 pub record LeftTo (test : ℕ → Bool) (s : Bytes) (r : ℕ) : Type 0 where
   pub within : r ≤ length s
-  pub part : take r s ≡ trimEnd test s
+  pub part : take r s ≡ trim_end test s

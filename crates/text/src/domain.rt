@@ -1,6 +1,6 @@
 // Refusals 1 and 2, which the Rust has not: is a text short enough, and is every byte of it ASCII or part of a whole subscript digit?
 ghost use Rattle.std.specs.Prelude.{◌≡◌, true, ◌≤◌, length, drop};
-ghost use Rattle.rules.specs.Text.Bytes.{inDomain};
+ghost use Rattle.rules.specs.Text.Bytes.{in_domain};
 ghost use Rattle.laws_text.specs.Entry.{RefusedFirst};
 ghost use Rattle.laws_text.specs.Passes.{digit};
 ghost use Rattle.text.specs.Domain.{Clear};
@@ -65,7 +65,7 @@ fn skip_ascii(s: &[u8], from: usize) -> usize
 
 // Is every byte of s ASCII or part of a whole subscript digit? Where not, the text is refused 2.
 fn in_domain(s: &[u8]) -> bool
-    ensures { result ≡ inDomain s.now }
+    ensures { result ≡ in_domain s.now }
 {
     let mut i = skip_ascii(s, 0);
     while i < s.len() {

@@ -1,7 +1,7 @@
 // Trimming, the part of a text without what stands at its ends: Rust's `trim`, `trim_matches` and `trim_start_matches`.
 ghost use Rattle.std.specs.Prelude.{◌≡◌};
 ghost use Rattle.rules.specs.Text.Bytes.{trimmed};
-ghost use Rattle.text.specs.Places.{cutBy, LeftFrom, LeftTo};
+ghost use Rattle.text.specs.Places.{cut_by, LeftFrom, LeftTo};
 
 use crate::white::is_white;
 
@@ -14,7 +14,7 @@ pub enum Edge {
 
 // Does a trim by e take b away?
 pub fn is_cut(e: Edge, b: u8) -> bool
-    ensures { result ≡ cutBy e b }
+    ensures { result ≡ cut_by e b }
 {
     match e {
         Edge::White => is_white(b),
@@ -24,7 +24,7 @@ pub fn is_cut(e: Edge, b: u8) -> bool
 
 // The place of the first byte that a trim by e leaves, or the length.
 pub fn start_of(e: Edge, s: &[u8]) -> usize
-    ensures { LeftFrom (cutBy e) s.now result }
+    ensures { LeftFrom (cut_by e) s.now result }
 {
     let mut i = 0;
     while i < s.len() {
@@ -39,7 +39,7 @@ pub fn start_of(e: Edge, s: &[u8]) -> usize
 
 // The place after the last byte that a trim by e leaves, or 0.
 pub fn end_of(e: Edge, s: &[u8]) -> usize
-    ensures { LeftTo (cutBy e) s.now result }
+    ensures { LeftTo (cut_by e) s.now result }
 {
     let mut k = s.len();
     while 0 < k {
@@ -54,7 +54,7 @@ pub fn end_of(e: Edge, s: &[u8]) -> usize
 
 // The part of s that a trim by e at both ends leaves.
 pub fn trim(e: Edge, s: &[u8]) -> &[u8]
-    ensures { result.now ≡ trimmed (cutBy e) s.now }
+    ensures { result.now ≡ trimmed (cut_by e) s.now }
 {
     let a = start_of(e, s);
     let t = &s[a..];

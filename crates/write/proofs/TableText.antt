@@ -10,9 +10,9 @@ use lib.ListN.{length, take, get_or}
 use lib.Seq.{get_or-take}
 use lib.Dec.{ltb}
 use Rattle.rules.specs.Text.Ascii.{ascii}
-use Rattle.rules.specs.Text.Bytes.{Bytes, afterEach, joinedBy, joined}
+use Rattle.rules.specs.Text.Bytes.{Bytes, after_each, joined_by, joined}
 use Rattle.rules.specs.Text.Refusal.{Reply, answers, Lends}
-use Rattle.rules.specs.Pipeline.Record.{operator, args, made, tableReading, goodIn, firstBad, refusal18, listed}
+use Rattle.rules.specs.Pipeline.Record.{operator, args, made, table_reading, good_in, first_bad, refusal18, listed}
 use Rattle.rules.specs.declared.Step.{Step}
 use Rattle.rules.specs.declared.Table.{Table}
 use Rattle.rules.specs.declared.Written.{Written}
@@ -20,18 +20,18 @@ use Rattle.rules.specs.declared.Written.TheVariants as variant
 use Rattle.laws_text.specs.Entry.{lends-refusal}
 use Rattle.text.specs.Wrote.{Wrote, WroteAt}
 use Rattle.text.proofs.Wrote.{wrote-front, wrote-fits, wrote-counts}
-use Rattle.record.specs.Records.{badOf}
+use Rattle.record.specs.Records.{bad_of}
 use Rattle.record.specs.declared.tests.Bad.{Bad}
 use Rattle.record.specs.declared.tests.Bad.TheVariants.{At, Nowhere}
 use Rattle.record.proofs.SoundTable.{Sound}
-use Rattle.rules.specs.Pipeline.Write.{operatorWords, writing, tableWriting, writtenUnless18, write}
+use Rattle.rules.specs.Pipeline.Write.{operator_words, writing, table_writing, written_unless18, write}
 use Rattle.laws_lists.specs.Tests.{and_left, never}
 use Rattle.laws_records.specs.Records.{made-keeps}
 use Rattle.laws_records.specs.Written.{writing-short}
 use Rattle.laws_records.specs.Faithful.{table-short}
 use Rattle.laws_records.specs.Accepted.{not-18}
 use Rattle.numbers.specs.Parts.{Room, rest}
-use Rattle.write.specs.Parts.{markText, parted}
+use Rattle.write.specs.Parts.{mark_text, parted}
 use Rattle.numbers.proofs.InTurn.{room_as, as_written, first-room, then-room, both-written}
 use Rattle.numbers.proofs.Listed.{put_written}
 use Rattle.numbers.proofs.EachInTurn.{Going, going-room, going-turn}
@@ -45,25 +45,25 @@ step_fits s h dst e = record { fits = omega (arith, writing-short s (made-keeps 
 
 module _ (s : Step) {dst : Bytes} {at : ℕ} (h : Room (writing s) at dst) where
   front : Bytes
-  front = joined (operatorWords (operator s) (args s))
+  front = joined (operator_words (operator s) (args s))
 
   marked : Bytes
-  marked = markText s.inv s.omit_fwd s.omit_inv
+  marked = mark_text s.inv s.omit_fwd s.omit_inv
 
   parts-room : Room (front ++ marked) at dst
   unfolding front marked
   parts-room = room_as (sym (step_is s)) h
 
-  pub words-room : Room (joined (operatorWords (operator s) (args s))) at dst
+  pub words-room : Room (joined (operator_words (operator s) (args s))) at dst
   unfolding front
   words-room = first-room front marked parts-room
 
-  module _ {r : ℕ} {last : Bytes} (v : WroteAt (joined (operatorWords (operator s) (args s))) dst at r last) where
-    pub marks-room : Room (markText s.inv s.omit_fwd s.omit_inv) r last
+  module _ {r : ℕ} {last : Bytes} (v : WroteAt (joined (operator_words (operator s) (args s))) dst at r last) where
+    pub marks-room : Room (mark_text s.inv s.omit_fwd s.omit_inv) r last
     unfolding front marked
     marks-room = then-room front marked parts-room v
 
-    pub step-written : {r' : ℕ} {last' : Bytes} → WroteAt (markText s.inv s.omit_fwd s.omit_inv) last r r' last' → WroteAt (writing s) dst at r' last'
+    pub step-written : {r' : ℕ} {last' : Bytes} → WroteAt (mark_text s.inv s.omit_fwd s.omit_inv) last r r' last' → WroteAt (writing s) dst at r' last'
     unfolding front marked
     step-written x = as_written (step_is s) (both-written front marked parts-room v x)
 
@@ -99,18 +99,18 @@ module _ (s : Step) {i : ℕ} {dst : Bytes} {at : ℕ} (h : Room (parted (ltb 0 
     pub first-parted : {r : ℕ} {last : Bytes} → WroteAt (writing s) dst at r last → WroteAt (parted (ltb 0 i) s) dst at r last
     first-parted w = as_written first-is w
 
-after-rest : (l : List Step) → afterEach (32 ∷ 124 ∷ 32 ∷ []) (map writing l) ≡ rest parted true l
-unfolding afterEach rest parted
+after-rest : (l : List Step) → after_each (32 ∷ 124 ∷ 32 ∷ []) (map writing l) ≡ rest parted true l
+unfolding after_each rest parted
 after-rest [] = refl
 after-rest (s ∷ l) = ap (λ (t : Bytes). 32 ∷ 124 ∷ 32 ∷ (writing s ++ t)) (after-rest l)
 
-table-rest : (l : List Step) → tableWriting l ≡ rest parted false l
-unfolding tableWriting joinedBy rest parted ascii
+table-rest : (l : List Step) → table_writing l ≡ rest parted false l
+unfolding table_writing joined_by rest parted ascii
 table-rest [] = refl
 table-rest (s ∷ l) = ap (λ (t : Bytes). writing s ++ t) (after-rest l)
 
-pub rows-rest : {t : Table} → Sound t → tableWriting (listed t) ≡ rest parted false (take t.n t.steps)
-rows-rest {t} s = ap tableWriting s.rows ∙ table-rest (take t.n t.steps)
+pub rows-rest : {t : Table} → Sound t → table_writing (listed t) ≡ rest parted false (take t.n t.steps)
+rows-rest {t} s = ap table_writing s.rows ∙ table-rest (take t.n t.steps)
 
 module _ {t : Table} (s : Sound t) {whole dst₀ : Bytes} {at i o : ℕ} {dst : Bytes} (g : Going parted whole (take t.n t.steps) dst₀ at i o dst) (h : i < t.n) (d : Step) where
   same_row : get_or (take t.n t.steps) i d ≡ get_or t.steps i d
@@ -144,44 +144,44 @@ module _ {text own : Bytes} {n : ℕ} {last : Bytes} (w : WroteAt text own 0 n l
 -- one record
 module _ (s : Step) where
   -- in its own reading, behind no other
-  bad-one : (b : Bool) → goodIn s.reading 0 s ≡ b → firstBad (tableReading (s ∷ [])) 0 1 (s ∷ []) ≡ cond b none (some 1)
-  unfolding firstBad tableReading
+  bad-one : (b : Bool) → good_in s.reading 0 s ≡ b → first_bad (table_reading (s ∷ [])) 0 1 (s ∷ []) ≡ cond b none (some 1)
+  unfolding first_bad table_reading
   bad-one b e = rw e refl
 
-  pub one-bad : {out : Bytes} → goodIn s.reading 0 s ≡ false → Lends (write (s ∷ [])) out (variant.Refused 18 1) out
-  unfolding write writtenUnless18 refusal18
+  pub one-bad : {out : Bytes} → good_in s.reading 0 s ≡ false → Lends (write (s ∷ [])) out (variant.Refused 18 1) out
+  unfolding write written_unless18 refusal18
   one-bad h = lends-refusal (rw (bad-one false h))
 
-  pub one-good : goodIn s.reading 0 s ≡ true → write (s ∷ []) ≡ answers (writing s)
-  unfolding write writtenUnless18 refusal18
-  one-good h = rw (bad-one true h) (unfold tableWriting joinedBy afterEach in ap answers (append-nil (writing s)))
+  pub one-good : good_in s.reading 0 s ≡ true → write (s ∷ []) ≡ answers (writing s)
+  unfolding write written_unless18 refusal18
+  one-good h = rw (bad-one true h) (unfold table_writing joined_by after_each in ap answers (append-nil (writing s)))
 
-  pub good-made : goodIn s.reading 0 s ≡ true → made s ≡ true
-  unfolding goodIn
+  pub good-made : good_in s.reading 0 s ≡ true → made s ≡ true
+  unfolding good_in
   good-made h = and_left (made s) _ h
 
 -- a table
-bad-at : (o : Option ℕ) {k : ℕ} → badOf o ≡ At k → o ≡ some k
-unfolding badOf
+bad-at : (o : Option ℕ) {k : ℕ} → bad_of o ≡ At k → o ≡ some k
+unfolding bad_of
 bad-at none e = absurd (never (cc e))
 bad-at (some j) e = cc e
 
-bad-none : (o : Option ℕ) → badOf o ≡ Nowhere → o ≡ none
-unfolding badOf
+bad-none : (o : Option ℕ) → bad_of o ≡ Nowhere → o ≡ none
+unfolding bad_of
 bad-none none e = refl
 bad-none (some j) e = absurd (never (cc e))
 
-pub table-bad : (l : List Step) {b : Bad} {k : ℕ} {out : Bytes} → b ≡ badOf (refusal18 l) → b ≡ At k → Lends (write l) out (variant.Refused 18 k) out
-unfolding write writtenUnless18
+pub table-bad : (l : List Step) {b : Bad} {k : ℕ} {out : Bytes} → b ≡ bad_of (refusal18 l) → b ≡ At k → Lends (write l) out (variant.Refused 18 k) out
+unfolding write written_unless18
 table-bad l e f = lends-refusal (rw (bad-at (refusal18 l) (sym e ∙ f)))
 
-pub nowhere-bad : (l : List Step) {b : Bad} → b ≡ badOf (refusal18 l) → b ≡ Nowhere → refusal18 l ≡ none
+pub nowhere-bad : (l : List Step) {b : Bad} → b ≡ bad_of (refusal18 l) → b ≡ Nowhere → refusal18 l ≡ none
 nowhere-bad l e f = bad-none (refusal18 l) (sym e ∙ f)
 
-pub table-good : (l : List Step) → refusal18 l ≡ none → write l ≡ answers (tableWriting l)
-unfolding write writtenUnless18
+pub table-good : (l : List Step) → refusal18 l ≡ none → write l ≡ answers (table_writing l)
+unfolding write written_unless18
 table-good l h = rw h
 
 -- it has room in 4,096 bytes
-pub table_fits : (l : List Step) (dst : Bytes) → refusal18 l ≡ none → length dst ≡ 4096 → Room (tableWriting l) 0 dst
+pub table_fits : (l : List Step) (dst : Bytes) → refusal18 l ≡ none → length dst ≡ 4096 → Room (table_writing l) 0 dst
 table_fits l dst h e = let k = (not-18 l).0 h in record { fits = omega (arith, table-short l k.0 k.1) }

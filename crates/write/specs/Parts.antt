@@ -10,8 +10,8 @@ use Rattle.rules.specs.declared.Step.{Step}
 unfoldable pub marked : Bytes → ℕ → Bytes
 marked word mark = cond (is_set mark) word []
 
-unfoldable pub markText : ℕ → ℕ → ℕ → Bytes
-markText inv fwd back = marked (ascii " inv") inv ++ (marked (ascii " omit_fwd") fwd ++ marked (ascii " omit_inv") back)
+unfoldable pub mark_text : ℕ → ℕ → ℕ → Bytes
+mark_text inv fwd back = marked (ascii " inv") inv ++ (marked (ascii " omit_fwd") fwd ++ marked (ascii " omit_inv") back)
 
 -- a record's text, after ` | ` if others have come before it
 unfoldable pub parted : Bool → Step → Bytes

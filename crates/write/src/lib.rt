@@ -6,7 +6,7 @@ ghost use Rattle.std.proofs.Math.Option.{none};
 ghost use Rattle.rules.specs.Text.Refusal.{Lends};
 ghost use Rattle.rules.specs.Pipeline.Record.{made, refusal18, listed};
 ghost use Rattle.text.specs.Wrote.{WroteAt};
-ghost use Rattle.rules.specs.Pipeline.Write.{writing, tableWriting, write};
+ghost use Rattle.rules.specs.Pipeline.Write.{writing, table_writing, write};
 ghost use Rattle.numbers.specs.Parts.{Room};
 ghost use Rattle.write.specs.Parts.{parted};
 
@@ -31,8 +31,8 @@ fn parted(i: usize, s: Step, out: &mut [u8], o: usize) -> usize
 // The texts of a table's records with ` | ` between.
 fn steps(table: Table, out: &mut [u8], o: usize) -> usize
     requires table_value { refusal18 (listed table) ≡ none }
-    requires room { Room (tableWriting (listed table)) o out.old }
-    ensures { WroteAt (tableWriting (listed table)) out.old o result out.new }
+    requires room { Room (table_writing (listed table)) o out.old }
+    ensures { WroteAt (table_writing (listed table)) out.old o result out.new }
 {
     let n = table.n;
     let mut e = o;

@@ -1,21 +1,21 @@
 // The text of one record: the operator's words, and the marks.
 ghost use Rattle.std.specs.Prelude.{◌≡◌, true};
 ghost use Rattle.rules.specs.Text.Bytes.{joined};
-ghost use Rattle.rules.specs.Operators.Table.{operatorOf, isArgs};
+ghost use Rattle.rules.specs.Operators.Table.{operator_of, is_args};
 ghost use Rattle.rules.specs.Pipeline.Record.{made};
-ghost use Rattle.rules.specs.Pipeline.Write.{operatorWords, writing};
+ghost use Rattle.rules.specs.Pipeline.Write.{operator_words, writing};
 ghost use Rattle.text.specs.Wrote.{WroteAt};
 ghost use Rattle.numbers.specs.Parts.{Room};
-ghost use Rattle.write.specs.Parts.{marked, markText};
+ghost use Rattle.write.specs.Parts.{marked, mark_text};
 
 use rules::{AXISSWAP, DOCUMENTED, POP, PUSH, STACK_DROP, STACK_PUSH, Step};
 use text::put;
 
 // The operator's name and arguments, which the operator itself writes.
 fn words(operator: u8, l: &[i32], out: &mut [u8], o: usize) -> usize
-    requires l_value { isArgs (operatorOf operator) l.now ≡ true }
-    requires room { Room (joined (operatorWords (operatorOf operator) l.now)) o out.old }
-    ensures { WroteAt (joined (operatorWords (operatorOf operator) l.now)) out.old o result out.new }
+    requires l_value { is_args (operator_of operator) l.now ≡ true }
+    requires room { Room (joined (operator_words (operator_of operator) l.now)) o out.old }
+    ensures { WroteAt (joined (operator_words (operator_of operator) l.now)) out.old o result out.new }
 {
     match operator {
         PUSH | POP => pushpop::write_words(operator, l, out, o),
@@ -39,8 +39,8 @@ fn marked(word: &[u8], mark: u8, out: &mut [u8], o: usize) -> usize
 
 // The marks that are set, each after a space.
 fn marks(inv: u8, fwd: u8, back: u8, out: &mut [u8], o: usize) -> usize
-    requires { Room (markText inv fwd back) o out.old }
-    ensures { WroteAt (markText inv fwd back) out.old o result out.new }
+    requires { Room (mark_text inv fwd back) o out.old }
+    ensures { WroteAt (mark_text inv fwd back) out.old o result out.new }
 {
     let a = marked(b" inv", inv, out, o);
     let e = marked(b" omit_fwd", fwd, out, a);

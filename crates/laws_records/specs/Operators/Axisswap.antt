@@ -16,17 +16,17 @@ use Rattle.rules.specs.Text.Split.{modifier}
 use Rattle.rules.specs.Text.Decimal.{minus}
 use Rattle.rules.specs.Text.Refusal.{answers}
 use Rattle.rules.specs.Text.Parameters.{Parameter, name}
-use Rattle.rules.specs.Operators.Arguments.{value_of, size, isDistinct, listing, keyValue, is_order}
+use Rattle.rules.specs.Operators.Arguments.{value_of, size, is_distinct, listing, key_value, is_order}
 use Rattle.rules.specs.Operators.Numbers.{number, put, turn}
-use Rattle.rules.specs.Operators.Keys.{flag, numbered, worded, kindIn}
+use Rattle.rules.specs.Operators.Keys.{flag, numbered, worded, kind_in}
 use Rattle.rules.specs.Operators.Descriptions.{Operator, Axisswap, choose}
-use Rattle.rules.specs.Operators.Axisswap.{order, swapFrom, unswapFrom, reordered, swapped}
-use Rattle.rules.specs.Operators.Table.{isArgs, name_of, number_of, otherMode, isOfMode}
-use Rattle.rules.specs.Operators.Documented.{adaptIn}
-use Rattle.rules.specs.Pipeline.Record.{operator, args, nineDigits}
-use Rattle.rules.specs.Pipeline.Keys.{everyKey, ownKeys, kind_of, isLacking, unknown, misspelt, tooLong}
-use Rattle.rules.specs.Pipeline.Prepare.{recordOf, recorded, ownRule, named, judged}
-use Rattle.rules.specs.Pipeline.Write.{nameWord, argWords}
+use Rattle.rules.specs.Operators.Axisswap.{order, swap_from, unswap_from, reordered, swapped}
+use Rattle.rules.specs.Operators.Table.{is_args, name_of, number_of, other_mode, is_of_mode}
+use Rattle.rules.specs.Operators.Documented.{adapt_in}
+use Rattle.rules.specs.Pipeline.Record.{operator, args, nine_digits}
+use Rattle.rules.specs.Pipeline.Keys.{every_key, own_keys, kind_of, is_lacking, unknown, misspelt, too_long}
+use Rattle.rules.specs.Pipeline.Prepare.{record_of, recorded, own_rule, named, judged}
+use Rattle.rules.specs.Pipeline.Write.{name_word, arg_words}
 use Rattle.rules.specs.declared.Coord.{Coord}
 use Rattle.rules.specs.declared.Mode.{Mode}
 use Rattle.rules.specs.declared.Step.{Step}
@@ -35,28 +35,28 @@ use Rattle.laws_lists.specs.Lists.{all_so}
 use Rattle.laws_lists.specs.Tests.{and_left, and_right, never}
 use Rattle.laws_records.specs.Calm.{known, firm, middle, follows, quiet, end_of, calm}
 use Rattle.laws_records.specs.Settled.{lacks}
-use Rattle.laws_records.specs.Given.{bare, picked, latest, faulty, tableFrom, look, looked, table-judged}
+use Rattle.laws_records.specs.Given.{bare, picked, latest, faulty, table_from, look, looked, table-judged}
 use Rattle.laws_records.specs.Numbers.{listing-wholes}
 use Rattle.laws_records.specs.Worded as word
 use Rattle.laws_records.specs.Sayings.{each-total, spelling-short}
 use Rattle.laws_records.specs.Kept.{Kept}
-use Rattle.laws_records.specs.Records.{IsMade, marksOf, marks-bare, record-again}
+use Rattle.laws_records.specs.Records.{IsMade, marks_of, marks-bare, record-again}
 use Rattle.laws_records.specs.Ieee.{unit, turn-mul}
-use Rattle.laws_records.specs.Owed.{KeepsRule, both-modes, Well, Short, wholes-kept, Says, wordsJudged, PlainName, HasText, keyed, list-says, list_read, by-list, none_left}
+use Rattle.laws_records.specs.Owed.{KeepsRule, both-modes, Well, Short, wholes-kept, Says, words_judged, PlainName, HasText, keyed, list-says, list_read, by-list, none_left}
 
 -- ---- the rule
 
 default-kept : Kept Axisswap (pos 1 ∷ pos 2 ∷ pos 3 ∷ pos 4 ∷ [])
-unfolding isArgs is_order isDistinct nineDigits all_of any_of
+unfolding is_args is_order is_distinct nine_digits all_of any_of
 default-kept = record { fit = lit≤ tt; nines = refl; rule = refl }
 
 order-kept : (ps : List Parameter) → Short name-is.Axisswap ps → (o : Option Bytes) → value_of (ascii "order") ps ≡ o → (l : List ℤ) → order o ≡ some l → Kept Axisswap l
-unfolding order isArgs kind_of kindIn everyKey ownKeys flag numbered worded same ascii
+unfolding order is_args kind_of kind_in every_key own_keys flag numbered worded same ascii
 order-kept ps short none e l h = let same : pos 1 ∷ pos 2 ∷ pos 3 ∷ pos 4 ∷ [] ≡ l = cc h in rw (← same) default-kept
 order-kept ps short (some v) e l h = wholes-kept name-is.Axisswap ps short Axisswap (ascii "order") v refl e l h
 
 pub axisswap-keeps : KeepsRule name-is.Axisswap
-unfolding choose isOfMode number_of adaptIn otherMode
+unfolding choose is_of_mode number_of adapt_in other_mode
 axisswap-keeps mode ps short c h = go (order (value_of (ascii "order") ps)) refl h
   where
     go : (r : Option (List ℤ)) → order (value_of (ascii "order") ps) ≡ r → choose Axisswap r ≡ some c → Well mode c
@@ -80,40 +80,40 @@ order-some l h =
           (λ x k. let g = leb-true (size x) (length l) (and_right (leb 1 (size x)) _ k) in le-leb (size x) 4 (omega arith)) l a,
     )
 
-order-says : (l : List ℤ) → all_of nineDigits l ≡ true → is_order l ≡ true → Says Axisswap l
+order-says : (l : List ℤ) → all_of nine_digits l ≡ true → is_order l ≡ true → Says Axisswap l
 order-says [] h r = none_left (order-some [] r).0
 order-says (x ∷ l) h r =
     let o = order-some (x ∷ l) r in
-    list-says "order" x l h Axisswap (unfold argWords in refl) (unfold word.worded calm firm known follows middle quiet end_of lacks white any_of ascii in refl) (unfold nameWord ascii in lit≤ tt)
+    list-says "order" x l h Axisswap (unfold arg_words in refl) (unfold word.worded calm firm known follows middle quiet end_of lacks white any_of ascii in refl) (unfold name_word ascii in lit≤ tt)
     (omega (arith, o.1, each-total 2 (λ (x : ℤ). leb (size x) 4) spelling-short (x ∷ l) o.2))
 
 module _ (s : Step) (m : IsMade s) where
   -- the table of the name, the order and the marks
-  abbrev orderTable : Bytes → List Parameter
-  orderTable v = tableFrom (ascii "axisswap") (keyed "order" v ∷ []) (marksOf s)
+  abbrev order_table : Bytes → List Parameter
+  order_table v = table_from (ascii "axisswap") (keyed "order" v ∷ []) (marks_of s)
 
-  order-judged : (mode : Mode) (x : ℤ) (l : List ℤ) → args s ≡ x ∷ l → operator s ≡ Axisswap → is_order (x ∷ l) ≡ true → judged mode (orderTable (listing (x ∷ l))) ≡ answers s
-  unfolding keyed latest look picked marksOf named name_of faulty unknown isLacking misspelt tooLong kind_of kindIn everyKey ownKeys flag numbered
-      worded name bare any_of same ascii is_none ownRule order recorded choose
+  order-judged : (mode : Mode) (x : ℤ) (l : List ℤ) → args s ≡ x ∷ l → operator s ≡ Axisswap → is_order (x ∷ l) ≡ true → judged mode (order_table (listing (x ∷ l))) ≡ answers s
+  unfolding keyed latest look picked marks_of named name_of faulty unknown is_lacking misspelt too_long kind_of kind_in every_key own_keys flag numbered
+      worded name bare any_of same ascii is_none own_rule order recorded choose
   order-judged mode x l z e r =
-      let nines : all_of nineDigits (x ∷ l) ≡ true = rw z at m.keeps.nines in
+      let nines : all_of nine_digits (x ∷ l) ≡ true = rw z at m.keeps.nines in
       let fit : length (x ∷ l) ≤ 8 = rw z at m.keeps.fit in
       let v = listing (x ∷ l) in
-      table-judged mode (ascii "axisswap") (keyed "order" v ∷ []) (marksOf s) (marks-bare s) name-is.Axisswap s refl
+      table-judged mode (ascii "axisswap") (keyed "order" v ∷ []) (marks_of s) (marks-bare s) name-is.Axisswap s refl
       (rw (list_read "order" x l nines fit)) refl
-      (rw (looked (ascii "axisswap") (keyed "order" v ∷ []) (marksOf s) (marks-bare s) (ascii "order"), listing-wholes x l nines is_order r)
-      (ap (λ (a : List ℤ). some (recordOf Axisswap (orderTable v) a)) (sym z)
-      ∙ ap (λ (o : Operator). some (recordOf o (orderTable v) (args s))) (sym e)
+      (rw (looked (ascii "axisswap") (keyed "order" v ∷ []) (marks_of s) (marks-bare s) (ascii "order"), listing-wholes x l nines is_order r)
+      (ap (λ (a : List ℤ). some (record_of Axisswap (order_table v) a)) (sym z)
+      ∙ ap (λ (o : Operator). some (record_of o (order_table v) (args s))) (sym e)
       ∙ ap some (record-again s (ascii "axisswap") (keyed "order" v ∷ []) (record { no-inv = refl; no-fwd = refl; no-back = refl }) m)))
 
-  order-again : (mode : Mode) → operator s ≡ Axisswap → wordsJudged mode s (nameWord Axisswap) (argWords Axisswap (args s)) ≡ answers s
-  unfolding isArgs nameWord argWords
+  order-again : (mode : Mode) → operator s ≡ Axisswap → words_judged mode s (name_word Axisswap) (arg_words Axisswap (args s)) ≡ answers s
+  unfolding is_args name_word arg_words
   order-again mode e = go (args s) refl
     where
       rule : is_order (args s) ≡ true
       rule = rw e at m.keeps.rule
 
-      go : (l : List ℤ) → args s ≡ l → wordsJudged mode s (ascii "axisswap") (keyValue "order" (listing (args s)) ∷ []) ≡ answers s
+      go : (l : List ℤ) → args s ≡ l → words_judged mode s (ascii "axisswap") (key_value "order" (listing (args s)) ∷ []) ≡ answers s
       go [] z = none_left (order-some [] (rw z at rule)).0
       go (x ∷ l) z =
           rw z
@@ -126,8 +126,8 @@ axisswap-name = record { reads = refl; no-modifier = refl; no_value = refl }
 pub axisswap-text : HasText Axisswap
 axisswap-text =
     record {
-      named = unfold nameWord in axisswap-name;
-      says = λ l f h r. order-says l h (unfold isArgs in r);
+      named = unfold name_word in axisswap-name;
+      says = λ l f h r. order-says l h (unfold is_args in r);
       again = λ mode of s m. order-again s m mode;
     }
 
@@ -158,13 +158,13 @@ module _ (c : Coord) (h : Held64 c) where
   unfolding times
   turn-times b i = turn-mul binary64 b (number i c) (number-held i c h)
 
-  swap-times : (i : ℕ) (l : List ℤ) (out : Coord) → swapFrom number put turn i l c out ≡ swapFrom number put times i l c out
-  unfolding swapFrom
+  swap-times : (i : ℕ) (l : List ℤ) (out : Coord) → swap_from number put turn i l c out ≡ swap_from number put times i l c out
+  unfolding swap_from
   swap-times i [] out = refl
   swap-times i (x ∷ l) out = rw (turn-times (minus x) (nat_abs x)) (swap-times (suc i) l (put i (times (minus x) (number (nat_abs x) c)) out))
 
-  unswap-times : (i : ℕ) (l : List ℤ) (out : Coord) → unswapFrom number put turn i l c out ≡ unswapFrom number put times i l c out
-  unfolding unswapFrom
+  unswap-times : (i : ℕ) (l : List ℤ) (out : Coord) → unswap_from number put turn i l c out ≡ unswap_from number put times i l c out
+  unfolding unswap_from
   unswap-times i [] out = refl
   unswap-times i (x ∷ l) out = rw (turn-times (minus x) i) (unswap-times (suc i) l (put (nat_abs x) (times (minus x) (number i c)) out))
 

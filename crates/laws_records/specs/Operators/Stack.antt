@@ -16,16 +16,16 @@ use Rattle.rules.specs.Text.Split.{modifier}
 use Rattle.rules.specs.Text.Decimal.{minus, pieces, series}
 use Rattle.rules.specs.Text.Refusal.{answers}
 use Rattle.rules.specs.Text.Parameters.{Parameter, parameter, name}
-use Rattle.rules.specs.Operators.Arguments.{value_of, size, isPlace, wholes, spelling, listing, keyValue}
-use Rattle.rules.specs.Operators.Keys.{flag, numbered, worded, kindIn}
+use Rattle.rules.specs.Operators.Arguments.{value_of, size, is_place, wholes, spelling, listing, key_value}
+use Rattle.rules.specs.Operators.Keys.{flag, numbered, worded, kind_in}
 use Rattle.rules.specs.Operators.Descriptions.{Operator, StackPush, StackPop, StackFlip, StackRoll, StackUnroll, StackSwap, StackDrop, Chosen, choose}
-use Rattle.rules.specs.Operators.Stack.{isPlaces, isRoll, isNothing, actionKeys, Action, actions, actionThen, actionsGiven, exactlyOne}
-use Rattle.rules.specs.Operators.Table.{isArgs, name_of, number_of, otherMode, isOfMode}
-use Rattle.rules.specs.Operators.Documented.{adaptIn}
-use Rattle.rules.specs.Pipeline.Record.{operator, args, nineDigits}
-use Rattle.rules.specs.Pipeline.Keys.{everyKey, ownKeys, kind_of, isLacking, unknown, misspelt, tooLong}
-use Rattle.rules.specs.Pipeline.Prepare.{recorded, ownRule, named, judged}
-use Rattle.rules.specs.Pipeline.Write.{nameWord, argWords}
+use Rattle.rules.specs.Operators.Stack.{is_places, is_roll, is_nothing, action_keys, Action, actions, action_then, actions_given, exactly_one}
+use Rattle.rules.specs.Operators.Table.{is_args, name_of, number_of, other_mode, is_of_mode}
+use Rattle.rules.specs.Operators.Documented.{adapt_in}
+use Rattle.rules.specs.Pipeline.Record.{operator, args, nine_digits}
+use Rattle.rules.specs.Pipeline.Keys.{every_key, own_keys, kind_of, is_lacking, unknown, misspelt, too_long}
+use Rattle.rules.specs.Pipeline.Prepare.{recorded, own_rule, named, judged}
+use Rattle.rules.specs.Pipeline.Write.{name_word, arg_words}
 use Rattle.rules.specs.declared.Mode.{Mode}
 use Rattle.rules.specs.declared.Step.{Step}
 use Rattle.rules.specs.declared.Name.TheVariants.{Stack}
@@ -34,13 +34,13 @@ use Rattle.laws_lists.specs.Lists.{Every}
 use Rattle.laws_lists.specs.Tests.{and_left, and_right, never}
 use Rattle.laws_records.specs.Calm.{known, firm, middle, follows, quiet, end_of, calm}
 use Rattle.laws_records.specs.Settled.{lacks}
-use Rattle.laws_records.specs.Given.{bare, picked, latest, faulty, tableFrom, look, looked, table-judged}
+use Rattle.laws_records.specs.Given.{bare, picked, latest, faulty, table_from, look, looked, table-judged}
 use Rattle.laws_records.specs.Numbers.{listing-wholes}
 use Rattle.laws_records.specs.Worded as word
 use Rattle.laws_records.specs.Sayings.{total, each-total, spelling-long, spelling-short}
 use Rattle.laws_records.specs.Kept.{Kept}
-use Rattle.laws_records.specs.Records.{IsMade, marksOf, marks-bare, Unmarked, record-again}
-use Rattle.laws_records.specs.Owed.{KeepsRule, both-modes, Well, Short, wholes-kept, Says, wordsJudged, HasText, by-own, PlainName, one-says, keyed, list-says, list_read, by-list}
+use Rattle.laws_records.specs.Records.{IsMade, marks_of, marks-bare, Unmarked, record-again}
+use Rattle.laws_records.specs.Owed.{KeepsRule, both-modes, Well, Short, wholes-kept, Says, words_judged, HasText, by-own, PlainName, one-says, keyed, list-says, list_read, by-list}
 
 -- ---- the action that is given keeps its rule
 
@@ -49,29 +49,29 @@ abbrev IfKept : Mode → Option Chosen → Type 0
 IfKept mode r = (c : Chosen) → r ≡ some c → Well mode c
 
 module _ (mode : Mode) where
-  one_kept : (l : List (Option Chosen)) → Every (IfKept mode) l → IfKept mode (exactlyOne l)
-  unfolding Every exactlyOne
+  one_kept : (l : List (Option Chosen)) → Every (IfKept mode) l → IfKept mode (exactly_one l)
+  unfolding Every exactly_one
   one_kept [] a c h = absurd (never (cc h))
   one_kept (x ∷ []) a c h = a.0 c h
   one_kept (x ∷ y ∷ l) a c h = absurd (never (cc h))
 
-  choose-kept : (o : Operator) (r : Option (List ℤ)) → isOfMode mode o ≡ true → ((l : List ℤ) → r ≡ some l → Kept o l) → IfKept mode (choose o r)
+  choose-kept : (o : Operator) (r : Option (List ℤ)) → is_of_mode mode o ≡ true → ((l : List ℤ) → r ≡ some l → Kept o l) → IfKept mode (choose o r)
   unfolding choose
   choose-kept o none f k c h = absurd (never (cc h))
   choose-kept o (some l) f k c h = let e : record { operator = o; arguments = l } ≡ c = cc h in rw (← e) (record { kept = k l refl; of-mode = f })
 
-  action-kept : (a : Action) (v : Option Bytes) (l : List (Option Chosen)) → isOfMode mode a.operator ≡ true
-      → ((w : Bytes) → v ≡ some w → (m : List ℤ) → a.arguments w ≡ some m → Kept a.operator m) → Every (IfKept mode) l → Every (IfKept mode) (actionThen a v l)
-  unfolding Every actionThen
+  action-kept : (a : Action) (v : Option Bytes) (l : List (Option Chosen)) → is_of_mode mode a.operator ≡ true
+      → ((w : Bytes) → v ≡ some w → (m : List ℤ) → a.arguments w ≡ some m → Kept a.operator m) → Every (IfKept mode) l → Every (IfKept mode) (action_then a v l)
+  unfolding Every action_then
   action-kept a none l f h r = r
   action-kept a (some v) l f h r = (choose-kept a.operator (a.arguments v) f (h v refl), r)
 
-nothing-kept : (o : Operator) → isArgs o [] ≡ true → (l : List ℤ) → some [] ≡ some l → Kept o l
+nothing-kept : (o : Operator) → is_args o [] ≡ true → (l : List ℤ) → some [] ≡ some l → Kept o l
 unfolding all_of
 nothing-kept o r l h = let e : [] ≡ l = cc h in rw (← e) (record { fit = lit≤ tt; nines = refl; rule = r })
 
-actions-kept : (mode : Mode) (ps : List Parameter) → Short Stack ps → Every (IfKept mode) (actionsGiven ps actions)
-unfolding Every actionsGiven actions isArgs isOfMode number_of adaptIn otherMode isNothing kind_of kindIn everyKey ownKeys actionKeys flag numbered worded
+actions-kept : (mode : Mode) (ps : List Parameter) → Short Stack ps → Every (IfKept mode) (actions_given ps actions)
+unfolding Every actions_given actions is_args is_of_mode number_of adapt_in other_mode is_nothing kind_of kind_in every_key own_keys action_keys flag numbered worded
     same ascii
 actions-kept mode ps short =
     action-kept mode _ (value_of (ascii "push") ps) _ (both-modes StackPush refl refl mode) (λ v e. wholes-kept Stack ps short StackPush (ascii "push") v refl e)
@@ -83,60 +83,60 @@ actions-kept mode ps short =
     (action-kept mode _ (value_of (ascii "drop") ps) _ (both-modes StackDrop refl refl mode) (λ v e. nothing-kept StackDrop refl) tt))))))
 
 pub stack-keeps : KeepsRule Stack
-stack-keeps mode ps short c h = one_kept mode (actionsGiven ps actions) (actions-kept mode ps short) c h
+stack-keeps mode ps short c h = one_kept mode (actions_given ps actions) (actions-kept mode ps short) c h
 
 -- ---- the action that a text gives
 
 -- what the actions choose, by the values of their keys
-unfoldable actionsBy : (Bytes → Option Bytes) → List Action → List (Option Chosen)
-actionsBy f [] = []
-actionsBy f (a ∷ l) = actionThen a (f (ascii a.key)) (actionsBy f l)
+unfoldable actions_by : (Bytes → Option Bytes) → List Action → List (Option Chosen)
+actions_by f [] = []
+actions_by f (a ∷ l) = action_then a (f (ascii a.key)) (actions_by f l)
 
-actions-by : (f : Bytes → Option Bytes) (ps : List Parameter) → ((k : Bytes) → value_of k ps ≡ f k) → (l : List Action) → actionsGiven ps l ≡ actionsBy f l
-unfolding actionsBy actionsGiven
+actions-by : (f : Bytes → Option Bytes) (ps : List Parameter) → ((k : Bytes) → value_of k ps ≡ f k) → (l : List Action) → actions_given ps l ≡ actions_by f l
+unfolding actions_by actions_given
 actions-by f ps h [] = refl
 actions-by f ps h (a ∷ l) = rw (h (ascii a.key), actions-by f ps h l)
 
 module _ (s : Step) (m : IsMade s) where
   -- the table of `stack` with one parameter, and the values of its keys
-  abbrev stackTable : String → Bytes → List Parameter
-  stackTable key v = tableFrom (ascii "stack") (keyed key v ∷ []) (marksOf s)
+  abbrev stack_table : String → Bytes → List Parameter
+  stack_table key v = table_from (ascii "stack") (keyed key v ∷ []) (marks_of s)
 
   abbrev looks : String → Bytes → Bytes → Option Bytes
-  looks key v = look (ascii "stack") (keyed key v ∷ []) (marksOf s)
+  looks key v = look (ascii "stack") (keyed key v ∷ []) (marks_of s)
 
-  stack-given : (key : String) (v : Bytes) → actionsGiven (stackTable key v) actions ≡ actionsBy (looks key v) actions
-  stack-given key v = actions-by _ (stackTable key v) (looked (ascii "stack") (keyed key v ∷ []) (marksOf s) (marks-bare s)) actions
+  stack-given : (key : String) (v : Bytes) → actions_given (stack_table key v) actions ≡ actions_by (looks key v) actions
+  stack-given key v = actions-by _ (stack_table key v) (looked (ascii "stack") (keyed key v ∷ []) (marks_of s) (marks-bare s)) actions
 
   stack-judged : (mode : Mode) (key : String) (v : Bytes) (o : Operator) → Unmarked (keyed key v ∷ []) → named (looks key v (ascii "_name")) ≡ Is Stack → faulty Stack (keyed key v) ≡ false
-      → exactlyOne (actionsBy (looks key v) actions) ≡ choose o (some (args s)) → operator s ≡ o → judged mode (stackTable key v) ≡ answers s
-  unfolding ownRule any_of recorded choose
+      → exactly_one (actions_by (looks key v) actions) ≡ choose o (some (args s)) → operator s ≡ o → judged mode (stack_table key v) ≡ answers s
+  unfolding own_rule any_of recorded choose
   stack-judged mode key v o u n f g e =
-      table-judged mode (ascii "stack") (keyed key v ∷ []) (marksOf s) (marks-bare s) Stack s n
-      (rw f (unfold faulty unknown isLacking misspelt tooLong kind_of kindIn everyKey ownKeys actionKeys flag numbered worded name same ascii is_none in refl))
-      (unfold faulty unknown isLacking misspelt tooLong kind_of kindIn everyKey ownKeys actionKeys flag numbered worded bare marksOf same ascii is_none in refl)
+      table-judged mode (ascii "stack") (keyed key v ∷ []) (marks_of s) (marks-bare s) Stack s n
+      (rw f (unfold faulty unknown is_lacking misspelt too_long kind_of kind_in every_key own_keys action_keys flag numbered worded name same ascii is_none in refl))
+      (unfold faulty unknown is_lacking misspelt too_long kind_of kind_in every_key own_keys action_keys flag numbered worded bare marks_of same ascii is_none in refl)
       (rw (stack-given key v, g, ← e) (ap some (record-again s (ascii "stack") (keyed key v ∷ []) u m)))
 
   -- ---- an action without numbers
 
-  no-args : (l : List ℤ) → isNothing l ≡ true → l ≡ []
-  unfolding isNothing
+  no-args : (l : List ℤ) → is_nothing l ≡ true → l ≡ []
+  unfolding is_nothing
   no-args [] h = refl
   no-args (x ∷ l) h = absurd (none (length l) (eqb-true (suc (length l)) 0 h))
     where
       none : (n : ℕ) → suc n ≡ 0 → ⊥
       none n e = omega arith
 
-  swap-again : (mode : Mode) → operator s ≡ StackSwap → wordsJudged mode s (nameWord StackSwap) (argWords StackSwap (args s)) ≡ answers s
-  unfolding isArgs nameWord argWords keyed latest look picked marksOf named name_of faulty unknown isLacking misspelt tooLong kind_of kindIn everyKey
-      ownKeys actionKeys flag numbered worded same ascii is_none actionsBy actions actionThen exactlyOne
+  swap-again : (mode : Mode) → operator s ≡ StackSwap → words_judged mode s (name_word StackSwap) (arg_words StackSwap (args s)) ≡ answers s
+  unfolding is_args name_word arg_words keyed latest look picked marks_of named name_of faulty unknown is_lacking misspelt too_long kind_of kind_in every_key
+      own_keys action_keys flag numbered worded same ascii is_none actions_by actions action_then exactly_one
   swap-again mode e =
       by-own mode s (ascii "stack") (ascii "swap" ∷ []) (keyed "swap" (ascii "true") ∷ []) (unfold parameter any_of ascii in refl)
       (stack-judged mode "swap" (ascii "true") StackSwap (record { no-inv = refl; no-fwd = refl; no-back = refl }) refl refl (rw (no-args (args s) (rw e at m.keeps.rule))) e)
 
-  drop-again : (mode : Mode) → operator s ≡ StackDrop → wordsJudged mode s (nameWord StackDrop) (argWords StackDrop (args s)) ≡ answers s
-  unfolding isArgs nameWord argWords keyed latest look picked marksOf named name_of faulty unknown isLacking misspelt tooLong kind_of kindIn everyKey
-      ownKeys actionKeys flag numbered worded same ascii is_none actionsBy actions actionThen exactlyOne
+  drop-again : (mode : Mode) → operator s ≡ StackDrop → words_judged mode s (name_word StackDrop) (arg_words StackDrop (args s)) ≡ answers s
+  unfolding is_args name_word arg_words keyed latest look picked marks_of named name_of faulty unknown is_lacking misspelt too_long kind_of kind_in every_key
+      own_keys action_keys flag numbered worded same ascii is_none actions_by actions action_then exactly_one
   drop-again mode e =
       by-own mode s (ascii "stack") (ascii "drop" ∷ []) (keyed "drop" (ascii "true") ∷ []) (unfold parameter any_of ascii in refl)
       (stack-judged mode "drop" (ascii "true") StackDrop (record { no-inv = refl; no-fwd = refl; no-back = refl }) refl refl (rw (no-args (args s) (rw e at m.keeps.rule))) e)
@@ -148,32 +148,32 @@ module _ (s : Step) (m : IsMade s) where
     unmarked : (v : Bytes) → Unmarked (keyed key v ∷ [])
     is-stack : (v : Bytes) → named (looks key v (ascii "_name")) ≡ Is Stack
     is-series : (v : Bytes) → (is_none (series v) || ltb 8 (length (pieces v))) ≡ false → faulty Stack (keyed key v) ≡ false
-    chooses : (v : Bytes) → exactlyOne (actionsBy (looks key v) actions) ≡ choose o (wholes (isArgs o) (series v))
+    chooses : (v : Bytes) → exactly_one (actions_by (looks key v) actions) ≡ choose o (wholes (is_args o) (series v))
     bare-key : lacks (is "=") (ascii key) ≡ true
-    as-word : (l : List ℤ) → argWords o l ≡ keyValue key (listing l) ∷ []
-    as-stack : nameWord o ≡ ascii "stack"
-    some_left : isArgs o [] ≡ false
+    as-word : (l : List ℤ) → arg_words o l ≡ key_value key (listing l) ∷ []
+    as-stack : name_word o ≡ ascii "stack"
+    some_left : is_args o [] ≡ false
 
-  list-again : (mode : Mode) (key : String) (o : Operator) → ListAction key o → operator s ≡ o → wordsJudged mode s (nameWord o) (argWords o (args s)) ≡ answers s
+  list-again : (mode : Mode) (key : String) (o : Operator) → ListAction key o → operator s ≡ o → words_judged mode s (name_word o) (arg_words o (args s)) ≡ answers s
   list-again mode key o a e = go (args s) refl
     where
-      rule : isArgs o (args s) ≡ true
+      rule : is_args o (args s) ≡ true
       rule = rw e at m.keeps.rule
 
-      go : (l : List ℤ) → args s ≡ l → wordsJudged mode s (nameWord o) (argWords o (args s)) ≡ answers s
+      go : (l : List ℤ) → args s ≡ l → words_judged mode s (name_word o) (arg_words o (args s)) ≡ answers s
       go [] z = absurd (never (cc (rw z at rule, a.some_left)))
       go (x ∷ l) z =
-          let nines : all_of nineDigits (x ∷ l) ≡ true = rw z at m.keeps.nines in
+          let nines : all_of nine_digits (x ∷ l) ≡ true = rw z at m.keeps.nines in
           let fit : length (x ∷ l) ≤ 8 = rw z at m.keeps.fit in
           let v = listing (x ∷ l) in
-          let g : exactlyOne (actionsBy (looks key v) actions) ≡ choose o (some (args s)) = rw (a.chooses v, listing-wholes x l nines (isArgs o) (rw z at rule), z) in
+          let g : exactly_one (actions_by (looks key v) actions) ≡ choose o (some (args s)) = rw (a.chooses v, listing-wholes x l nines (is_args o) (rw z at rule), z) in
           rw (z, a.as-stack, a.as-word (x ∷ l))
           (by-list key x l nines mode s (ascii "stack") a.bare-key (stack-judged mode key v o (a.unmarked v) (a.is-stack v) (a.is-series v (list_read key x l nines fit)) g e))
 
   -- each of the five
   push-list : ListAction "push" StackPush
-  unfolding keyed latest look picked marksOf named name_of faulty unknown isLacking misspelt tooLong kind_of kindIn everyKey ownKeys actionKeys flag
-      numbered worded same ascii is_none actionsBy actions actionThen exactlyOne isArgs argWords nameWord isPlaces lacks any_of
+  unfolding keyed latest look picked marks_of named name_of faulty unknown is_lacking misspelt too_long kind_of kind_in every_key own_keys action_keys flag
+      numbered worded same ascii is_none actions_by actions action_then exactly_one is_args arg_words name_word is_places lacks any_of
   push-list =
       record {
         unmarked = λ v. record { no-inv = refl; no-fwd = refl; no-back = refl };
@@ -187,8 +187,8 @@ module _ (s : Step) (m : IsMade s) where
       }
 
   pop-list : ListAction "pop" StackPop
-  unfolding keyed latest look picked marksOf named name_of faulty unknown isLacking misspelt tooLong kind_of kindIn everyKey ownKeys actionKeys flag
-      numbered worded same ascii is_none actionsBy actions actionThen exactlyOne isArgs argWords nameWord isPlaces lacks any_of
+  unfolding keyed latest look picked marks_of named name_of faulty unknown is_lacking misspelt too_long kind_of kind_in every_key own_keys action_keys flag
+      numbered worded same ascii is_none actions_by actions action_then exactly_one is_args arg_words name_word is_places lacks any_of
   pop-list =
       record {
         unmarked = λ v. record { no-inv = refl; no-fwd = refl; no-back = refl };
@@ -202,8 +202,8 @@ module _ (s : Step) (m : IsMade s) where
       }
 
   flip-list : ListAction "flip" StackFlip
-  unfolding keyed latest look picked marksOf named name_of faulty unknown isLacking misspelt tooLong kind_of kindIn everyKey ownKeys actionKeys flag
-      numbered worded same ascii is_none actionsBy actions actionThen exactlyOne isArgs argWords nameWord isPlaces lacks any_of
+  unfolding keyed latest look picked marks_of named name_of faulty unknown is_lacking misspelt too_long kind_of kind_in every_key own_keys action_keys flag
+      numbered worded same ascii is_none actions_by actions action_then exactly_one is_args arg_words name_word is_places lacks any_of
   flip-list =
       record {
         unmarked = λ v. record { no-inv = refl; no-fwd = refl; no-back = refl };
@@ -217,8 +217,8 @@ module _ (s : Step) (m : IsMade s) where
       }
 
   roll-list : ListAction "roll" StackRoll
-  unfolding keyed latest look picked marksOf named name_of faulty unknown isLacking misspelt tooLong kind_of kindIn everyKey ownKeys actionKeys flag
-      numbered worded same ascii is_none actionsBy actions actionThen exactlyOne isArgs argWords nameWord isRoll lacks any_of
+  unfolding keyed latest look picked marks_of named name_of faulty unknown is_lacking misspelt too_long kind_of kind_in every_key own_keys action_keys flag
+      numbered worded same ascii is_none actions_by actions action_then exactly_one is_args arg_words name_word is_roll lacks any_of
   roll-list =
       record {
         unmarked = λ v. record { no-inv = refl; no-fwd = refl; no-back = refl };
@@ -232,8 +232,8 @@ module _ (s : Step) (m : IsMade s) where
       }
 
   unroll-list : ListAction "unroll" StackUnroll
-  unfolding keyed latest look picked marksOf named name_of faulty unknown isLacking misspelt tooLong kind_of kindIn everyKey ownKeys actionKeys flag
-      numbered worded same ascii is_none actionsBy actions actionThen exactlyOne isArgs argWords nameWord isRoll lacks any_of
+  unfolding keyed latest look picked marks_of named name_of faulty unknown is_lacking misspelt too_long kind_of kind_in every_key own_keys action_keys flag
+      numbered worded same ascii is_none actions_by actions action_then exactly_one is_args arg_words name_word is_roll lacks any_of
   unroll-list =
       record {
         unmarked = λ v. record { no-inv = refl; no-fwd = refl; no-back = refl };
@@ -248,22 +248,22 @@ module _ (s : Step) (m : IsMade s) where
 
 -- ---- its words
 
-place-four : (x : ℤ) → isPlace x ≡ true → leb (size x) 4 ≡ true
-unfolding isPlace
+place-four : (x : ℤ) → is_place x ≡ true → leb (size x) 4 ≡ true
+unfolding is_place
 place-four x h = and_right (leb 1 (size x)) _ (and_right (not (minus x)) _ h)
 
 module _ (l : List ℤ) where
-  places-total : length l ≤ 8 → isPlaces l ≡ true → total (map spelling l) ≤ 24
-  unfolding isPlaces
-  places-total f h = omega (arith, each-total 2 isPlace (λ x k. spelling-short x (place-four x k)) l (and_right (leb 1 (length l)) _ h))
+  places-total : length l ≤ 8 → is_places l ≡ true → total (map spelling l) ≤ 24
+  unfolding is_places
+  places-total f h = omega (arith, each-total 2 is_place (λ x k. spelling-short x (place-four x k)) l (and_right (leb 1 (length l)) _ h))
 
-  roll-total : all_of nineDigits l ≡ true → isRoll l ≡ true → total (map spelling l) ≤ 24
-  unfolding isRoll
-  roll-total h r = omega (arith, eqb-true (length l) 2 (and_left (eqb (length l) 2) _ r), each-total 10 nineDigits spelling-long l h)
+  roll-total : all_of nine_digits l ≡ true → is_roll l ≡ true → total (map spelling l) ≤ 24
+  unfolding is_roll
+  roll-total h r = omega (arith, eqb-true (length l) 2 (and_left (eqb (length l) 2) _ r), each-total 10 nine_digits spelling-long l h)
 
 -- of an action with numbers that are short together
-numbers-say : (key : String) (o : Operator) → ((l : List ℤ) → argWords o l ≡ keyValue key (listing l) ∷ []) → word.worded (ascii key) ≡ true → length (nameWord o) + length (ascii key) ≤ 13
-    → isArgs o [] ≡ false → (l : List ℤ) → total (map spelling l) ≤ 24 → all_of nineDigits l ≡ true → isArgs o l ≡ true → Says o l
+numbers-say : (key : String) (o : Operator) → ((l : List ℤ) → arg_words o l ≡ key_value key (listing l) ∷ []) → word.worded (ascii key) ≡ true → length (name_word o) + length (ascii key) ≤ 13
+    → is_args o [] ≡ false → (l : List ℤ) → total (map spelling l) ≤ 24 → all_of nine_digits l ≡ true → is_args o l ≡ true → Says o l
 numbers-say key o e k n z [] t h r = absurd (never (cc (r, z)))
 numbers-say key o e k n z (x ∷ l) t h r = list-says key x l h o (e (x ∷ l)) k n t
 
@@ -276,74 +276,74 @@ stack-name = record { reads = refl; no-modifier = refl; no_value = refl }
 pub push-text : HasText StackPush
 push-text =
     record {
-      named = unfold nameWord in stack-name;
+      named = unfold name_word in stack-name;
       says =
-          λ l f h r. numbers-say "push" StackPush (λ k. unfold argWords in refl)
-          (unfold word.worded calm firm known follows middle quiet end_of lacks white any_of ascii in refl) (unfold nameWord ascii in lit≤ tt)
-          (unfold isArgs isPlaces in refl) l (places-total l f (unfold isArgs in r)) h r;
+          λ l f h r. numbers-say "push" StackPush (λ k. unfold arg_words in refl)
+          (unfold word.worded calm firm known follows middle quiet end_of lacks white any_of ascii in refl) (unfold name_word ascii in lit≤ tt)
+          (unfold is_args is_places in refl) l (places-total l f (unfold is_args in r)) h r;
       again = λ mode of s m. list-again s m mode "push" StackPush (push-list s m);
     }
 
 pub pop-text : HasText StackPop
 pop-text =
     record {
-      named = unfold nameWord in stack-name;
+      named = unfold name_word in stack-name;
       says =
-          λ l f h r. numbers-say "pop" StackPop (λ k. unfold argWords in refl)
-          (unfold word.worded calm firm known follows middle quiet end_of lacks white any_of ascii in refl) (unfold nameWord ascii in lit≤ tt)
-          (unfold isArgs isPlaces in refl) l (places-total l f (unfold isArgs in r)) h r;
+          λ l f h r. numbers-say "pop" StackPop (λ k. unfold arg_words in refl)
+          (unfold word.worded calm firm known follows middle quiet end_of lacks white any_of ascii in refl) (unfold name_word ascii in lit≤ tt)
+          (unfold is_args is_places in refl) l (places-total l f (unfold is_args in r)) h r;
       again = λ mode of s m. list-again s m mode "pop" StackPop (pop-list s m);
     }
 
 pub flip-text : HasText StackFlip
 flip-text =
     record {
-      named = unfold nameWord in stack-name;
+      named = unfold name_word in stack-name;
       says =
-          λ l f h r. numbers-say "flip" StackFlip (λ k. unfold argWords in refl)
-          (unfold word.worded calm firm known follows middle quiet end_of lacks white any_of ascii in refl) (unfold nameWord ascii in lit≤ tt)
-          (unfold isArgs isPlaces in refl) l (places-total l f (unfold isArgs in r)) h r;
+          λ l f h r. numbers-say "flip" StackFlip (λ k. unfold arg_words in refl)
+          (unfold word.worded calm firm known follows middle quiet end_of lacks white any_of ascii in refl) (unfold name_word ascii in lit≤ tt)
+          (unfold is_args is_places in refl) l (places-total l f (unfold is_args in r)) h r;
       again = λ mode of s m. list-again s m mode "flip" StackFlip (flip-list s m);
     }
 
 pub roll-text : HasText StackRoll
 roll-text =
     record {
-      named = unfold nameWord in stack-name;
+      named = unfold name_word in stack-name;
       says =
-          λ l f h r. numbers-say "roll" StackRoll (λ k. unfold argWords in refl)
-          (unfold word.worded calm firm known follows middle quiet end_of lacks white any_of ascii in refl) (unfold nameWord ascii in lit≤ tt)
-          (unfold isArgs isRoll in refl) l (roll-total l h (unfold isArgs in r)) h r;
+          λ l f h r. numbers-say "roll" StackRoll (λ k. unfold arg_words in refl)
+          (unfold word.worded calm firm known follows middle quiet end_of lacks white any_of ascii in refl) (unfold name_word ascii in lit≤ tt)
+          (unfold is_args is_roll in refl) l (roll-total l h (unfold is_args in r)) h r;
       again = λ mode of s m. list-again s m mode "roll" StackRoll (roll-list s m);
     }
 
 pub unroll-text : HasText StackUnroll
 unroll-text =
     record {
-      named = unfold nameWord in stack-name;
+      named = unfold name_word in stack-name;
       says =
-          λ l f h r. numbers-say "unroll" StackUnroll (λ k. unfold argWords in refl)
-          (unfold word.worded calm firm known follows middle quiet end_of lacks white any_of ascii in refl) (unfold nameWord ascii in lit≤ tt)
-          (unfold isArgs isRoll in refl) l (roll-total l h (unfold isArgs in r)) h r;
+          λ l f h r. numbers-say "unroll" StackUnroll (λ k. unfold arg_words in refl)
+          (unfold word.worded calm firm known follows middle quiet end_of lacks white any_of ascii in refl) (unfold name_word ascii in lit≤ tt)
+          (unfold is_args is_roll in refl) l (roll-total l h (unfold is_args in r)) h r;
       again = λ mode of s m. list-again s m mode "unroll" StackUnroll (unroll-list s m);
     }
 
 pub swap-text : HasText StackSwap
 swap-text =
     record {
-      named = unfold nameWord in stack-name;
+      named = unfold name_word in stack-name;
       says =
-          λ l f h r. one-says StackSwap l (ascii "swap") (unfold argWords in refl)
-          (unfold word.worded calm firm known follows middle quiet end_of lacks white any_of ascii in refl) (unfold nameWord total ascii in lit≤ tt);
+          λ l f h r. one-says StackSwap l (ascii "swap") (unfold arg_words in refl)
+          (unfold word.worded calm firm known follows middle quiet end_of lacks white any_of ascii in refl) (unfold name_word total ascii in lit≤ tt);
       again = λ mode of s m. swap-again s m mode;
     }
 
 pub drop-text : HasText StackDrop
 drop-text =
     record {
-      named = unfold nameWord in stack-name;
+      named = unfold name_word in stack-name;
       says =
-          λ l f h r. one-says StackDrop l (ascii "drop") (unfold argWords in refl)
-          (unfold word.worded calm firm known follows middle quiet end_of lacks white any_of ascii in refl) (unfold nameWord total ascii in lit≤ tt);
+          λ l f h r. one-says StackDrop l (ascii "drop") (unfold arg_words in refl)
+          (unfold word.worded calm firm known follows middle quiet end_of lacks white any_of ascii in refl) (unfold name_word total ascii in lit≤ tt);
       again = λ mode of s m. drop-again s m mode;
     }

@@ -1,6 +1,6 @@
 -- The laws of all operators: by name, and by number.
 use Rattle.rules.specs.Operators.Descriptions.{Operator, Push, Pop, StackPush, StackPop, StackFlip, StackRoll, StackUnroll, StackSwap, StackDrop, Axisswap, Adapt, Documented}
-use Rattle.rules.specs.Operators.Documented.{adaptIn}
+use Rattle.rules.specs.Operators.Documented.{adapt_in}
 use Rattle.rules.specs.declared.Mode.TheVariants as mode-is
 use Rattle.rules.specs.declared.Name.{Name}
 use Rattle.rules.specs.declared.Name.TheVariants as name-is
@@ -20,7 +20,7 @@ keeps-rule name-is.Adapt = adapt-keeps
 
 -- each has its text
 pub has-text : (o : Operator) → HasText o
-unfolding adaptIn
+unfolding adapt_in
 has-text Push = push-text
 has-text Pop = pop-text
 has-text StackPush = stack.push-text

@@ -1,7 +1,7 @@
 -- `length_of`: n is the length of the lines of the first i parts (`Total`), and small enough that no sum wraps. `count - i` is the measure.
 use Prim.Native.Nat.{◌-◌}
 use native.Mathlib.Omega.{arith}
-use Rattle.parameters.specs.Parts.{tableIn}
+use Rattle.parameters.specs.Parts.{table_in}
 use Rattle.parameters.proofs.Tabled.{no_part}
 use Rattle.parameters.proofs.Lines.{Total, total-none, total-part, total-more, total-small, total-end}
 use borrow.Author.Rules.{Fits-under}
@@ -10,7 +10,7 @@ use Rattle.parameters.proofs.length_of.Statement.{statement}
 use Rattle.parameters.proofs.length_of.Tie as tie
 
 abbrev invariant-loop : tie.invariant-loop
-invariant-loop s row count i₀ n₀ i n = Total s (tableIn row count) i n
+invariant-loop s row count i₀ n₀ i n = Total s (table_in row count) i n
 
 abbrev decreases-loop : tie.decreases-loop
 decreases-loop s row count i₀ n₀ i n = count - i

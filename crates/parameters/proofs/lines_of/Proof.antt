@@ -1,6 +1,6 @@
 -- `lines_of`: the lines of the first i parts are written, and those of the others are to come (`Lines`). `count - i` is the measure.
 use Prim.Native.Nat.{◌-◌}
-use Rattle.parameters.specs.Parts.{tableIn}
+use Rattle.parameters.specs.Parts.{table_in}
 use Rattle.parameters.proofs.Tabled.{no_part}
 use Rattle.parameters.proofs.Lines.{Lines, lines_start, lines-part, lines-room, lines-turn, lines-kept, lines-done}
 use borrow.Author.Rules.{rules}
@@ -8,7 +8,7 @@ use Rattle.parameters.proofs.lines_of.Statement.{statement}
 use Rattle.parameters.proofs.lines_of.Tie as tie
 
 abbrev invariant-loop : tie.invariant-loop
-invariant-loop s row count dst₀ i₀ o₀ dst i o = Lines s (tableIn row count) dst₀ i o dst
+invariant-loop s row count dst₀ i₀ o₀ dst i o = Lines s (table_in row count) dst₀ i o dst
 
 abbrev decreases-loop : tie.decreases-loop
 decreases-loop s row count dst₀ i₀ o₀ dst i o = count - i

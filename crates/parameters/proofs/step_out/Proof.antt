@@ -1,4 +1,4 @@
--- `step_out`: no words give no parameters, words that are all modifiers are 6, a table that is full is 9: the tests of `stepReply`, in its
+-- `step_out`: no words give no parameters, words that are all modifiers are 6, a table that is full is 9: the tests of `step_reply`, in its
 -- order. The lines of any other table are handed out.
 use mathlib.Core.Path.{refl, sym, ◌∙◌}
 use lib.ListN.{take}

@@ -1,4 +1,4 @@
--- `is_bad_list`: the two tests are those of `badList`: a length that is no multiple of 4, and over 65,536 tuples.
+-- `is_bad_list`: the two tests are those of `bad_list`: a length that is no multiple of 4, and over 65,536 tuples.
 use Rattle.pipeline.proofs.Outcomes.{odd-list, even-list}
 use Rattle.pipeline.proofs.is_bad_list.Statement.{statement}
 use Rattle.pipeline.proofs.is_bad_list.Tie as tie

@@ -11,9 +11,9 @@ use native.Mathlib.Omega.{arith}
 use lib.ListN.{length, take, length-map}
 use Rattle.rules.specs.Pipeline.Record.{blank, refusal18, listed}
 use Rattle.rules.specs.Pipeline.Running.{running}
-use Rattle.rules.specs.Pipeline.Run.{badList}
+use Rattle.rules.specs.Pipeline.Run.{bad_list}
 use Rattle.laws_lists.specs.Tests.{not_so, not_left}
-use Rattle.pipeline.specs.Plans.{passesFrom, deepestFrom}
+use Rattle.pipeline.specs.Plans.{passes_from, deepest_from}
 use Rattle.pipeline.proofs.Outcomes.{tuples-few, used-few, refuses-15, refuses-16, refuses-17, refuses-18, past-15, past-16, past-18, finishes}
 use Rattle.pipeline.proofs.RunSoFar.{Running, table_none, table_before, table-after, table_step, table-ends}
 use Rattle.pipeline.proofs.PlannedDepths.{Planning, no_room, plan-none, table-made, table-turn, table-over, table-end}
@@ -31,7 +31,7 @@ decreases-loop direction tuples columns n steps reading end₀ i₀ end i = n - 
 
 abbrev invariant-loop2 : tie.invariant-loop2
 invariant-loop2 direction tuples columns n steps reading end i no-tuples₀ no-columns₀ depth₀ deepest₀ i₀ no-tuples no-columns depth deepest i' =
-    (refusal18 (listed (record { steps = steps; n = n })) ≡ none) × (badList tuples ≡ false) × Planning direction (take n steps) depth deepest i'
+    (refusal18 (listed (record { steps = steps; n = n })) ≡ none) × (bad_list tuples ≡ false) × Planning direction (take n steps) depth deepest i'
     × (length no-tuples ≡ 0) × (length no-columns ≡ 0)
 
 abbrev decreases-loop2 : tie.decreases-loop2
@@ -39,9 +39,9 @@ decreases-loop2 direction tuples columns n steps reading end i no-tuples₀ no-c
 
 abbrev invariant-loop3 : tie.invariant-loop3
 invariant-loop3 direction tuples₀ columns₀ n steps reading end i depth deepest i' whole used count₀ left₀ i₀ tuples columns count left i'' =
-    (refusal18 (listed (record { steps = steps; n = n })) ≡ none) × (badList tuples₀ ≡ false)
-    × (passesFrom (running direction (listed (record { steps = steps; n = n }))) 0 ≡ none)
-    × (deepest ≡ deepestFrom (running direction (listed (record { steps = steps; n = n }))) 0)
+    (refusal18 (listed (record { steps = steps; n = n })) ≡ none) × (bad_list tuples₀ ≡ false)
+    × (passes_from (running direction (listed (record { steps = steps; n = n }))) 0 ≡ none)
+    × (deepest ≡ deepest_from (running direction (listed (record { steps = steps; n = n }))) 0)
     × Running direction (take n steps) deepest tuples₀ columns₀ tuples columns count left i''
 
 abbrev decreases-loop3 : tie.decreases-loop3

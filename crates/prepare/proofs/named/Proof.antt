@@ -2,14 +2,14 @@
 use mathlib.Core.Path.{◌≡◌, ap, ◌∙◌}
 use Prim.Native.Nat.{ℕ, ◌-◌, ◌≤◌}
 use native.Mathlib.Omega.{arith}
-use Rattle.prepare.specs.Lent.{firstNamed}
+use Rattle.prepare.specs.Lent.{first_named}
 use Rattle.prepare.proofs.InReading.{none_named, next-named}
 use borrow.Author.Rules.{rules}
 use Rattle.prepare.proofs.named.Statement.{statement}
 use Rattle.prepare.proofs.named.Tie as tie
 
 abbrev invariant-loop : tie.invariant-loop
-invariant-loop n reading l₀ i₀ l i = (l ≡ firstNamed reading i l₀) × (i ≤ n)
+invariant-loop n reading l₀ i₀ l i = (l ≡ first_named reading i l₀) × (i ≤ n)
 
 abbrev decreases-loop : tie.decreases-loop
 decreases-loop n reading l₀ i₀ l i = n - i
@@ -52,7 +52,7 @@ returns : tie.Need-returns invariant-loop decreases-loop
 returns c =
     let s = c.before.before in
     let loop = c.before.loop in
-    loop.invariant.0 ∙ ap (λ (k : ℕ). firstNamed s.args.reading k s.args.steps) (exactly loop.invariant.1 c.loop-test.false)
+    loop.invariant.0 ∙ ap (λ (k : ℕ). first_named s.args.reading k s.args.steps) (exactly loop.invariant.1 c.loop-test.false)
 
 pub named-spec : {M : Type 1} → statement M
 named-spec =

@@ -5,13 +5,13 @@ use native.Mathlib.Omega.{arith}
 use lib.ListN.{length}
 use Rattle.proj.proofs.Flaws.{Flawing, flawing-start, flawing-end, flawing-here, flawing-next}
 use Rattle.proj_words.proofs.Pieces.{step-at, step-none}
-use Rattle.proj_steps.specs.Plans.{pipelineOf}
+use Rattle.proj_steps.specs.Plans.{pipeline_of}
 use borrow.Author.Rules.{rules}
 use Rattle.proj.proofs.flaw_of.Statement.{statement}
 use Rattle.proj.proofs.flaw_of.Tie as tie
 
 abbrev invariant-loop : tie.invariant-loop
-invariant-loop n g inverted k₀ place₀ k place = Flawing (pipelineOf g inverted) n k place
+invariant-loop n g inverted k₀ place₀ k place = Flawing (pipeline_of g inverted) n k place
 
 abbrev decreases-loop : tie.decreases-loop
 decreases-loop n g inverted k₀ place₀ k place = length n - k

@@ -4,27 +4,27 @@ use mathlib.Core.List.{List, [], ◌∷◌, ◌++◌, map, flat_map}
 use Rattle.std.specs.Float.{nan, binary64}
 use Rattle.std.specs.Float.Ieee.{neg, nan_bits, of_bits}
 use Rattle.rules.specs.Text.Ascii.{ascii, is}
-use Rattle.rules.specs.Text.Lists.{any_of, nonEmpty}
+use Rattle.rules.specs.Text.Lists.{any_of, non_empty}
 use Rattle.rules.specs.Text.Decimal.{decimal, pieces, minus}
 use Rattle.rules.specs.Text.Normal.{normal}
-use Rattle.rules.specs.Text.Split.{turned, stepText, steps}
-use Rattle.rules.specs.Text.Parameters.{parameter, valueIn, table_of}
+use Rattle.rules.specs.Text.Split.{turned, step_text, steps}
+use Rattle.rules.specs.Text.Parameters.{parameter, value_in, table_of}
 use Rattle.rules.specs.Operators.Arguments.{arg, value_of}
 use Rattle.rules.specs.Operators.Numbers.{turn}
 use Rattle.rules.specs.Operators.Adapt.{Word, one, angle, mult}
-use Rattle.rules.specs.Operators.Documented.{carriesAngle}
+use Rattle.rules.specs.Operators.Documented.{carries_angle}
 use Rattle.rules.specs.Pipeline.Running.{Numbered}
 use Rattle.rules.specs.Pipeline.Columns.{takes, after}
 use Rattle.rules.specs.Pipeline.Tuples.{acted}
 use Rattle.rules.specs.Pipeline.Run.{start}
 use Rattle.rules.specs.Pipeline.Keys.{kind_of}
-use Rattle.rules.specs.Pipeline.Offsets.{cutText}
+use Rattle.rules.specs.Pipeline.Offsets.{cut_text}
 use Rattle.rules.specs.Pipeline.Prepare.{named}
 use Rattle.rules.specs.Text.Bytes.{Bytes, Words, same, words}
 use Rattle.rules.specs.Text.Refusal.{Reply, Promised, Writes}
-use Rattle.rules.specs.Face.Plain.{plainWritten, replied}
+use Rattle.rules.specs.Face.Plain.{plain_written, replied}
 use Rattle.rules.specs.Text.Reader.{step, next, part}
-use Rattle.rules.specs.Pipeline.Record.{spanEnd, spanless}
+use Rattle.rules.specs.Pipeline.Record.{span_end, spanless}
 use Rattle.rules.specs.declared.Span.{Span}
 use Rattle.rules.specs.declared.Step.{Step}
 use Rattle.rules.specs.declared.Written.{Written}
@@ -58,8 +58,8 @@ pub data Ends {A R : Type 0} (answer : ℕ → R) (refusal : ℕ → ℕ → ℕ
       → Ends answer refusal numbers storage result storage'
 
 -- a text call's refusal, in which there is no offset
-abbrev pub textRefusal : ℕ → ℕ → ℕ → Written
-textRefusal number place offset = written_is.Refused number place
+abbrev pub text_refusal : ℕ → ℕ → ℕ → Written
+text_refusal number place offset = written_is.Refused number place
 
 -- The same of a run, which is lent a list and a store, and uses the store up to a place.
 pub data RunEnds (numbers : List ℕ) (used : ℕ) (xs store : List Float) (result : Ran) (xs' store' : List Float) : Type 0 where
@@ -84,18 +84,18 @@ pub data NextEnds (text : Bytes) (at : ℕ) (r : Found) : Type 0 where
 -- is an answer, of that length.
 abbrev pub ExportsText : (Bytes → Reply Bytes) → Type 0
 ExportsText own = (text out : Bytes) (r : Answer) (out' : Bytes) → Promised replied own text out r out'
-    → (w : Written) × Writes own text out w out' × (r ≡ plainWritten w) × (r.number ≡ 0 → w ≡ written_is.Wrote r.length)
+    → (w : Written) × Writes own text out w out' × (r ≡ plain_written w) × (r.number ≡ 0 → w ≡ written_is.Wrote r.length)
 
 -- ---- demand 3: the steps of a run, in running order
 
 -- the columns that there are after these steps of a run on a list
-abbrev pub depthAfter : List Numbered → List Float → ℕ
-depthAfter l xs = length (after acted l (start xs)).columns
+abbrev pub depth_after : List Numbered → List Float → ℕ
+depth_after l xs = length (after acted l (start xs)).columns
 
 -- a step finds as many columns as it takes, after the steps before it, and leaves at most 64
 pub record Well (xs : List Float) (before : List Numbered) (s : Numbered) : Type 0 where
-  pub finds : takes s.does ≤ depthAfter before xs
-  pub leaves : depthAfter (before ++ (s ∷ [])) xs ≤ 64
+  pub finds : takes s.does ≤ depth_after before xs
+  pub leaves : depth_after (before ++ (s ∷ [])) xs ≤ 64
 
 -- every step of them, wherever they are cut in two
 abbrev pub EachWell : List Numbered → List Float → Type 0
@@ -103,12 +103,12 @@ EachWell l xs = (before : List Numbered) (s : Numbered) (rest : List Numbered) �
 
 -- a step "finds fewer columns than it takes"
 pub record Few (xs : List Float) (before : List Numbered) (s : Numbered) : Type 0 where
-  pub finds : depthAfter before xs < takes s.does
+  pub finds : depth_after before xs < takes s.does
 
 -- or it finds enough, and "the depth exceeds 64"
 pub record Many (xs : List Float) (before : List Numbered) (s : Numbered) : Type 0 where
-  pub finds : takes s.does ≤ depthAfter before xs
-  pub leaves : 64 < depthAfter (before ++ (s ∷ [])) xs
+  pub finds : takes s.does ≤ depth_after before xs
+  pub leaves : 64 < depth_after (before ++ (s ∷ [])) xs
 
 -- "the first step at fault in running order", which stands at place k of the table: all before it are well, and it is not
 pub record FirstAtFault (fault : List Numbered → Numbered → Type 0) (k : ℕ) (l : List Numbered) (xs : List Float) : Type 0 where
@@ -132,19 +132,19 @@ pub record Bits (p : ℕ) (x : Float) : Type 0 where
   pub reads : of_bits binary64 p ≡ x
 
 -- bits with the sign, bit 63, turned
-abbrev pub signTurned : ℕ → ℕ
-signTurned p = cond (leb (2 ^ 63) p) (p - 2 ^ 63) (p + 2 ^ 63)
+abbrev pub sign_turned : ℕ → ℕ
+sign_turned p = cond (leb (2 ^ 63) p) (p - 2 ^ 63) (p + 2 ^ 63)
 
 -- "sign kept or turned": the bits p of an input and q of an output, bit for bit, or NaN for NaN
 pub data Alike (minus : Bool) (p q : ℕ) : Type 0 where
-  bit-for-bit : q ≡ cond minus (signTurned p) p → Alike minus p q
+  bit-for-bit : q ≡ cond minus (sign_turned p) p → Alike minus p q
   nan-for-nan : nan_bits binary64 p ≡ true → nan_bits binary64 q ≡ true → Alike minus p q
 
 -- ---- document 02, request 2
 
 -- the sign and the angle of place i of a word: "only east, west, north and south carry an angle wherever they stand"
-unfoldable pub signAngle : Word → ℕ → Float
-signAngle w i = turn (minus (arg i w.axes)) (angle (cond (carriesAngle (arg i w.axes)) w.angle 0))
+unfoldable pub sign_angle : Word → ℕ → Float
+sign_angle w i = turn (minus (arg i w.axes)) (angle (cond (carries_angle (arg i w.axes)) w.angle 0))
 
 -- "plus or minus one"
 pub data IsUnit (x : Float) : Type 0 where
@@ -168,15 +168,15 @@ pub record Gives (ws : Words) (word : Bytes) (from : ℕ) : Type 0 where
   pub rest : Words
   pub in_order : ws ≡ front ++ (word ∷ rest)
   pub begins : from ≡ taken (ascii " ") front
-  pub not-name : nonEmpty front || any_of (is "=") word ≡ true
+  pub not-name : non_empty front || any_of (is "=") word ≡ true
   pub last : any_of (λ (w : Bytes). same (parameter word).key (parameter w).key) rest ≡ false
 
 -- What refusal 12 is for, by what the word's key takes, and at which byte of the word: a flag's value that is not `true`, where the value begins; or "a series element
 -- not in decimal form", behind the elements in front of it and their commas.
 pub data Breaks (kind : Kind) (word bad : Bytes) (at : ℕ) : Type 0 where
-  flag : kind ≡ Flag → bad ≡ (parameter word).value → (bad ≡ ascii "true" → ⊥) → at ≡ valueIn word → Breaks kind word bad at
+  flag : kind ≡ Flag → bad ≡ (parameter word).value → (bad ≡ ascii "true" → ⊥) → at ≡ value_in word → Breaks kind word bad at
   element : kind ≡ Series → (front rest : List Bytes) → pieces (parameter word).value ≡ front ++ (bad ∷ rest) → decimal bad ≡ Not
-      → at ≡ valueIn word + taken (ascii ",") front → Breaks kind word bad at
+      → at ≡ value_in word + taken (ascii ",") front → Breaks kind word bad at
 
 -- that there is such a fault at a byte of the step's text
 pub record FaultAt (n : Name) (ws : Words) (offset : ℕ) : Type 0 where
@@ -201,30 +201,30 @@ pub record FirstFault (text : Bytes) (place offset : ℕ) : Type 0 where
   pub before : List Bytes
   pub step : Bytes
   pub rest : List Bytes
-  pub in_order : map stepText (steps text) ≡ before ++ (step ∷ rest)
+  pub in_order : map step_text (steps text) ≡ before ++ (step ∷ rest)
   pub at_place : place ≡ length before + 1
   pub operator : Name
   pub has-name : named (value_of (ascii "_name") (table_of (words (normal step)))) ≡ Is operator
   pub at-fault : FaultAt operator (turned (words (normal step))) offset
   pub none_before : (other : ℕ) → FaultAt operator (turned (words (normal step))) other → offset ≤ other
-  pub stands : any_of (is "=") at-fault.word ≡ true → StandsAt (cutText step) offset at-fault.bad
-  pub missing : any_of (is "=") at-fault.word ≡ false → (from : ℕ) × StandsAt (cutText step) from at-fault.word × (offset ≡ from + length at-fault.word)
+  pub stands : any_of (is "=") at-fault.word ≡ true → StandsAt (cut_text step) offset at-fault.bad
+  pub missing : any_of (is "=") at-fault.word ≡ false → (from : ℕ) × StandsAt (cut_text step) from at-fault.word × (offset ≡ from + length at-fault.word)
 
 -- ---- document 02, request 4: where a step's text stands
 
 -- the bytes of a text at a span
 abbrev pub bytes_at : Bytes → Span → Bytes
-bytes_at text p = part p.from (spanEnd p) text
+bytes_at text p = part p.from (span_end p) text
 
 -- "Spans of a table rise and do not overlap": each has bytes, ends by `most`, and begins where the last one ends or behind it
 unfoldable pub Rise : ℕ → ℕ → List Step → Type 0
 Rise most end [] = Unit {0}
-Rise most end (s ∷ l) = (end ≤ s.span.from) × (0 < s.span.length) × (spanEnd s.span ≤ most) × Rise most (spanEnd s.span) l
+Rise most end (s ∷ l) = (end ≤ s.span.from) × (0 < s.span.length) × (span_end s.span ≤ most) × Rise most (span_end s.span) l
 
 -- The walk over the steps: from the reader's place on it finds the first record's text at its span, from there on the next one's, and behind the last one none.
 unfoldable pub Walk : Bytes → ℕ → List Step → Type 0
 Walk normalised at [] = next normalised at ≡ End
-Walk normalised at (s ∷ l) = (next normalised at ≡ step s.span.from (spanEnd s.span)) × Walk normalised (spanEnd s.span) l
+Walk normalised at (s ∷ l) = (next normalised at ≡ step s.span.from (span_end s.span)) × Walk normalised (span_end s.span) l
 
 -- "differ only there": two tables with the same records, spans aside
 abbrev pub SameButSpans : List Step → List Step → Type 0

@@ -29,49 +29,49 @@ use Rattle.rules.specs.declared.Done.{Done}
 -- ---- texts
 
 -- number 0 for an answer, and its length
-unfoldable pub plainWritten : Written → Answer
-plainWritten (Wrote n) = record { number = 0; place = 0; length = n; offset = 0 }
-plainWritten (Refused number place) = record { number = number; place = place; length = 0; offset = 0 }
+unfoldable pub plain_written : Written → Answer
+plain_written (Wrote n) = record { number = 0; place = 0; length = n; offset = 0 }
+plain_written (Refused number place) = record { number = number; place = place; length = 0; offset = 0 }
 
 abbrev pub replied : Reply ℕ → Answer
-replied r = plainWritten (written r)
+replied r = plain_written (written r)
 
 -- ---- the walk over the steps
 
 -- 1 for a step, 0 for the end
-unfoldable pub plainFound : Found → Part
-plainFound (found-is.Step from to then) = record { found = 1; from = from; to = to; then = then.at }
-plainFound found-is.End = record { found = 0; from = 0; to = 0; then = 0 }
+unfoldable pub plain_found : Found → Part
+plain_found (found-is.Step from to then) = record { found = 1; from = from; to = to; then = then.at }
+plain_found found-is.End = record { found = 0; from = 0; to = 0; then = 0 }
 
 -- ---- step tables
 
 -- number 0 for an answer, and how many records it has; of a refusal its offset too
-unfoldable pub plainPrepared : Prepared → Answer
-plainPrepared (prepared-is.Steps n) = record { number = 0; place = 0; length = n; offset = 0 }
-plainPrepared (prepared-is.Refused number place offset) = record { number = number; place = place; length = 0; offset = offset }
+unfoldable pub plain_prepared : Prepared → Answer
+plain_prepared (prepared-is.Steps n) = record { number = 0; place = 0; length = n; offset = 0 }
+plain_prepared (prepared-is.Refused number place offset) = record { number = number; place = place; length = 0; offset = offset }
 
-abbrev pub recordCount : Reply ℕ → Answer
-recordCount r = plainPrepared (prepared r)
+abbrev pub record_count : Reply ℕ → Answer
+record_count r = plain_prepared (prepared r)
 
 -- 0 is the crate's mode, any other number the documented
 unfoldable pub mode_of : ℕ → Mode
 mode_of number = cond (eqb number 0) mode.Crate mode.Documented
 
 -- 0 is forward, any other number inverse
-unfoldable pub directionOf : ℕ → Direction
-directionOf inverse = cond (eqb inverse 0) Forward Inverse
+unfoldable pub direction_of : ℕ → Direction
+direction_of inverse = cond (eqb inverse 0) Forward Inverse
 
 -- the verdict: 0 a pass, 1 too few, 2 too many, or the refusal's number
-unfoldable pub plainVerdict : Verdict → Said
-plainVerdict verdict-is.Passes = record { number = 0; place = 0 }
-plainVerdict (verdict-is.TooFew place) = record { number = 1; place = place }
-plainVerdict (verdict-is.TooMany place) = record { number = 2; place = place }
-plainVerdict (verdict-is.Refused number place) = record { number = number; place = place }
+unfoldable pub plain_verdict : Verdict → Said
+plain_verdict verdict-is.Passes = record { number = 0; place = 0 }
+plain_verdict (verdict-is.TooFew place) = record { number = 1; place = place }
+plain_verdict (verdict-is.TooMany place) = record { number = 2; place = place }
+plain_verdict (verdict-is.Refused number place) = record { number = number; place = place }
 
-unfoldable pub plainCheck : Foretold → Checked
-plainCheck f =
+unfoldable pub plain_check : Foretold → Checked
+plain_check f =
     record {
-      said = plainVerdict f.verdict;
+      said = plain_verdict f.verdict;
       span = f.span;
       run = f.run;
       depths = f.depths;
@@ -83,11 +83,11 @@ plainCheck f =
 
 -- what the check promises of its answer
 pub record PlainChecks (inverse : ℕ) (t : List Step) (result : Checked) : Type 0 where
-  pub exactly : result ≡ plainCheck (check (directionOf inverse) t)
+  pub exactly : result ≡ plain_check (check (direction_of inverse) t)
 
-unfoldable pub plainRan : Ran → Done
-plainRan (ran-is.Done count left) = record { number = 0; place = 0; count = count; left = left }
-plainRan (ran-is.Refused number place) = record { number = number; place = place; count = 0; left = 0 }
+unfoldable pub plain_ran : Ran → Done
+plain_ran (ran-is.Done count left) = record { number = 0; place = 0; count = count; left = left }
+plain_ran (ran-is.Refused number place) = record { number = number; place = place; count = 0; left = 0 }
 
 -- what a run answers, and what it leaves in the list and in the store
 pub record PlainOutcome : Type 0 where
@@ -95,9 +95,9 @@ pub record PlainOutcome : Type 0 where
   pub list : List Float
   pub store : List Float
 
-unfoldable pub plainOutcome : Outcome → PlainOutcome
-plainOutcome o = record { answer = plainRan o.answer; list = o.list; store = o.store }
+unfoldable pub plain_outcome : Outcome → PlainOutcome
+plain_outcome o = record { answer = plain_ran o.answer; list = o.list; store = o.store }
 
 -- what a run promises of its result, the list and the store, before and after
 pub record PlainRuns (inverse : ℕ) (t : List Step) (xs store : List Float) (result : Done) (xs' store' : List Float) : Type 0 where
-  pub exactly : ◌≡◌ {A = PlainOutcome} (record { answer = result; list = xs'; store = store' }) (plainOutcome (runs (directionOf inverse) t xs store))
+  pub exactly : ◌≡◌ {A = PlainOutcome} (record { answer = result; list = xs'; store = store' }) (plain_outcome (runs (direction_of inverse) t xs store))

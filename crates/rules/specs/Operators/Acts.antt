@@ -8,7 +8,7 @@ pub data Act : Type 0 where
   -- the operator `pop`: a column into each place, in this order, one after the other
   pops : List ℕ → Act
   -- the action `pop`: the same, all or none
-  popsAll : List ℕ → Act
+  pops_all : List ℕ → Act
   -- each place exchanged with its column, the top one first
   flips : List ℕ → Act
   -- the top column goes under the top m, n times

@@ -10,7 +10,7 @@ use Rattle.rules.specs.Text.Lists.{all_of}
 use Rattle.rules.specs.Text.Bytes.{Bytes, same}
 use Rattle.rules.specs.Text.Decimal.{signed, minus}
 use Rattle.rules.specs.Operators.Acts.{adapts}
-use Rattle.rules.specs.Operators.Arguments.{size, arg, keyValue, is_order}
+use Rattle.rules.specs.Operators.Arguments.{size, arg, key_value, is_order}
 use Rattle.rules.specs.Operators.Numbers.{number, put, turn}
 use Rattle.rules.specs.Operators.Keys.{Key, worded}
 use Rattle.rules.specs.Operators.Descriptions.{Description}
@@ -57,9 +57,9 @@ word t =
     word_of (map axis (take 4 letters)) (ending (drop 4 letters))
 
 -- a word that is not given is `enuf`, as in the source
-unfoldable pub wordGiven : Option Bytes → Option Word
-wordGiven none = word (ascii "enuf")
-wordGiven (some value) = word value
+unfoldable pub word_given : Option Bytes → Option Word
+word_given none = word (ascii "enuf")
+word_given (some value) = word value
 
 -- ---- its arguments
 
@@ -70,9 +70,9 @@ position i x (y ∷ l) = cond (eqb x (size y)) i (position (suc i) x l)
 
 -- post[i] with the sign of mult[i]: the place among the axes of `from` that holds axis i of `to`; turned where the axis
 -- at i is turned in one word and not in the other
-unfoldable pub outputOf : Word → Word → ℕ → ℤ
+unfoldable pub output_of : Word → Word → ℕ → ℤ
 unfolding xor
-outputOf from to i =
+output_of from to i =
     signed (xor (minus (arg i from.axes)) (minus (arg i to.axes))) (position 1 (size (arg i to.axes)) from.axes)
 
 -- the code of the factor that goes from one angle to another, 0 where they are the same
@@ -82,10 +82,10 @@ angles from to = pos (cond (eqb from.angle to.angle) 0 (3 * from.angle + to.angl
 -- the eight arguments: the four outputs, and the codes of their factors (an angle stands in the first two numbers)
 unfoldable pub combined : Word → Word → List ℤ
 combined from to =
-    outputOf from to 1
-    ∷ outputOf from to 2
-    ∷ outputOf from to 3
-    ∷ outputOf from to 4
+    output_of from to 1
+    ∷ output_of from to 2
+    ∷ output_of from to 3
+    ∷ output_of from to 4
     ∷ angles from to
     ∷ angles from to
     ∷ pos 0
@@ -104,8 +104,8 @@ is_code x = not (minus x) && (leb (size x) 7 && not (eqb (size x) 4))
 
 -- the rule on its arguments: four places of the input, each once, with the sign of the factor; then the codes of the four
 -- factors' sizes, the first two alike, the others 0
-unfoldable pub isAdapt : List ℤ → Bool
-isAdapt l =
+unfoldable pub is_adapt : List ℤ → Bool
+is_adapt l =
     eqb (length l) 8
     && (is_order (take 4 l)
     && (all_of is_code (drop 4 l)
@@ -153,14 +153,14 @@ stays l i = eqb (post l i) i && eq (mult l i) one
 unfoldable pub noop : List ℤ → Bool
 noop l = stays l 1 && (stays l 2 && (stays l 3 && stays l 4))
 
-unfoldable pub adaptedIf : Bool → Bool → List ℤ → Coord → Coord
-adaptedIf true back l c = c
-adaptedIf false false l c = record { a = output l c 1; b = output l c 2; c = output l c 3; d = output l c 4 }
-adaptedIf false true l c = sets l c 4 (sets l c 3 (sets l c 2 (sets l c 1 c)))
+unfoldable pub adapted_if : Bool → Bool → List ℤ → Coord → Coord
+adapted_if true back l c = c
+adapted_if false false l c = record { a = output l c 1; b = output l c 2; c = output l c 3; d = output l c 4 }
+adapted_if false true l c = sets l c 4 (sets l c 3 (sets l c 2 (sets l c 1 c)))
 
 -- "A no-op touches nothing."
 unfoldable pub adapted : Bool → List ℤ → Coord → Coord
-adapted back l c = adaptedIf (noop l) back l c
+adapted back l c = adapted_if (noop l) back l c
 
 -- ---- its text
 
@@ -169,18 +169,18 @@ unfoldable pub letter : ℤ → ℕ
 letter x = get_or (cond (minus x) (ascii "wsdp") (ascii "enuf")) (size x - 1) 0
 
 -- the ending of an angle, 0 radians, 1 degrees, 2 gons
-unfoldable pub endingOf : ℕ → Bytes
-endingOf zero = []
-endingOf (suc zero) = ascii "_deg"
-endingOf (suc (suc k)) = ascii "_gon"
+unfoldable pub ending_of : ℕ → Bytes
+ending_of zero = []
+ending_of (suc zero) = ascii "_deg"
+ending_of (suc (suc k)) = ascii "_gon"
 
 -- `from` has the axes in their order and the angle that the code goes from; `to` has the letters of the four outputs and
 -- the angle that it goes to
-unfoldable pub fromWord : ℕ → Bytes
-fromWord code = ascii "enuf" ++ endingOf (code / 3)
+unfoldable pub from_word : ℕ → Bytes
+from_word code = ascii "enuf" ++ ending_of (code / 3)
 
-unfoldable pub toWord : ℕ → List ℤ → Bytes
-toWord code outputs = map letter outputs ++ endingOf (code % 3)
+unfoldable pub to_word : ℕ → List ℤ → Bytes
+to_word code outputs = map letter outputs ++ ending_of (code % 3)
 
 -- ---- its description
 
@@ -189,12 +189,12 @@ adapt =
     record {
       number = 10;
       name = "adapt";
-      isArgs = isAdapt;
+      is_args = is_adapt;
       turned = true;
       forward = adapts mode.Crate false;
       inverse = adapts mode.Crate true;
-      words = λ l. keyValue "from" (fromWord (size (arg 5 l))) ∷ keyValue "to" (toWord (size (arg 5 l)) (take 4 l)) ∷ [];
+      words = λ l. key_value "from" (from_word (size (arg 5 l))) ∷ key_value "to" (to_word (size (arg 5 l)) (take 4 l)) ∷ [];
     }
 
-abbrev pub wordKeys : List Key
-wordKeys = worded "from" ∷ worded "to" ∷ []
+abbrev pub word_keys : List Key
+word_keys = worded "from" ∷ worded "to" ∷ []

@@ -4,7 +4,7 @@ use Prim.Native.String.{String}
 use Rattle.std.proofs.Math.Option.{Option, none, some}
 use Rattle.rules.specs.Text.Ascii.{ascii}
 use Rattle.rules.specs.Text.Lists.{all_of, any_of, is_none}
-use Rattle.rules.specs.Text.Bytes.{Bytes, same, joinedBy}
+use Rattle.rules.specs.Text.Bytes.{Bytes, same, joined_by}
 use Rattle.rules.specs.Text.Parameters.{Parameter}
 use Rattle.rules.specs.Text.Decimal.{is_whole, whole_of, minus}
 use Rattle.rules.specs.Text.Numerals.{digits}
@@ -17,8 +17,8 @@ unfoldable pub value_of : Bytes → List Parameter → Option Bytes
 value_of key [] = none
 value_of key (p ∷ ps) = cond (same key p.key) (some p.value) (value_of key ps)
 
-unfoldable pub isGiven : String → List Parameter → Bool
-isGiven key ps = not (is_none (value_of (ascii key) ps))
+unfoldable pub is_given : String → List Parameter → Bool
+is_given key ps = not (is_none (value_of (ascii key) ps))
 
 -- ---- arguments
 
@@ -35,19 +35,19 @@ unfoldable pub places : List ℤ → List ℕ
 places l = map size l
 
 -- a place: 1 to 4
-unfoldable pub isPlace : ℤ → Bool
-isPlace x = not (minus x) && (leb 1 (size x) && leb (size x) 4)
+unfoldable pub is_place : ℤ → Bool
+is_place x = not (minus x) && (leb 1 (size x) && leb (size x) 4)
 
 -- no size "repeated"
-unfoldable pub isDistinct : List ℤ → Bool
-isDistinct [] = true
-isDistinct (x ∷ l) = not (any_of (λ (y : ℤ). eqb (size x) (size y)) l) && isDistinct l
+unfoldable pub is_distinct : List ℤ → Bool
+is_distinct [] = true
+is_distinct (x ∷ l) = not (any_of (λ (y : ℤ). eqb (size x) (size y)) l) && is_distinct l
 
 -- an order of the first places, which `order=` and the axes of a word have: "at most four; whole, nonzero, no size above the length or repeated"
 unfoldable pub is_order : List ℤ → Bool
 is_order l =
     leb 1 (length l)
-    && (leb (length l) 4 && (all_of (λ (x : ℤ). leb 1 (size x) && leb (size x) (length l)) l && isDistinct l))
+    && (leb (length l) 4 && (all_of (λ (x : ℤ). leb 1 (size x) && leb (size x) (length l)) l && is_distinct l))
 
 -- the numbers of a series, if they are whole and keep the rule
 unfoldable pub wholes : (List ℤ → Bool) → Option (List Decimal) → Option (List ℤ)
@@ -62,8 +62,8 @@ spelling x = cond (minus x) (ascii "-") [] ++ digits (size x)
 
 -- numbers with a comma between
 unfoldable pub listing : List ℤ → Bytes
-listing l = joinedBy (ascii ",") (map spelling l)
+listing l = joined_by (ascii ",") (map spelling l)
 
 -- `key=value`
-unfoldable pub keyValue : String → Bytes → Bytes
-keyValue key value = ascii key ++ (61 ∷ value)
+unfoldable pub key_value : String → Bytes → Bytes
+key_value key value = ascii key ++ (61 ∷ value)

@@ -5,7 +5,7 @@ use Rattle.rules.specs.Text.Ascii.{ascii}
 use Rattle.rules.specs.Text.Bytes.{Bytes}
 use Rattle.rules.specs.Text.Decimal.{minus, series}
 use Rattle.rules.specs.Operators.Acts.{orders}
-use Rattle.rules.specs.Operators.Arguments.{value_of, size, is_order, wholes, listing, keyValue}
+use Rattle.rules.specs.Operators.Arguments.{value_of, size, is_order, wholes, listing, key_value}
 use Rattle.rules.specs.Operators.Numbers.{number, put, turn}
 use Rattle.rules.specs.Operators.Keys.{Key, numbered}
 use Rattle.rules.specs.Operators.Descriptions.{Axisswap, Description, Wording, choose}
@@ -23,18 +23,18 @@ order (some value) = wholes is_order (series value)
 
 module _ {T X : Type 0} (at : ℕ → T → X) (with : ℕ → X → T → T) (turns : Bool → X → X) where
   -- forward, from output i on: output i is the input that the order names, with its sign; the others stay
-  unfoldable pub swapFrom : ℕ → List ℤ → T → T → T
-  swapFrom i [] c out = out
-  swapFrom i (x ∷ l) c out = swapFrom (suc i) l c (with i (turns (minus x) (at (size x) c)) out)
+  unfoldable pub swap_from : ℕ → List ℤ → T → T → T
+  swap_from i [] c out = out
+  swap_from i (x ∷ l) c out = swap_from (suc i) l c (with i (turns (minus x) (at (size x) c)) out)
 
   -- inverse, from input i on: input i goes to the place that the order names, with its sign; the others stay
-  unfoldable pub unswapFrom : ℕ → List ℤ → T → T → T
-  unswapFrom i [] c out = out
-  unswapFrom i (x ∷ l) c out = unswapFrom (suc i) l c (with (size x) (turns (minus x) (at i c)) out)
+  unfoldable pub unswap_from : ℕ → List ℤ → T → T → T
+  unswap_from i [] c out = out
+  unswap_from i (x ∷ l) c out = unswap_from (suc i) l c (with (size x) (turns (minus x) (at i c)) out)
 
   unfoldable pub reordered : Bool → List ℤ → T → T
-  reordered false l c = swapFrom 1 l c c
-  reordered true l c = unswapFrom 1 l c c
+  reordered false l c = swap_from 1 l c c
+  reordered true l c = unswap_from 1 l c c
 
 -- of a coordinate: forward, or back
 unfoldable pub swapped : Bool → List ℤ → Coord → Coord
@@ -47,15 +47,15 @@ axisswap =
     record {
       number = 9;
       name = "axisswap";
-      isArgs = is_order;
+      is_args = is_order;
       turned = true;
       forward = orders false;
       inverse = orders true;
-      words = λ l. keyValue "order" (listing l) ∷ [];
+      words = λ l. key_value "order" (listing l) ∷ [];
     }
 
-abbrev pub orderKeys : List Key
-orderKeys = numbered "order" ∷ []
+abbrev pub order_keys : List Key
+order_keys = numbered "order" ∷ []
 
-abbrev pub axisswapWording : Wording
-axisswapWording = record { name = axisswap.name; keys = orderKeys; chosen = λ mode ps. choose Axisswap (order (value_of (ascii "order") ps)) }
+abbrev pub axisswap_wording : Wording
+axisswap_wording = record { name = axisswap.name; keys = order_keys; chosen = λ mode ps. choose Axisswap (order (value_of (ascii "order") ps)) }

@@ -18,7 +18,7 @@ pub record Description : Type 0 where
   pub number : ℕ
   pub name : String
   -- the arguments that a preparation gives it
-  pub isArgs : List ℤ → Bool
+  pub is_args : List ℤ → Bool
   -- does `inv` turn it, in the crate's reading?
   pub turned : Bool
   -- what it does with its arguments, forward and inverse

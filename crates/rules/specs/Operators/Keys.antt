@@ -21,6 +21,6 @@ unfoldable pub worded : String → Key
 worded key = record { key = ascii key; kind = Word }
 
 -- what a key takes, if it is one of these
-unfoldable pub kindIn : List Key → Bytes → Kind
-kindIn [] key = Lacking
-kindIn (k ∷ ks) key = cond (same key k.key) k.kind (kindIn ks key)
+unfoldable pub kind_in : List Key → Bytes → Kind
+kind_in [] key = Lacking
+kind_in (k ∷ ks) key = cond (same key k.key) k.kind (kind_in ks key)

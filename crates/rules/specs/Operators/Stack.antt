@@ -7,24 +7,24 @@ use Rattle.rules.specs.Text.Lists.{all_of}
 use Rattle.rules.specs.Text.Bytes.{Bytes}
 use Rattle.rules.specs.Text.Parameters.{Parameter}
 use Rattle.rules.specs.Text.Decimal.{minus, series}
-use Rattle.rules.specs.Operators.Acts.{Act, pushes, popsAll, flips, rolls, swaps, drops}
-use Rattle.rules.specs.Operators.Arguments.{value_of, size, arg, places, isPlace, wholes, listing, keyValue}
+use Rattle.rules.specs.Operators.Acts.{Act, pushes, pops_all, flips, rolls, swaps, drops}
+use Rattle.rules.specs.Operators.Arguments.{value_of, size, arg, places, is_place, wholes, listing, key_value}
 use Rattle.rules.specs.Operators.Keys.{Key, flag, numbered}
 use Rattle.rules.specs.Operators.Descriptions.{Operator, StackPush, StackPop, StackFlip, StackRoll, StackUnroll, StackSwap, StackDrop, Description, Chosen, choose, Wording}
 
 -- ---- the rules on its arguments
 
 -- "push, pop and flip take places 1 to 4, repeats allowed"
-unfoldable pub isPlaces : List ℤ → Bool
-isPlaces l = leb 1 (length l) && all_of isPlace l
+unfoldable pub is_places : List ℤ → Bool
+is_places l = leb 1 (length l) && all_of is_place l
 
 -- "roll m,n: whole numbers, m > |n|"
-unfoldable pub isRoll : List ℤ → Bool
-isRoll l = eqb (length l) 2 && (not (minus (arg 1 l)) && ltb (size (arg 2 l)) (size (arg 1 l)))
+unfoldable pub is_roll : List ℤ → Bool
+is_roll l = eqb (length l) 2 && (not (minus (arg 1 l)) && ltb (size (arg 2 l)) (size (arg 1 l)))
 
 -- swap and drop have none
-unfoldable pub isNothing : List ℤ → Bool
-isNothing l = eqb (length l) 0
+unfoldable pub is_nothing : List ℤ → Bool
+is_nothing l = eqb (length l) 0
 
 -- ---- what it does
 
@@ -37,86 +37,86 @@ unfoldable pub unrolling : ℤ → ℤ → Act
 unrolling m n = rolls (size m) (cond (minus n) (size m + size n) (size m - size n))
 
 -- "Inverse push is pop with arguments reversed, and the other way round."
-abbrev pub stackPush : Description
-stackPush =
+abbrev pub stack_push : Description
+stack_push =
     record {
       number = 2;
       name = "stack";
-      isArgs = isPlaces;
+      is_args = is_places;
       turned = false;
       forward = λ l. pushes (places l);
-      inverse = λ l. popsAll (reverse (places l));
-      words = λ l. keyValue "push" (listing l) ∷ [];
+      inverse = λ l. pops_all (reverse (places l));
+      words = λ l. key_value "push" (listing l) ∷ [];
     }
 
-abbrev pub stackPop : Description
-stackPop =
+abbrev pub stack_pop : Description
+stack_pop =
     record {
       number = 3;
       name = "stack";
-      isArgs = isPlaces;
+      is_args = is_places;
       turned = false;
-      forward = λ l. popsAll (places l);
+      forward = λ l. pops_all (places l);
       inverse = λ l. pushes (reverse (places l));
-      words = λ l. keyValue "pop" (listing l) ∷ [];
+      words = λ l. key_value "pop" (listing l) ∷ [];
     }
 
 -- "flip is not reversed."
-abbrev pub stackFlip : Description
-stackFlip =
+abbrev pub stack_flip : Description
+stack_flip =
     record {
       number = 4;
       name = "stack";
-      isArgs = isPlaces;
+      is_args = is_places;
       turned = false;
       forward = λ l. flips (places l);
       inverse = λ l. flips (places l);
-      words = λ l. keyValue "flip" (listing l) ∷ [];
+      words = λ l. key_value "flip" (listing l) ∷ [];
     }
 
-abbrev pub stackRoll : Description
-stackRoll =
+abbrev pub stack_roll : Description
+stack_roll =
     record {
       number = 5;
       name = "stack";
-      isArgs = isRoll;
+      is_args = is_roll;
       turned = false;
       forward = λ l. rolling (arg 1 l) (arg 2 l);
       inverse = λ l. unrolling (arg 1 l) (arg 2 l);
-      words = λ l. keyValue "roll" (listing l) ∷ [];
+      words = λ l. key_value "roll" (listing l) ∷ [];
     }
 
 -- "Inverse unroll is roll m,n"
-abbrev pub stackUnroll : Description
-stackUnroll =
+abbrev pub stack_unroll : Description
+stack_unroll =
     record {
       number = 6;
       name = "stack";
-      isArgs = isRoll;
+      is_args = is_roll;
       turned = false;
       forward = λ l. unrolling (arg 1 l) (arg 2 l);
       inverse = λ l. rolling (arg 1 l) (arg 2 l);
-      words = λ l. keyValue "unroll" (listing l) ∷ [];
+      words = λ l. key_value "unroll" (listing l) ∷ [];
     }
 
-abbrev pub stackSwap : Description
-stackSwap =
+abbrev pub stack_swap : Description
+stack_swap =
     record {
       number = 7;
       name = "stack";
-      isArgs = isNothing;
+      is_args = is_nothing;
       turned = false;
       forward = λ l. swaps;
       inverse = λ l. swaps;
       words = λ l. ascii "swap" ∷ [];
     }
 
-abbrev pub stackDrop : Description
-stackDrop =
+abbrev pub stack_drop : Description
+stack_drop =
     record {
       number = 8;
       name = "stack";
-      isArgs = isNothing;
+      is_args = is_nothing;
       turned = false;
       forward = λ l. drops;
       inverse = λ l. drops;
@@ -125,8 +125,8 @@ stackDrop =
 
 -- ---- its keys, and the action that they choose
 
-unfoldable pub actionKeys : List Key
-actionKeys = numbered "push" ∷ numbered "pop" ∷ numbered "flip" ∷ numbered "roll" ∷ numbered "unroll" ∷ flag "swap" ∷ flag "drop" ∷ []
+unfoldable pub action_keys : List Key
+action_keys = numbered "push" ∷ numbered "pop" ∷ numbered "flip" ∷ numbered "roll" ∷ numbered "unroll" ∷ flag "swap" ∷ flag "drop" ∷ []
 
 -- an action: its key, its operator, and the arguments that its value gives
 pub record Action : Type 0 where
@@ -136,29 +136,29 @@ pub record Action : Type 0 where
 
 unfoldable pub actions : List Action
 actions =
-    record { key = "push"; operator = StackPush; arguments = λ value. wholes isPlaces (series value) }
-    ∷ record { key = "pop"; operator = StackPop; arguments = λ value. wholes isPlaces (series value) }
-    ∷ record { key = "flip"; operator = StackFlip; arguments = λ value. wholes isPlaces (series value) }
-    ∷ record { key = "roll"; operator = StackRoll; arguments = λ value. wholes isRoll (series value) }
-    ∷ record { key = "unroll"; operator = StackUnroll; arguments = λ value. wholes isRoll (series value) }
+    record { key = "push"; operator = StackPush; arguments = λ value. wholes is_places (series value) }
+    ∷ record { key = "pop"; operator = StackPop; arguments = λ value. wholes is_places (series value) }
+    ∷ record { key = "flip"; operator = StackFlip; arguments = λ value. wholes is_places (series value) }
+    ∷ record { key = "roll"; operator = StackRoll; arguments = λ value. wholes is_roll (series value) }
+    ∷ record { key = "unroll"; operator = StackUnroll; arguments = λ value. wholes is_roll (series value) }
     ∷ record { key = "swap"; operator = StackSwap; arguments = λ value. some [] }
     ∷ record { key = "drop"; operator = StackDrop; arguments = λ value. some [] }
     ∷ []
 
 -- what each action that is given chooses, none where its rule is broken
-unfoldable pub actionThen : Action → Option Bytes → List (Option Chosen) → List (Option Chosen)
-actionThen a none l = l
-actionThen a (some value) l = choose a.operator (a.arguments value) ∷ l
+unfoldable pub action_then : Action → Option Bytes → List (Option Chosen) → List (Option Chosen)
+action_then a none l = l
+action_then a (some value) l = choose a.operator (a.arguments value) ∷ l
 
-unfoldable pub actionsGiven : List Parameter → List Action → List (Option Chosen)
-actionsGiven ps [] = []
-actionsGiven ps (a ∷ l) = actionThen a (value_of (ascii a.key) ps) (actionsGiven ps l)
+unfoldable pub actions_given : List Parameter → List Action → List (Option Chosen)
+actions_given ps [] = []
+actions_given ps (a ∷ l) = action_then a (value_of (ascii a.key) ps) (actions_given ps l)
 
 -- "exactly one action"
-unfoldable pub exactlyOne : List (Option Chosen) → Option Chosen
-exactlyOne [] = none
-exactlyOne (c ∷ []) = c
-exactlyOne (c ∷ d ∷ l) = none
+unfoldable pub exactly_one : List (Option Chosen) → Option Chosen
+exactly_one [] = none
+exactly_one (c ∷ []) = c
+exactly_one (c ∷ d ∷ l) = none
 
-abbrev pub stackWording : Wording
-stackWording = record { name = "stack"; keys = actionKeys; chosen = λ mode ps. exactlyOne (actionsGiven ps actions) }
+abbrev pub stack_wording : Wording
+stack_wording = record { name = "stack"; keys = action_keys; chosen = λ mode ps. exactly_one (actions_given ps actions) }

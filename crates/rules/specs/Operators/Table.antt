@@ -5,11 +5,11 @@ use Rattle.rules.specs.Text.Ascii.{ascii}
 use Rattle.rules.specs.Text.Bytes.{Bytes, same}
 use Rattle.rules.specs.Operators.Acts.{Act}
 use Rattle.rules.specs.Operators.Descriptions.{Operator, Push, Pop, StackPush, StackPop, StackFlip, StackRoll, StackUnroll, StackSwap, StackDrop, Axisswap, Adapt, Documented, Description, Wording}
-use Rattle.rules.specs.Operators.PushPop.{push, pop, pushWording, popWording}
-use Rattle.rules.specs.Operators.Stack.{stackPush, stackPop, stackFlip, stackRoll, stackUnroll, stackSwap, stackDrop, stackWording}
-use Rattle.rules.specs.Operators.Axisswap.{axisswap, axisswapWording}
+use Rattle.rules.specs.Operators.PushPop.{push, pop, push_wording, pop_wording}
+use Rattle.rules.specs.Operators.Stack.{stack_push, stack_pop, stack_flip, stack_roll, stack_unroll, stack_swap, stack_drop, stack_wording}
+use Rattle.rules.specs.Operators.Axisswap.{axisswap, axisswap_wording}
 use Rattle.rules.specs.Operators.Adapt.{adapt}
-use Rattle.rules.specs.Operators.Documented.{documented, adaptIn, adaptWording}
+use Rattle.rules.specs.Operators.Documented.{documented, adapt_in, adapt_wording}
 use Rattle.rules.specs.declared.Mode.{Mode}
 use Rattle.rules.specs.declared.Mode.TheVariants as mode
 use Rattle.rules.specs.declared.Name.{Name}
@@ -22,13 +22,13 @@ use Rattle.rules.specs.declared.Named.TheVariants.{Is, Not}
 abbrev pub describe : Operator → Description
 describe Push = push
 describe Pop = pop
-describe StackPush = stackPush
-describe StackPop = stackPop
-describe StackFlip = stackFlip
-describe StackRoll = stackRoll
-describe StackUnroll = stackUnroll
-describe StackSwap = stackSwap
-describe StackDrop = stackDrop
+describe StackPush = stack_push
+describe StackPop = stack_pop
+describe StackFlip = stack_flip
+describe StackRoll = stack_roll
+describe StackUnroll = stack_unroll
+describe StackSwap = stack_swap
+describe StackDrop = stack_drop
 describe Axisswap = axisswap
 describe Adapt = adapt
 describe Documented = documented
@@ -62,21 +62,21 @@ unfoldable pub with_number : ℕ → List Operator → Operator
 with_number k [] = Adapt
 with_number k (o ∷ os) = cond (eqb k (number_of o)) o (with_number k os)
 
-unfoldable pub operatorOf : ℕ → Operator
+unfoldable pub operator_of : ℕ → Operator
 unfolding with_number operators number_of
-operatorOf k = with_number k operators
+operator_of k = with_number k operators
 
 -- the arguments that a preparation gives each operator
-unfoldable pub isArgs : Operator → List ℤ → Bool
-isArgs o l = (describe o).isArgs l
+unfoldable pub is_args : Operator → List ℤ → Bool
+is_args o l = (describe o).is_args l
 
 -- does a preparation in this mode make it? Only `adapt` knows a mode: not the other mode's `adapt`
-unfoldable pub otherMode : Mode → Mode
-otherMode mode.Crate = mode.Documented
-otherMode mode.Documented = mode.Crate
+unfoldable pub other_mode : Mode → Mode
+other_mode mode.Crate = mode.Documented
+other_mode mode.Documented = mode.Crate
 
-unfoldable pub isOfMode : Mode → Operator → Bool
-isOfMode m o = not (eqb (number_of o) (number_of (adaptIn (otherMode m))))
+unfoldable pub is_of_mode : Mode → Operator → Bool
+is_of_mode m o = not (eqb (number_of o) (number_of (adapt_in (other_mode m))))
 
 -- what it does
 unfoldable pub forward : Operator → List ℤ → Act
@@ -87,21 +87,21 @@ inverse o l = (describe o).inverse l
 
 -- ---- by name
 
-abbrev pub wordingOf : Name → Wording
-wordingOf name.Push = pushWording
-wordingOf name.Pop = popWording
-wordingOf name.Stack = stackWording
-wordingOf name.Axisswap = axisswapWording
-wordingOf name.Adapt = adaptWording
+abbrev pub wording_of : Name → Wording
+wording_of name.Push = push_wording
+wording_of name.Pop = pop_wording
+wording_of name.Stack = stack_wording
+wording_of name.Axisswap = axisswap_wording
+wording_of name.Adapt = adapt_wording
 
 unfoldable pub names : List Name
 names = name.Push ∷ name.Pop ∷ name.Stack ∷ name.Axisswap ∷ name.Adapt ∷ []
 
 -- "one of the five", or not
-unfoldable pub nameIn : List Name → Bytes → Named
-nameIn [] t = Not
-nameIn (n ∷ ns) t = cond (same t (ascii (wordingOf n).name)) (Is n) (nameIn ns t)
+unfoldable pub name_in : List Name → Bytes → Named
+name_in [] t = Not
+name_in (n ∷ ns) t = cond (same t (ascii (wording_of n).name)) (Is n) (name_in ns t)
 
 unfoldable pub name_of : Bytes → Named
-unfolding nameIn names
-name_of t = nameIn names t
+unfolding name_in names
+name_of t = name_in names t

@@ -3,11 +3,11 @@ use Rattle.std.specs.Prelude.{◌≡◌, ℕ, ◌-◌, Bool, true, false, cond, 
 use Rattle.std.proofs.Math.Bool.{xor}
 use Rattle.std.proofs.Math.Option.{Option, none, some}
 use Rattle.rules.specs.Text.Lists.{any_of}
-use Rattle.rules.specs.Pipeline.Record.{noSpan, blank, refusal18}
+use Rattle.rules.specs.Pipeline.Record.{no_span, blank, refusal18}
 use Rattle.rules.specs.Operators.Axisswap.{reordered}
-use Rattle.rules.specs.Operators.Acts.{Act, pushes, pops, popsAll, flips, rolls, swaps, drops, orders, adapts}
+use Rattle.rules.specs.Operators.Acts.{Act, pushes, pops, pops_all, flips, rolls, swaps, drops, orders, adapts}
 use Rattle.rules.specs.Pipeline.Running.{Numbered, running}
-use Rattle.rules.specs.Pipeline.Columns.{Machine, Kit, moved, tooFew, after, depths, deepest}
+use Rattle.rules.specs.Pipeline.Columns.{Machine, Kit, moved, too_few, after, depths, deepest}
 use Rattle.rules.specs.declared.Span.{Span}
 use Rattle.rules.specs.declared.Step.{Step}
 use Rattle.rules.specs.declared.Direction.{Direction}
@@ -22,40 +22,40 @@ abbrev pub plus : ℕ → Place
 plus i = record { axis = i; minus = false }
 
 -- what a slot holds that tells of no place
-abbrev pub noPlace : Place
-noPlace = record { axis = 0; minus = false }
+abbrev pub no_place : Place
+no_place = record { axis = 0; minus = false }
 
 abbrev pub four : Place → Place → Place → Place → List Place
 four a b c d = a ∷ b ∷ c ∷ d ∷ []
 
 abbrev pub nth : List Place → ℕ → Place
-nth l k = get_or l k noPlace
+nth l k = get_or l k no_place
 
 -- place i of four, and the four with p as place i
 unfoldable pub place : ℕ → List Place → Place
 place i l = cond (eqb i 1) (nth l 0) (cond (eqb i 2) (nth l 1) (cond (eqb i 3) (nth l 2) (nth l 3)))
 
-unfoldable pub putPlace : ℕ → Place → List Place → List Place
-putPlace i p l =
+unfoldable pub put_place : ℕ → Place → List Place → List Place
+put_place i p l =
     cond (eqb i 1) (four p (nth l 1) (nth l 2) (nth l 3))
     (cond (eqb i 2) (four (nth l 0) p (nth l 2) (nth l 3))
     (cond (eqb i 3) (four (nth l 0) (nth l 1) p (nth l 3))
     (four (nth l 0) (nth l 1) (nth l 2) p)))
 
 -- a place with its sign turned, or kept
-unfoldable pub turnPlace : Bool → Place → Place
+unfoldable pub turn_place : Bool → Place → Place
 unfolding xor
-turnPlace minus p = record { axis = p.axis; minus = xor minus p.minus }
+turn_place minus p = record { axis = p.axis; minus = xor minus p.minus }
 
 -- ---- the steps on places
 
 -- adapt moves no place, in either mode: where it runs, no places are told
-abbrev pub onPlaces : Kit (List Place) Place
-onPlaces =
+abbrev pub on_places : Kit (List Place) Place
+on_places =
     record {
       column = place;
-      store = putPlace;
-      order = λ back l t. reordered place putPlace turnPlace back l t;
+      store = put_place;
+      order = λ back l t. reordered place put_place turn_place back l t;
       adapt = λ mode back l t. t;
     }
 
@@ -70,7 +70,7 @@ begin = record { tuples = four (plus 1) (plus 2) (plus 3) (plus 4); columns = []
 unfoldable pub adapting : Act → Bool
 adapting (pushes is) = false
 adapting (pops is) = false
-adapting (popsAll is) = false
+adapting (pops_all is) = false
 adapting (flips is) = false
 adapting (rolls w n) = false
 adapting swaps = false
@@ -78,8 +78,8 @@ adapting drops = false
 adapting (orders back l) = false
 adapting (adapts mode back l) = true
 
-unfoldable pub anyAdapt : List Numbered → Bool
-anyAdapt l = any_of (λ (s : Numbered). adapting s.does) l
+unfoldable pub any_adapt : List Numbered → Bool
+any_adapt l = any_of (λ (s : Numbered). adapting s.does) l
 
 -- ---- the verdict
 
@@ -88,10 +88,10 @@ anyAdapt l = any_of (λ (s : Numbered). adapting s.does) l
 unfoldable pub verdict : List Numbered → Traced → Verdict
 verdict [] m = Passes
 verdict (s ∷ l) m =
-    let m' = moved onPlaces s.does m in
+    let m' = moved on_places s.does m in
     let rest = verdict l m' in
     let enough = cond (ltb 64 (length m'.columns)) (TooMany s.place) rest in
-    cond (tooFew s.does (length m.columns)) (TooFew s.place) enough
+    cond (too_few s.does (length m.columns)) (TooFew s.place) enough
 
 -- an answer that tells no more than its verdict, and a span
 unfoldable pub only : Verdict → Span → Foretold
@@ -104,39 +104,39 @@ only v p =
       deepest = 0;
       left = 0;
       told = false;
-      places = replicate 4 noPlace;
+      places = replicate 4 no_place;
     }
 
 -- "the depth after each step run, deepest, left, and four places, each with its sign, unless an `adapt` step runs"
 unfoldable pub foretold : List Numbered → Foretold
 foretold l =
-    let ds = depths (moved onPlaces) l begin in
-    let end = after (moved onPlaces) l begin in
-    let told = not (anyAdapt l) in
+    let ds = depths (moved on_places) l begin in
+    let end = after (moved on_places) l begin in
+    let told = not (any_adapt l) in
     record {
       verdict = Passes;
-      span = noSpan;
+      span = no_span;
       run = length ds;
       depths = ds ++ replicate (64 - length ds) 0;
       deepest = deepest ds;
       left = length end.columns;
       told = told;
-      places = cond told end.tuples (replicate 4 noPlace);
+      places = cond told end.tuples (replicate 4 no_place);
     }
 
 -- the span of the record at place k of a table
-unfoldable pub spanAt : ℕ → List Step → Span
-spanAt k t = (get_or t (k - 1) blank).span
+unfoldable pub span_at : ℕ → List Step → Span
+span_at k t = (get_or t (k - 1) blank).span
 
 -- "the check returns the span with its step"; a pass and a refusal name none
 unfoldable pub answered : Verdict → List Step → List Numbered → Foretold
 answered Passes t l = foretold l
-answered (TooFew k) t l = only (TooFew k) (spanAt k t)
-answered (TooMany k) t l = only (TooMany k) (spanAt k t)
-answered (Refused number k) t l = only (Refused number k) noSpan
+answered (TooFew k) t l = only (TooFew k) (span_at k t)
+answered (TooMany k) t l = only (TooMany k) (span_at k t)
+answered (Refused number k) t l = only (Refused number k) no_span
 
 unfoldable pub checked : Option ℕ → List Step → List Numbered → Foretold
-checked (some k) t l = only (Refused 18 k) noSpan
+checked (some k) t l = only (Refused 18 k) no_span
 checked none t l = answered (verdict l begin) t l
 
 -- the check of a step table in a direction

@@ -1,7 +1,7 @@
 -- Tuples and columns, the top column first, and how a step moves them where it finds enough columns. The run moves
 -- numbers; the check moves signed places in the same way.
 use Rattle.std.specs.Prelude.{ℕ, zero, suc, ◌-◌, max, Bool, List, [], ◌∷◌, ◌++◌, length, take, drop, ltb, ℤ}
-use Rattle.rules.specs.Operators.Acts.{Act, pushes, pops, popsAll, flips, rolls, swaps, drops, orders, adapts}
+use Rattle.rules.specs.Operators.Acts.{Act, pushes, pops, pops_all, flips, rolls, swaps, drops, orders, adapts}
 use Rattle.rules.specs.Pipeline.Running.{Numbered}
 use Rattle.rules.specs.declared.Mode.{Mode}
 
@@ -20,20 +20,20 @@ pub record Kit (T C : Type 0) : Type 0 where
 
 module _ {C : Type 0} where
   -- "The top column goes under the top m"
-  unfoldable pub rolledOnce : ℕ → List C → List C
-  rolledOnce m [] = []
-  rolledOnce m (v ∷ l) = take (m - 1) l ++ (v ∷ drop (m - 1) l)
+  unfoldable pub rolled_once : ℕ → List C → List C
+  rolled_once m [] = []
+  rolled_once m (v ∷ l) = take (m - 1) l ++ (v ∷ drop (m - 1) l)
 
   -- "n times"
   unfoldable pub rolled : ℕ → ℕ → List C → List C
   rolled m zero l = l
-  rolled m (suc n) l = rolled m n (rolledOnce m l)
+  rolled m (suc n) l = rolled m n (rolled_once m l)
 
   -- "swap does nothing below two columns"
-  unfoldable pub swappedTop : List C → List C
-  swappedTop [] = []
-  swappedTop (v ∷ []) = v ∷ []
-  swappedTop (v ∷ w ∷ l) = w ∷ v ∷ l
+  unfoldable pub swapped_top : List C → List C
+  swapped_top [] = []
+  swapped_top (v ∷ []) = v ∷ []
+  swapped_top (v ∷ w ∷ l) = w ∷ v ∷ l
 
 -- ---- tuples and columns
 
@@ -43,7 +43,7 @@ module _ {T C : Type 0} (k : Kit T C) where
   pushed [] t l = l
   pushed (i ∷ is) t l = pushed is t (k.column i t ∷ l)
 
-  -- pop: the top column goes into each place, in this order (a step with too few columns is not moved so: see `tooFew`)
+  -- pop: the top column goes into each place, in this order (a step with too few columns is not moved so: see `too_few`)
   unfoldable pub popped : List ℕ → T → List C → Machine T C
   popped [] t l = record { tuples = t; columns = l }
   popped (i ∷ is) t [] = record { tuples = t; columns = [] }
@@ -63,10 +63,10 @@ module _ {T C : Type 0} (k : Kit T C) where
   unfoldable pub moved : Act → Machine T C → Machine T C
   moved (pushes is) m = record { tuples = m.tuples; columns = pushed is m.tuples m.columns }
   moved (pops is) m = popped is m.tuples m.columns
-  moved (popsAll is) m = popped is m.tuples m.columns
+  moved (pops_all is) m = popped is m.tuples m.columns
   moved (flips is) m = flipped is m.tuples m.columns
   moved (rolls w n) m = record { tuples = m.tuples; columns = rolled w n m.columns }
-  moved swaps m = record { tuples = m.tuples; columns = swappedTop m.columns }
+  moved swaps m = record { tuples = m.tuples; columns = swapped_top m.columns }
   moved drops m = m
   moved (orders back l) m = record { tuples = k.order back l m.tuples; columns = m.columns }
   moved (adapts mode back l) m = record { tuples = k.adapt mode back l m.tuples; columns = m.columns }
@@ -77,7 +77,7 @@ module _ {T C : Type 0} (k : Kit T C) where
 unfoldable pub takes : Act → ℕ
 takes (pushes is) = 0
 takes (pops is) = length is
-takes (popsAll is) = length is
+takes (pops_all is) = length is
 takes (flips is) = length is
 takes (rolls w n) = w
 takes swaps = 0
@@ -86,8 +86,8 @@ takes (orders back l) = 0
 takes (adapts mode back l) = 0
 
 -- does a step that finds `depth` columns find "fewer columns than it takes"?
-unfoldable pub tooFew : Act → ℕ → Bool
-tooFew a depth = ltb depth (takes a)
+unfoldable pub too_few : Act → ℕ → Bool
+too_few a depth = ltb depth (takes a)
 
 -- ---- steps one after the other
 

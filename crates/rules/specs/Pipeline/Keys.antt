@@ -5,32 +5,32 @@ use Rattle.rules.specs.Text.Lists.{is_none}
 use Rattle.rules.specs.Text.Bytes.{Bytes, same}
 use Rattle.rules.specs.Text.Parameters.{Parameter}
 use Rattle.rules.specs.Text.Decimal.{series, pieces}
-use Rattle.rules.specs.Operators.Keys.{Key, flag, worded, kindIn}
-use Rattle.rules.specs.Operators.Table.{wordingOf}
+use Rattle.rules.specs.Operators.Keys.{Key, flag, worded, kind_in}
+use Rattle.rules.specs.Operators.Table.{wording_of}
 use Rattle.rules.specs.declared.Name.{Name}
 use Rattle.rules.specs.declared.Kind.{Kind}
 use Rattle.rules.specs.declared.Kind.TheVariants.{Flag, Series, Word, Lacking}
 
 -- the name, and "Every operator also takes `inv`, `omit_fwd`, `omit_inv`."
-unfoldable pub everyKey : List Key
-everyKey = worded "_name" ∷ flag "inv" ∷ flag "omit_fwd" ∷ flag "omit_inv" ∷ []
+unfoldable pub every_key : List Key
+every_key = worded "_name" ∷ flag "inv" ∷ flag "omit_fwd" ∷ flag "omit_inv" ∷ []
 
-unfoldable pub ownKeys : Name → List Key
-ownKeys n = (wordingOf n).keys
+unfoldable pub own_keys : Name → List Key
+own_keys n = (wording_of n).keys
 
 -- what the operator's key takes, if the operator has it
 unfoldable pub kind_of : Name → Parameter → Kind
-kind_of n p = kindIn (everyKey ++ ownKeys n) p.key
+kind_of n p = kind_in (every_key ++ own_keys n) p.key
 
 -- 11: "a key the operator lacks"
-unfoldable pub isLacking : Kind → Bool
-isLacking Flag = false
-isLacking Series = false
-isLacking Word = false
-isLacking Lacking = true
+unfoldable pub is_lacking : Kind → Bool
+is_lacking Flag = false
+is_lacking Series = false
+is_lacking Word = false
+is_lacking Lacking = true
 
 unfoldable pub unknown : Name → Parameter → Bool
-unknown n p = isLacking (kind_of n p)
+unknown n p = is_lacking (kind_of n p)
 
 -- 12: "a series element not in decimal form, or a flag other than bare or `=true`"
 unfoldable pub misspelt : Kind → Bytes → Bool
@@ -40,8 +40,8 @@ misspelt Word value = false
 misspelt Lacking value = false
 
 -- 13: "a series of more than 8 elements"
-unfoldable pub tooLong : Kind → Bytes → Bool
-tooLong Flag value = false
-tooLong Series value = ltb 8 (length (pieces value))
-tooLong Word value = false
-tooLong Lacking value = false
+unfoldable pub too_long : Kind → Bytes → Bool
+too_long Flag value = false
+too_long Series value = ltb 8 (length (pieces value))
+too_long Word value = false
+too_long Lacking value = false

@@ -14,12 +14,12 @@ use Rattle.rules.specs.declared.Ran.TheVariants.{Done, Refused}
 
 -- "The count is the least over steps run, or the tuple count if none ran." No step counts more than the tuples, so the
 -- least is taken from their number on.
-unfoldable pub countFrom : ℕ → List Numbered → State → ℕ
-countFrom c [] m = c
-countFrom c (s ∷ l) m = countFrom (min c (counts s.does m)) l (acted s.does m)
+unfoldable pub count_from : ℕ → List Numbered → State → ℕ
+count_from c [] m = c
+count_from c (s ∷ l) m = count_from (min c (counts s.does m)) l (acted s.does m)
 
 unfoldable pub count : List Numbered → State → ℕ
-count l m = countFrom (length m.tuples) l m
+count l m = count_from (length m.tuples) l m
 
 -- 16: "depth would pass 64": the place of the first step after which there are more than 64 columns
 unfoldable pub passes64 : List Numbered → State → Option ℕ
@@ -30,13 +30,13 @@ passes64 (s ∷ l) m =
     cond (ltb 64 (length m'.columns)) (some s.place) rest
 
 -- 15: "list length not a multiple of 4, or over 65,536 tuples"
-unfoldable pub badList : List Float → Bool
-badList xs = not (eqb (length xs % 4) 0) || ltb 65536 (length xs / 4)
+unfoldable pub bad_list : List Float → Bool
+bad_list xs = not (eqb (length xs % 4) 0) || ltb 65536 (length xs / 4)
 
 -- "After a run the columns left stand whole, bottom first, in the store, each tuple by tuple; the rest of deepest times
 -- tuples is zero; beyond is untouched." `used` is deepest times tuples.
-unfoldable pub storeAfter : ℕ → List (List Float) → List Float → List Float
-storeAfter used columns store =
+unfoldable pub store_after : ℕ → List (List Float) → List Float → List Float
+store_after used columns store =
     let left = flat_map (λ (v : List Float). v) (reverse columns) in
     left ++ (replicate (used - length left) (fin false 0 (pos 0)) ++ drop used store)
 
@@ -63,7 +63,7 @@ finished l xs store used =
     (record {
       answer = Done (count l (start xs)) (length end.columns);
       list = numbers end.tuples;
-      store = storeAfter used end.columns store;
+      store = store_after used end.columns store;
     })
 
 unfoldable pub unless16 : Option ℕ → List Numbered → List Float → List Float → Outcome
@@ -76,7 +76,7 @@ unless15 false l xs store = unless16 (passes64 l (start xs)) l xs store
 
 unfoldable pub unless18 : Option ℕ → Direction → List Step → List Float → List Float → Outcome
 unless18 (some place) d t xs store = refused 18 place xs store
-unless18 none d t xs store = unless15 (badList xs) (running d t) xs store
+unless18 none d t xs store = unless15 (bad_list xs) (running d t) xs store
 
 -- "Run tries 18, 15, 16, 17."
 unfoldable pub runs : Direction → List Step → List Float → List Float → Outcome

@@ -25,12 +25,12 @@ turns Proj o = true
 unfoldable pub directed : Direction → Step → Direction
 directed d s = cond (turns (reading_of s.reading) (operator s) && is_set s.inv) (opposite d) d
 
-unfoldable pub actOf : Direction → Operator → List ℤ → Act
-actOf Forward o l = forward o l
-actOf Inverse o l = inverse o l
+unfoldable pub act_of : Direction → Operator → List ℤ → Act
+act_of Forward o l = forward o l
+act_of Inverse o l = inverse o l
 
 unfoldable pub act : Direction → Step → Act
-act d s = actOf (directed d s) (operator s) (args s)
+act d s = act_of (directed d s) (operator s) (args s)
 
 -- ---- the steps that run
 
@@ -50,11 +50,11 @@ ordered Forward k l = k ∷ l
 ordered Inverse k l = l ++ (k ∷ [])
 
 -- the steps that run, in running order; the first of the list stands at `place` of the table
-unfoldable pub runningFrom : ℕ → Direction → List Step → List Numbered
-runningFrom place d [] = []
-runningFrom place d (s ∷ l) =
-    cond (omitted d s) (runningFrom (suc place) d l)
-    (ordered d (record { place = place; does = act d s }) (runningFrom (suc place) d l))
+unfoldable pub running_from : ℕ → Direction → List Step → List Numbered
+running_from place d [] = []
+running_from place d (s ∷ l) =
+    cond (omitted d s) (running_from (suc place) d l)
+    (ordered d (record { place = place; does = act d s }) (running_from (suc place) d l))
 
 unfoldable pub running : Direction → List Step → List Numbered
-running d l = runningFrom 1 d l
+running d l = running_from 1 d l

@@ -3,9 +3,9 @@ use Rattle.std.specs.Prelude.{ℕ, Bool, true, false, cond, List, [], ◌∷◌,
 use Rattle.std.specs.Float.{nan}
 use Rattle.rules.specs.Operators.Numbers.{number, put}
 use Rattle.rules.specs.Operators.Axisswap.{swapped}
-use Rattle.rules.specs.Operators.Documented.{adaptedIn}
-use Rattle.rules.specs.Operators.Acts.{Act, pushes, pops, popsAll, flips, rolls, swaps, drops, orders, adapts}
-use Rattle.rules.specs.Pipeline.Columns.{Machine, Kit, moved, tooFew}
+use Rattle.rules.specs.Operators.Documented.{adapted_in}
+use Rattle.rules.specs.Operators.Acts.{Act, pushes, pops, pops_all, flips, rolls, swaps, drops, orders, adapts}
+use Rattle.rules.specs.Pipeline.Columns.{Machine, Kit, moved, too_few}
 use Rattle.rules.specs.declared.Coord.{Coord}
 
 -- ---- "a list is four numbers per tuple"
@@ -36,13 +36,13 @@ stored i v [] = []
 stored i [] (t ∷ ts) = t ∷ ts
 stored i (x ∷ v) (t ∷ ts) = put i x t ∷ stored i v ts
 
-abbrev pub onNumbers : Kit (List Coord) (List Float)
-onNumbers =
+abbrev pub on_numbers : Kit (List Coord) (List Float)
+on_numbers =
     record {
       column = column;
       store = stored;
       order = λ back l ts. map (swapped back l) ts;
-      adapt = λ mode back l ts. map (adaptedIn mode back l) ts;
+      adapt = λ mode back l ts. map (adapted_in mode back l) ts;
     }
 
 -- pop: "on an empty stack that axis is NaN for all tuples, the step stops"
@@ -63,7 +63,7 @@ stomped m =
 unfoldable pub starved : Act → State → State
 starved (pushes is) m = m
 starved (pops is) m = drained is m.tuples m.columns
-starved (popsAll is) m = stomped m
+starved (pops_all is) m = stomped m
 starved (flips is) m = stomped m
 starved (rolls w n) m = stomped m
 starved swaps m = m
@@ -71,25 +71,25 @@ starved drops m = m
 starved (orders back l) m = m
 starved (adapts mode back l) m = m
 
-unfoldable pub actedIf : Bool → Act → State → State
-actedIf true a m = starved a m
-actedIf false a m = moved onNumbers a m
+unfoldable pub acted_if : Bool → Act → State → State
+acted_if true a m = starved a m
+acted_if false a m = moved on_numbers a m
 
 -- what one step does
 unfoldable pub acted : Act → State → State
-acted a m = actedIf (tooFew a (length m.columns)) a m
+acted a m = acted_if (too_few a (length m.columns)) a m
 
 -- Does the step count 0? Where it finds too few columns; "swap .. counts 0 only on an empty stack. drop .. counts 0."
-unfoldable pub countsNone : Act → ℕ → Bool
-countsNone (pushes is) depth = false
-countsNone (pops is) depth = tooFew (pops is) depth
-countsNone (popsAll is) depth = tooFew (popsAll is) depth
-countsNone (flips is) depth = tooFew (flips is) depth
-countsNone (rolls w n) depth = tooFew (rolls w n) depth
-countsNone swaps depth = eqb depth 0
-countsNone drops depth = true
-countsNone (orders back l) depth = false
-countsNone (adapts mode back l) depth = false
+unfoldable pub counts_none : Act → ℕ → Bool
+counts_none (pushes is) depth = false
+counts_none (pops is) depth = too_few (pops is) depth
+counts_none (pops_all is) depth = too_few (pops_all is) depth
+counts_none (flips is) depth = too_few (flips is) depth
+counts_none (rolls w n) depth = too_few (rolls w n) depth
+counts_none swaps depth = eqb depth 0
+counts_none drops depth = true
+counts_none (orders back l) depth = false
+counts_none (adapts mode back l) depth = false
 
 unfoldable pub counts : Act → State → ℕ
-counts a m = cond (countsNone a (length m.columns)) 0 (length m.tuples)
+counts a m = cond (counts_none a (length m.columns)) 0 (length m.tuples)

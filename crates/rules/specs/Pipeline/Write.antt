@@ -3,7 +3,7 @@ use Rattle.std.specs.Prelude.{ℕ, suc, ◌+◌, cond, List, [], ◌∷◌, ◌+
 use Prim.Native.String.{String}
 use Rattle.std.proofs.Math.Option.{Option, none, some}
 use Rattle.rules.specs.Text.Ascii.{ascii}
-use Rattle.rules.specs.Text.Bytes.{Bytes, Words, joinedBy, joined}
+use Rattle.rules.specs.Text.Bytes.{Bytes, Words, joined_by, joined}
 use Rattle.rules.specs.Text.Refusal.{Reply, answers, refuses}
 use Rattle.rules.specs.Operators.Descriptions.{Operator}
 use Rattle.rules.specs.Operators.Table.{describe}
@@ -13,48 +13,48 @@ use Rattle.rules.specs.declared.Step.{Step}
 
 -- ---- words
 
-unfoldable pub nameWord : Operator → Bytes
-nameWord o = ascii (describe o).name
+unfoldable pub name_word : Operator → Bytes
+name_word o = ascii (describe o).name
 
-unfoldable pub argWords : Operator → List ℤ → Words
-argWords o l = (describe o).words l
+unfoldable pub arg_words : Operator → List ℤ → Words
+arg_words o l = (describe o).words l
 
-unfoldable pub operatorWords : Operator → List ℤ → Words
-operatorWords o l = nameWord o ∷ argWords o l
+unfoldable pub operator_words : Operator → List ℤ → Words
+operator_words o l = name_word o ∷ arg_words o l
 
 -- a mark that is set
-unfoldable pub markWord : String → ℕ → Words
-markWord key mark = cond (is_set mark) (ascii key ∷ []) []
+unfoldable pub mark_word : String → ℕ → Words
+mark_word key mark = cond (is_set mark) (ascii key ∷ []) []
 
-unfoldable pub markWords : Step → Words
-markWords s = markWord "inv" s.inv ++ (markWord "omit_fwd" s.omit_fwd ++ markWord "omit_inv" s.omit_inv)
+unfoldable pub mark_words : Step → Words
+mark_words s = mark_word "inv" s.inv ++ (mark_word "omit_fwd" s.omit_fwd ++ mark_word "omit_inv" s.omit_inv)
 
 -- ---- the step, and a table of them
 
-unfoldable pub stepWords : Step → Words
-stepWords s = operatorWords (operator s) (args s) ++ markWords s
+unfoldable pub step_words : Step → Words
+step_words s = operator_words (operator s) (args s) ++ mark_words s
 
 unfoldable pub writing : Step → Bytes
-writing s = joined (stepWords s)
+writing s = joined (step_words s)
 
 -- the texts with ` | ` between
-unfoldable pub tableWriting : List Step → Bytes
-tableWriting l = joinedBy (ascii " | ") (map writing l)
+unfoldable pub table_writing : List Step → Bytes
+table_writing l = joined_by (ascii " | ") (map writing l)
 
 -- where the steps of that text stand once it is normalised, ` | ` being one byte then: texts that follow each other from a place on
-unfoldable pub spansInTurn : ℕ → List Bytes → List Span
-spansInTurn place [] = []
-spansInTurn place (t ∷ ts) = record { from = place; length = length t } ∷ spansInTurn (place + suc (length t)) ts
+unfoldable pub spans_in_turn : ℕ → List Bytes → List Span
+spans_in_turn place [] = []
+spans_in_turn place (t ∷ ts) = record { from = place; length = length t } ∷ spans_in_turn (place + suc (length t)) ts
 
-unfoldable pub writtenSpans : List Step → List Span
-writtenSpans l = spansInTurn 0 (map writing l)
+unfoldable pub written_spans : List Step → List Span
+written_spans l = spans_in_turn 0 (map writing l)
 
 -- ---- the call `write`
 
 -- 18 at its place, and else the text
-unfoldable pub writtenUnless18 : Option ℕ → Bytes → Reply Bytes
-writtenUnless18 none text = answers text
-writtenUnless18 (some place) text = refuses 18 place
+unfoldable pub written_unless18 : Option ℕ → Bytes → Reply Bytes
+written_unless18 none text = answers text
+written_unless18 (some place) text = refuses 18 place
 
 unfoldable pub write : List Step → Reply Bytes
-write l = writtenUnless18 (refusal18 l) (tableWriting l)
+write l = written_unless18 (refusal18 l) (table_writing l)

@@ -1,8 +1,8 @@
 -- A PROJ text cut into steps, and a step's own words as the answer has them.
 use Rattle.std.specs.Prelude.{Bool, true, false, cond, ◌&&◌, not, [], ◌∷◌, ◌++◌, map, drop}
 use Rattle.rules.specs.Text.Ascii.{ascii, is}
-use Rattle.rules.specs.Text.Lists.{any_of, kept, nonEmpty}
-use Rattle.rules.specs.Text.Bytes.{Bytes, Words, Steps, white, same, starts, replace, trimStart, trimmed, onto, words}
+use Rattle.rules.specs.Text.Lists.{any_of, kept, non_empty}
+use Rattle.rules.specs.Text.Bytes.{Bytes, Words, Steps, white, same, starts, replace, trim_start, trimmed, onto, words}
 use Rattle.rules.specs.Text.Normal.{normal}
 use Rattle.rules.specs.Text.Comments.{newlines, lined}
 
@@ -10,51 +10,51 @@ use Rattle.rules.specs.Text.Comments.{newlines, lined}
 
 -- the source: PROJ's `+` goes after a space, after a newline, and at the front
 unfoldable pub unplussed : Bytes → Bytes
-unplussed t = trimStart (is "+") (trimmed white (replace (ascii "\n+") (ascii " ") (replace (ascii " +") (ascii " ") t)))
+unplussed t = trim_start (is "+") (trimmed white (replace (ascii "\n+") (ascii " ") (replace (ascii " +") (ascii " ") t)))
 
 -- the word `step`
-unfoldable pub isStep : Bytes → Bool
-isStep w = same w (ascii "step")
+unfoldable pub is_step : Bytes → Bool
+is_step w = same w (ascii "step")
 
 -- The words cut at each `step`. The source cuts at ` step `, with both spaces, so that the word right after a cut never
 -- is another. (That these are the source's steps: laws_source/Steps.)
-unfoldable pub cutAtStep : Bool → Words → Steps
-cutAtStep rightAfter [] = [] ∷ []
-cutAtStep true (w ∷ ws) = onto w (cutAtStep false ws)
-cutAtStep false (w ∷ ws) = cond (isStep w) ([] ∷ cutAtStep true ws) (onto w (cutAtStep false ws))
+unfoldable pub cut_at_step : Bool → Words → Steps
+cut_at_step right_after [] = [] ∷ []
+cut_at_step true (w ∷ ws) = onto w (cut_at_step false ws)
+cut_at_step false (w ∷ ws) = cond (is_step w) ([] ∷ cut_at_step true ws) (onto w (cut_at_step false ws))
 
 -- the source: a `step` in front of other words is noise
-unfoldable pub withoutNoise : Words → Words
-withoutNoise [] = []
-withoutNoise (w ∷ []) = w ∷ []
-withoutNoise (w ∷ v ∷ ws) = cond (isStep w) (v ∷ ws) (w ∷ v ∷ ws)
+unfoldable pub without_noise : Words → Words
+without_noise [] = []
+without_noise (w ∷ []) = w ∷ []
+without_noise (w ∷ v ∷ ws) = cond (is_step w) (v ∷ ws) (w ∷ v ∷ ws)
 
 -- "the cut PROJ text": its steps, each as its words, without empty ones
-unfoldable pub projSteps : Bytes → Steps
-projSteps t = kept nonEmpty (map withoutNoise (cutAtStep false (words (normal (lined (unplussed (newlines t)))))))
+unfoldable pub proj_steps : Bytes → Steps
+proj_steps t = kept non_empty (map without_noise (cut_at_step false (words (normal (lined (unplussed (newlines t)))))))
 
 -- ---- `proj=` in front
 
 -- a word `proj=..`
-unfoldable pub isProj : Bytes → Bool
-isProj w = starts (ascii "proj=") w
+unfoldable pub is_proj : Bytes → Bool
+is_proj w = starts (ascii "proj=") w
 
 -- the first `proj=..`
-unfoldable pub firstProj : Words → Bytes
-firstProj [] = []
-firstProj (w ∷ ws) = cond (isProj w) w (firstProj ws)
+unfoldable pub first_proj : Words → Bytes
+first_proj [] = []
+first_proj (w ∷ ws) = cond (is_proj w) w (first_proj ws)
 
 -- the words with v in its place
-unfoldable pub inItsPlace : Bytes → Words → Words
-inItsPlace v [] = []
-inItsPlace v (w ∷ ws) = cond (isProj w) (v ∷ ws) (w ∷ inItsPlace v ws)
+unfoldable pub in_its_place : Bytes → Words → Words
+in_its_place v [] = []
+in_its_place v (w ∷ ws) = cond (is_proj w) (v ∷ ws) (w ∷ in_its_place v ws)
 
 -- "`proj=` changes places with the first element", and "with `proj=` cut off"
 unfoldable pub exchanged : Words → Words
 exchanged [] = []
 exchanged (w ∷ ws) =
-    cond (isProj w) (drop 5 w ∷ ws)
-    (cond (any_of isProj ws) (drop 5 (firstProj ws) ∷ inItsPlace w ws)
+    cond (is_proj w) (drop 5 w ∷ ws)
+    (cond (any_of is_proj ws) (drop 5 (first_proj ws) ∷ in_its_place w ws)
     (w ∷ ws))
 
 -- ---- the ellipsoid and the scale
@@ -69,14 +69,14 @@ last_of key [] = []
 last_of key (w ∷ ws) = cond (has_key key ws) (last_of key ws) w
 
 -- the same words without that one
-unfoldable pub withoutLast : Bytes → Words → Words
-withoutLast key [] = []
-withoutLast key (w ∷ ws) = cond (has_key key ws) (w ∷ withoutLast key ws) ws
+unfoldable pub without_last : Bytes → Words → Words
+without_last key [] = []
+without_last key (w ∷ ws) = cond (has_key key ws) (w ∷ without_last key ws) ws
 
 -- "the last `a=` and last `rf=` become a final `ellps=a,rf`"
 unfoldable pub composed : Words → Words
 composed ws =
-    withoutLast (ascii "rf=") (withoutLast (ascii "a=") ws)
+    without_last (ascii "rf=") (without_last (ascii "a=") ws)
     ++ ((ascii "ellps=" ++ (drop 2 (last_of (ascii "a=") ws) ++ (ascii "," ++ drop 3 (last_of (ascii "rf=") ws)))) ∷ [])
 
 -- "With no `ellps=`", and where there are both

@@ -1,6 +1,6 @@
 -- Texts: the domain, finding and replacing, trimming, cutting and joining.
 use Rattle.std.specs.Prelude.{ℕ, zero, suc, ◌-◌, Bool, true, false, cond, ◌&&◌, ◌||◌, List, [], ◌∷◌, ◌++◌, length, eqb, leb, ltb}
-use Rattle.rules.specs.Text.Lists.{all_of, kept, nonEmpty}
+use Rattle.rules.specs.Text.Lists.{all_of, kept, non_empty}
 
 -- a text is the list of its bytes; a word is a text, and a step is the list of its words
 abbrev pub Bytes : Type 0
@@ -23,11 +23,11 @@ unfoldable pub subscript : ℕ → ℕ → ℕ → Bool
 subscript x y z = eqb x 226 && (eqb y 130 && (leb 128 z && leb z 137))
 
 -- "texts of ASCII plus the ten subscript digits", each of them whole
-unfoldable pub inDomain : Bytes → Bool
-inDomain [] = true
-inDomain (x ∷ []) = ltb x 128
-inDomain (x ∷ y ∷ []) = ltb x 128 && ltb y 128
-inDomain (x ∷ y ∷ z ∷ t) = cond (ltb x 128) (inDomain (y ∷ z ∷ t)) (subscript x y z && inDomain t)
+unfoldable pub in_domain : Bytes → Bool
+in_domain [] = true
+in_domain (x ∷ []) = ltb x 128
+in_domain (x ∷ y ∷ []) = ltb x 128 && ltb y 128
+in_domain (x ∷ y ∷ z ∷ t) = cond (ltb x 128) (in_domain (y ∷ z ∷ t)) (subscript x y z && in_domain t)
 
 -- ---- finding and replacing
 
@@ -51,31 +51,31 @@ contains old (x ∷ t) = starts old (x ∷ t) || contains old t
 
 -- The text with each `old`, left to right and none overlapping, replaced by `new`. The first k bytes, the rest of an
 -- `old`, are passed over.
-unfoldable pub replaceFrom : ℕ → Bytes → Bytes → Bytes → Bytes
-replaceFrom k old new [] = []
-replaceFrom (suc k) old new (x ∷ t) = replaceFrom k old new t
-replaceFrom zero old new (x ∷ t) =
-    cond (starts old (x ∷ t)) (new ++ replaceFrom (length old - 1) old new t) (x ∷ replaceFrom zero old new t)
+unfoldable pub replace_from : ℕ → Bytes → Bytes → Bytes → Bytes
+replace_from k old new [] = []
+replace_from (suc k) old new (x ∷ t) = replace_from k old new t
+replace_from zero old new (x ∷ t) =
+    cond (starts old (x ∷ t)) (new ++ replace_from (length old - 1) old new t) (x ∷ replace_from zero old new t)
 
 -- a replacement "over the whole text"
 unfoldable pub replace : Bytes → Bytes → Bytes → Bytes
-replace old new t = replaceFrom zero old new t
+replace old new t = replace_from zero old new t
 
 -- ---- trimming
 
 -- the text without the bytes at its start that pass the test
-unfoldable pub trimStart : (ℕ → Bool) → Bytes → Bytes
-trimStart test [] = []
-trimStart test (x ∷ t) = cond (test x) (trimStart test t) (x ∷ t)
+unfoldable pub trim_start : (ℕ → Bool) → Bytes → Bytes
+trim_start test [] = []
+trim_start test (x ∷ t) = cond (test x) (trim_start test t) (x ∷ t)
 
 -- without those at its end: nothing is left of a text of such bytes alone, else its first byte stays
-unfoldable pub trimEnd : (ℕ → Bool) → Bytes → Bytes
-trimEnd test [] = []
-trimEnd test (x ∷ t) = cond (all_of test (x ∷ t)) [] (x ∷ trimEnd test t)
+unfoldable pub trim_end : (ℕ → Bool) → Bytes → Bytes
+trim_end test [] = []
+trim_end test (x ∷ t) = cond (all_of test (x ∷ t)) [] (x ∷ trim_end test t)
 
 -- without either
 unfoldable pub trimmed : (ℕ → Bool) → Bytes → Bytes
-trimmed test t = trimEnd test (trimStart test t)
+trimmed test t = trim_end test (trim_start test t)
 
 -- ---- cutting
 
@@ -101,20 +101,20 @@ cut test (x ∷ t) = cond (test x) ([] ∷ cut test t) (onto x (cut test t))
 
 -- the words: the pieces between white space that are not empty
 unfoldable pub words : Bytes → Words
-words t = kept nonEmpty (cut white t)
+words t = kept non_empty (cut white t)
 
 -- ---- joining
 
 -- each text after a `sep`
-unfoldable pub afterEach : Bytes → List Bytes → Bytes
-afterEach sep [] = []
-afterEach sep (w ∷ ws) = sep ++ (w ++ afterEach sep ws)
+unfoldable pub after_each : Bytes → List Bytes → Bytes
+after_each sep [] = []
+after_each sep (w ∷ ws) = sep ++ (w ++ after_each sep ws)
 
 -- the texts with a `sep` between
-unfoldable pub joinedBy : Bytes → List Bytes → Bytes
-joinedBy sep [] = []
-joinedBy sep (w ∷ ws) = w ++ afterEach sep ws
+unfoldable pub joined_by : Bytes → List Bytes → Bytes
+joined_by sep [] = []
+joined_by sep (w ∷ ws) = w ++ after_each sep ws
 
 -- the words with one space between
 unfoldable pub joined : Words → Bytes
-joined ws = joinedBy (32 ∷ []) ws
+joined ws = joined_by (32 ∷ []) ws

@@ -14,8 +14,8 @@ unfoldable pub digit : ℕ → Bool
 digit b = leb 48 b && leb b 57
 
 -- "1 to 9 digits", "1 to 6 digits": at least one and at most `most` bytes, all of them digits
-unfoldable pub digitsTo : ℕ → Bytes → Bool
-digitsTo most t = leb 1 (length t) && (leb (length t) most && all_of digit t)
+unfoldable pub digits_to : ℕ → Bytes → Bool
+digits_to most t = leb 1 (length t) && (leb (length t) most && all_of digit t)
 
 -- the number that digits spell, read after digits that spelled n
 unfoldable pub spelled : ℕ → Bytes → ℕ
@@ -23,13 +23,13 @@ spelled n [] = n
 spelled n (b ∷ t) = spelled (n * 10 + (b - 48)) t
 
 -- "1 to 9 digits, optionally a point and 1 to 6 digits"
-unfoldable pub plainForm : Bytes → Bool
-plainForm t = digitsTo 9 (before (is ".") t) && (not (any_of (is ".") t) || digitsTo 6 (behind (is ".") t))
+unfoldable pub plain_form : Bytes → Bool
+plain_form t = digits_to 9 (before (is ".") t) && (not (any_of (is ".") t) || digits_to 6 (behind (is ".") t))
 
 -- its exact value: whole, and the fraction in millionths
 unfoldable pub plain : Bool → Bytes → Number
 plain minus t =
-    cond (plainForm t)
+    cond (plain_form t)
     (Is (record {
       minus = minus;
       whole = spelled 0 (before (is ".") t);
@@ -49,18 +49,18 @@ unfoldable pub pieces : Bytes → List Bytes
 pieces value = cut (is ",") value
 
 -- one number more in front, if it is one
-unfoldable pub numberThen : Number → Option (List Decimal) → Option (List Decimal)
-numberThen Not r = none
-numberThen (Is d) none = none
-numberThen (Is d) (some ds) = some (d ∷ ds)
+unfoldable pub number_then : Number → Option (List Decimal) → Option (List Decimal)
+number_then Not r = none
+number_then (Is d) none = none
+number_then (Is d) (some ds) = some (d ∷ ds)
 
-unfoldable pub allNumbers : List Bytes → Option (List Decimal)
-allNumbers [] = some []
-allNumbers (p ∷ ps) = numberThen (decimal p) (allNumbers ps)
+unfoldable pub all_numbers : List Bytes → Option (List Decimal)
+all_numbers [] = some []
+all_numbers (p ∷ ps) = number_then (decimal p) (all_numbers ps)
 
 -- the numbers of a series; none if an element is not in decimal form ("an empty piece or value is not in decimal form")
 unfoldable pub series : Bytes → Option (List Decimal)
-series value = allNumbers (pieces value)
+series value = all_numbers (pieces value)
 
 -- is it a number?
 unfoldable pub is_number : Number → Bool
@@ -68,9 +68,9 @@ is_number (Is d) = true
 is_number Not = false
 
 -- where the first piece of a series begins that "breaks decimal form": behind those before it, and their commas
-unfoldable pub brokenFrom : List Bytes → ℕ
-brokenFrom [] = 0
-brokenFrom (p ∷ ps) = cond (is_number (decimal p)) (length p + 1 + brokenFrom ps) 0
+unfoldable pub broken_from : List Bytes → ℕ
+broken_from [] = 0
+broken_from (p ∷ ps) = cond (is_number (decimal p)) (length p + 1 + broken_from ps) 0
 
 -- ---- whole numbers: `1.0` and `01` are 1, and `-0` is 0
 

@@ -24,9 +24,9 @@ module _ {A : Type 0} where
   place_of test (x ∷ l) = cond (test x) 1 (suc (place_of test l))
 
   -- is there one at all?
-  unfoldable pub nonEmpty : List A → Bool
-  nonEmpty [] = false
-  nonEmpty (x ∷ l) = true
+  unfoldable pub non_empty : List A → Bool
+  non_empty [] = false
+  non_empty (x ∷ l) = true
 
   -- is there none?
   unfoldable pub is_none : Option A → Bool

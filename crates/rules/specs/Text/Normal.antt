@@ -19,8 +19,8 @@ unfoldable pub becomes : String → String → Replacement
 becomes old new = record { old = ascii old; new = ascii new }
 
 -- the subscript digit with that last byte (226 130 128 is the digit 0), "only before `=`"
-unfoldable pub subscriptBecomes : ℕ → String → Replacement
-subscriptBecomes digit new = record { old = 226 ∷ 130 ∷ digit ∷ ascii "="; new = ascii new }
+unfoldable pub subscript_becomes : ℕ → String → Replacement
+subscript_becomes digit new = record { old = 226 ∷ 130 ∷ digit ∷ ascii "="; new = ascii new }
 
 -- "the source's list of replacements"
 unfoldable pub replacements : List Replacement
@@ -39,16 +39,16 @@ replacements =
     ∷ becomes " <" "<"
     ∷ becomes ">" "|omit_inv "
     ∷ becomes "<" "|omit_fwd "
-    ∷ subscriptBecomes 128 "_0="
-    ∷ subscriptBecomes 129 "_1="
-    ∷ subscriptBecomes 130 "_2="
-    ∷ subscriptBecomes 131 "_3="
-    ∷ subscriptBecomes 132 "_4="
-    ∷ subscriptBecomes 133 "_5="
-    ∷ subscriptBecomes 134 "_6="
-    ∷ subscriptBecomes 135 "_7="
-    ∷ subscriptBecomes 136 "_8="
-    ∷ subscriptBecomes 137 "_9="
+    ∷ subscript_becomes 128 "_0="
+    ∷ subscript_becomes 129 "_1="
+    ∷ subscript_becomes 130 "_2="
+    ∷ subscript_becomes 131 "_3="
+    ∷ subscript_becomes 132 "_4="
+    ∷ subscript_becomes 133 "_5="
+    ∷ subscript_becomes 134 "_6="
+    ∷ subscript_becomes 135 "_7="
+    ∷ subscript_becomes 136 "_8="
+    ∷ subscript_becomes 137 "_9="
     ∷ becomes "$ " "$"
     ∷ []
 

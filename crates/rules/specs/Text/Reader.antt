@@ -1,7 +1,7 @@
 -- The walk over the steps: "a reader that knows the normalised text and its place in it". And where the steps stand.
 use Rattle.std.specs.Prelude.{ℕ, suc, ◌+◌, ◌-◌, cond, List, [], ◌∷◌, length, take, drop}
 use Rattle.rules.specs.Text.Ascii.{is}
-use Rattle.rules.specs.Text.Lists.{nonEmpty}
+use Rattle.rules.specs.Text.Lists.{non_empty}
 use Rattle.rules.specs.Text.Bytes.{Bytes, Steps, cut, words}
 use Rattle.rules.specs.Text.Refusal.{Reply, answers}
 use Rattle.rules.specs.Text.Normal.{normal}
@@ -18,7 +18,7 @@ step from to = Step from to (record { at = to })
 -- of pieces that follow each other from a place on, the first that is not empty
 unfoldable pub found : ℕ → List Bytes → Found
 found place [] = End
-found place (p ∷ ps) = cond (nonEmpty (words p)) (step place (place + length p)) (found (place + suc (length p)) ps)
+found place (p ∷ ps) = cond (non_empty (words p)) (step place (place + length p)) (found (place + suc (length p)) ps)
 
 -- the next step from the reader's place on
 unfoldable pub next : Bytes → ℕ → Found
@@ -36,22 +36,22 @@ walked normalised (Step from to then) = words (part from to normalised) ∷ step
 -- ---- spans
 
 -- "the first byte and length of its text": of pieces that follow each other from a place on, each that is not empty
-unfoldable pub spansFrom : ℕ → List Bytes → List Span
-spansFrom place [] = []
-spansFrom place (p ∷ ps) =
-    let rest = spansFrom (place + suc (length p)) ps in
-    cond (nonEmpty (words p)) (record { from = place; length = length p } ∷ rest) rest
+unfoldable pub spans_from : ℕ → List Bytes → List Span
+spans_from place [] = []
+spans_from place (p ∷ ps) =
+    let rest = spans_from (place + suc (length p)) ps in
+    cond (non_empty (words p)) (record { from = place; length = length p } ∷ rest) rest
 
 -- of the steps of a normalised text
-unfoldable pub spansOf : Bytes → List Span
-spansOf normalised = spansFrom 0 (cut (is "|") normalised)
+unfoldable pub spans_of : Bytes → List Span
+spans_of normalised = spans_from 0 (cut (is "|") normalised)
 
 -- "in the normalised definition, taken before leading modifiers are turned to the end": comments are stripped, as splitting does
 unfoldable pub definition : Bytes → Bytes
 definition t = normal (stripped t)
 
 unfoldable pub spans : Bytes → List Span
-spans t = spansOf (definition t)
+spans t = spans_of (definition t)
 
 -- the call `definition`: the text in which they are counted
 unfoldable pub define : Bytes → Reply Bytes

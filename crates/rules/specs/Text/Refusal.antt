@@ -1,6 +1,6 @@
 -- Answers and refusals, and what a call that reads a text leaves in the storage that it is lent.
 use Rattle.std.specs.Prelude.{◌≡◌, ℕ, cond, not, List, ◌++◌, length, drop, ltb}
-use Rattle.rules.specs.Text.Bytes.{Bytes, inDomain}
+use Rattle.rules.specs.Text.Bytes.{Bytes, in_domain}
 use Rattle.rules.specs.declared.Written.{Written}
 use Rattle.rules.specs.declared.Written.TheVariants as written_is
 use Rattle.rules.specs.declared.Prepared.{Prepared}
@@ -23,7 +23,7 @@ and_then (refuses12 place offset) next = refuses12 place offset
 unfoldable pub tested : {A : Type 0} → (Bytes → Reply A) → Bytes → Reply A
 tested own text =
     cond (ltb 4096 (length text)) (refuses 1 0)
-    (cond (not (inDomain text)) (refuses 2 0)
+    (cond (not (in_domain text)) (refuses 2 0)
     (own text))
 
 -- ---- lent storage: a buffer of bytes, or a step table. `in_words` says a reply in the words of the code.

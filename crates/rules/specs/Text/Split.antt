@@ -2,7 +2,7 @@
 use Rattle.std.specs.Prelude.{Bool, cond, ◌&&◌, ◌||◌, length, ltb}
 use mathlib.Core.List.{List, [], ◌∷◌, ◌++◌, map, flat_map}
 use Rattle.rules.specs.Text.Ascii.{ascii, is}
-use Rattle.rules.specs.Text.Lists.{any_of, all_of, kept, place_of, nonEmpty}
+use Rattle.rules.specs.Text.Lists.{any_of, all_of, kept, place_of, non_empty}
 use Rattle.rules.specs.Text.Bytes.{Bytes, Words, Steps, same, cut, words, joined}
 use Rattle.rules.specs.Text.Refusal.{Reply, answers, refuses, and_then}
 use Rattle.rules.specs.Text.Normal.{normal}
@@ -15,8 +15,8 @@ unfoldable pub modifier : Bytes → Bool
 modifier w = same w (ascii "inv") || (same w (ascii "omit_fwd") || same w (ascii "omit_inv"))
 
 -- "a step's words, at least one, are all `inv`, `omit_fwd` or `omit_inv`"
-unfoldable pub onlyModifiers : Words → Bool
-onlyModifiers ws = nonEmpty ws && all_of modifier ws
+unfoldable pub only_modifiers : Words → Bool
+only_modifiers ws = non_empty ws && all_of modifier ws
 
 -- the modifiers in front, and the words after them
 unfoldable pub leading : Words → Words
@@ -35,22 +35,22 @@ turned ws = following ws ++ leading ws
 
 -- "cuts at `|`, drops empty steps": the steps of a normalised text, each as its words
 unfoldable pub steps_of : Bytes → Steps
-steps_of normalised = kept nonEmpty (map words (cut (is "|") normalised))
+steps_of normalised = kept non_empty (map words (cut (is "|") normalised))
 
 -- "Splitting strips comments, normalises, cuts .."
 unfoldable pub steps : Bytes → Steps
 steps t = steps_of (normal (stripped t))
 
 -- a step's text, as splitting gives it
-unfoldable pub stepText : Words → Bytes
-stepText ws = joined (turned ws)
+unfoldable pub step_text : Words → Bytes
+step_text ws = joined (turned ws)
 
 -- "Splitting tries 6, then 8": the first step of modifiers alone; "more than 64 steps"
-unfoldable pub splitSteps : Steps → Reply (List Bytes)
-splitSteps ss =
-    cond (any_of onlyModifiers ss) (refuses 6 (place_of onlyModifiers ss))
+unfoldable pub split_steps : Steps → Reply (List Bytes)
+split_steps ss =
+    cond (any_of only_modifiers ss) (refuses 6 (place_of only_modifiers ss))
     (cond (ltb 64 (length ss)) (refuses 8 0)
-    (answers (map stepText ss)))
+    (answers (map step_text ss)))
 
 -- "written each with a newline after it"
 unfoldable pub line : Bytes → Bytes
@@ -58,4 +58,4 @@ line t = t ++ ascii "\n"
 
 -- the call `split`
 unfoldable pub split : Bytes → Reply Bytes
-split t = and_then (splitSteps (steps t)) (λ texts. answers (flat_map line texts))
+split t = and_then (split_steps (steps t)) (λ texts. answers (flat_map line texts))

@@ -53,7 +53,7 @@ use Rattle.entry.proofs.check.Symbol as row_def
 use Rattle.entry.proofs.check.Symbol.{name as #entry·check}
 use Rattle.entry.proofs.check.Met as row-thm
 use Rattle.sakondreno.proofs.PlainPromises.{checks-plain}
-use Rattle.rules.specs.Face.Plain.{directionOf, plainCheck, PlainChecks}
+use Rattle.rules.specs.Face.Plain.{direction_of, plain_check, PlainChecks}
 use Rattle.rules.specs.declared.Checked.{Checked}
 use Rattle.rules.specs.contracts.Checked as N
 use Rattle.rules.proofs.Checked.TheLaws as N'
@@ -145,7 +145,7 @@ module _ {M : Type 1} {𝓤 : Ura M} (𝓛 : Logic 𝓤) (mem : Memory → SProp
         pass1 ! (init ! 6 refl (tt, (tt, (record { fits = room.0 }, tt)))) $ pass1 ! (init ! 4 refl (tt, record { fits = small })) $ pass0 ! $
         -- [_4; …; _3; …; _2 = inverse; …; _1 = the row; …; room for _0; …; the token; what the parameters own]
         use0 𝓛 (raw ((DirectionOf 𝓛 mem run).pre to-direction)) goes-direction $
-        calls-known ! (fm_of 𝓤 H 𝓛.laws 𝓣) direction.ended (direction.clauses 𝓛 mem run) known-direction to-direction (λ z. z ≡ directionOf inverse) (λ z _. id⊢ 𝓤 _)
+        calls-known ! (fm_of 𝓤 H 𝓛.laws 𝓣) direction.ended (direction.clauses 𝓛 mem run) known-direction to-direction (λ z. z ≡ direction_of inverse) (λ z _. id⊢ 𝓤 _)
         (and_then ! (load ! (from ! (stop !)) (look ! 5 refl)) (no_more !)) (λ w d e.
         drop ! $ facts ! (Row-of Way) (Is-of Way) (shows 𝓛 (Row-of Way)) d (w ∷ []) (λ is.
         land ! (from ! (stop !)) (init ! 2 refl (typed-of Way 𝓛 d w is).0) $
@@ -161,7 +161,7 @@ module _ {M : Type 1} {𝓤 : Ura M} (𝓛 : Logic 𝓤) (mem : Memory → SProp
         land ! (from ! (stop !)) (init ! 2 refl ((LL.lawful P.the_type P'.the_laws 𝓛).typed f _ is₁).0) $
         rewrite ! 2 (λ (z : Val). ‵ (fat full_share P'.mir l₄ 0 z)) (result-is Fore fore-val (LL.tells P.the_type P'.the_laws) f f w₁ is₁ refl) refl $
         use0 𝓛 (raw ((CheckedOf 𝓛 mem run).pre (to-checked f))) (goes-checked f (result-has Fore fore-val (LL.tells P.the_type P'.the_laws) f f w₁ is₁ refl)) $
-        calls-known ! (fm_of 𝓤 H 𝓛.laws 𝓣) checked.ended (checked.clauses 𝓛 mem run) known-checked (to-checked f) (λ z. z ≡ plainCheck f) (λ z _. id⊢ 𝓤 _)
+        calls-known ! (fm_of 𝓤 H 𝓛.laws 𝓣) checked.ended (checked.clauses 𝓛 mem run) known-checked (to-checked f) (λ z. z ≡ plain_check f) (λ z _. id⊢ 𝓤 _)
         (and_then ! (load ! (from ! (stop !)) (look ! 3 refl)) (no_more !)) (λ w₂ r e₂.
         drop ! $ peeks ! N.the_row (Is N.the_row) (shows 𝓛 N.the_row) r (w₂ ∷ []) (λ is₂.
         -- [the result; the token; what the row owns; _4; …; …; room for _0; …]

@@ -51,7 +51,7 @@ use Rattle.entry.specs.contracts.prepare as row-prepare
 use Rattle.entry.proofs.prepare.Symbol as row_def
 use Rattle.entry.proofs.prepare.Symbol.{name as #entry·prepare}
 use Rattle.entry.proofs.prepare.Met as row-thm
-use Rattle.rules.specs.Face.Plain.{plainPrepared, recordCount}
+use Rattle.rules.specs.Face.Plain.{plain_prepared, record_count}
 use Rattle.rules.specs.declared.Answer.{Answer}
 use Rattle.rules.specs.contracts.Answer as N
 use Rattle.rules.proofs.Answer.TheLaws as N'
@@ -106,7 +106,7 @@ module _ {M : Type 1} {𝓤 : Ura M} (𝓛 : Logic 𝓤) (mem : Memory → SProp
   abbrev Post : Val → SProp 𝓤
   Post = (walk_of 𝓛 call.ended stayed (call.clauses 𝓛 mem run)).post ((κs, (q, (q', tt)), tt, (text, (x, tt)), at), tt)
 
-  exits : (w : Val) (r : Answer) (zs : List Step) → Promised recordCount prepare text.now x.now r zs → length zs ≡ length x.now
+  exits : (w : Val) (r : Answer) (zs : List Step) → Promised record_count prepare text.now x.now r zs → length zs ≡ length x.now
       → ent 𝓤 (⋆ 𝓛 (‵ ((N.the_row).own_val r (w ∷ [])) ∷ ‵ (finally R x.name zs) ∷ (‵ (flft κ q) ⊛ ‵ (flft κ' q') ⊛ ‵ ftrue) ∷ ‵ Text ∷ [])) (Post w)
   exits w r zs e l =
       qed 𝓛 (‵ ((N.the_row).own_val r (w ∷ [])) ∷ ‵ (finally R x.name zs) ∷ (‵ (flft κ q) ⊛ ‵ (flft κ' q') ⊛ ‵ ftrue) ∷ ‵ Text ∷ []) ∵
@@ -151,7 +151,7 @@ module _ {M : Type 1} {𝓤 : Ura M} (𝓛 : Logic 𝓤) (mem : Memory → SProp
         land ! (from ! (stop !)) (init ! 7 refl ((EL.lawful P.the_type P'.the_laws 𝓛 tt).typed r _ is).0) $
         rewrite ! 7 (λ (z : Val). ‵ (fat full_share P'.mir l₃ 0 z)) (result-is Ans ans-val (EL.tells P.the_type P'.the_laws) r r w is refl) refl $
         use0 𝓛 (raw ((Counted 𝓛 mem run).pre (to-counted r))) (goes-counted r (result-has Ans ans-val (EL.tells P.the_type P'.the_laws) r r w is refl)) $
-        calls-known ! (fm_of 𝓤 H 𝓛.laws 𝓣) counted.ended (counted.clauses 𝓛 mem run) known-counted (to-counted r) (λ z. z ≡ plainPrepared r) (λ z _. id⊢ 𝓤 _)
+        calls-known ! (fm_of 𝓤 H 𝓛.laws 𝓣) counted.ended (counted.clauses 𝓛 mem run) known-counted (to-counted r) (λ z. z ≡ plain_prepared r) (λ z _. id⊢ 𝓤 _)
         (and_then ! (load ! (from ! (stop !)) (look ! 8 refl)) (no_more !)) (λ w₁ r₁ e₁.
         drop ! $ peeks ! N.the_row (Is N.the_row) (shows 𝓛 N.the_row) r₁ (w₁ ∷ []) (λ is₁.
         -- [the result; the last row; the tokens; what text owns; _5; …; …; room for _0; …]
@@ -159,7 +159,7 @@ module _ {M : Type 1} {𝓤 : Ura M} (𝓛 : Logic 𝓤) (mem : Memory → SProp
         returns ! (look ! 14 refl) $ forget ! 4 refl $ forget ! 6 refl $ forget ! 8 refl $ forget ! 10 refl $ forget ! 12 refl $ forget ! 14 refl $
         move ! (14 ∷ 15 ∷ []) $ free1 ! $ move ! (12 ∷ 13 ∷ []) $ free1 ! $ move ! (10 ∷ 11 ∷ []) $ free1 ! $ move ! (8 ∷ 9 ∷ []) $ free1 ! $ move ! (6 ∷ 7 ∷ []) $ free1 ! $ move ! (4 ∷ 5 ∷ []) $
         free1 ! $ free0 ! $
-        by ! (exits w₁ r₁ ws.1.0 (subst (λ (a : Answer). Promised recordCount prepare text.now x.now a ws.1.0) (sym e₁) (in-other-words plainPrepared e)) l))))))))))))
+        by ! (exits w₁ r₁ ws.1.0 (subst (λ (a : Answer). Promised record_count prepare text.now x.now a ws.1.0) (sym e₁) (in-other-words plain_prepared e)) l))))))))))))
 
 module _ {M : Type 1} {𝓤 : Ura M} (𝓛 : Logic 𝓤) (mem : Memory → SProp 𝓤) (run : Routine → Fun 𝓤) (𝓣 : Tables 𝓤 𝓛.H)
     (known-row : Triple 𝓤 (𝓣.C #entry·prepare) (RowPrepare 𝓛 mem run)) (known-counted : Triple 𝓤 (𝓣.C #sakondreno·plain·counted) (Counted 𝓛 mem run)) where

@@ -41,7 +41,7 @@ use denote.Triple.Walked.{says, Stays, stay_none, stay_none_slice, gave_slice, w
 use denote.Exit.{yes}
 use Rattle.rules.specs.Text.Refusal.{Promised}
 use Rattle.rules.specs.Pipeline.Record.{reading_of}
-use Rattle.rules.specs.Pipeline.Prepare.{prepareAs, PreparesAs}
+use Rattle.rules.specs.Pipeline.Prepare.{prepare_as, PreparesAs}
 use Rattle.rules.specs.declared.Mode.{Mode}
 use Rattle.rules.specs.declared.Reading.{Reading}
 use Rattle.rules.specs.declared.Step.{Step}
@@ -60,7 +60,7 @@ use Rattle.entry.specs.contracts.prepare_as as row-prepare
 use Rattle.entry.proofs.prepare_as.Symbol as row_def
 use Rattle.entry.proofs.prepare_as.Symbol.{name as #entry·prepared}
 use Rattle.entry.proofs.prepare_as.Met as row-thm
-use Rattle.rules.specs.Face.Plain.{plainPrepared, recordCount, mode_of}
+use Rattle.rules.specs.Face.Plain.{plain_prepared, record_count, mode_of}
 use Rattle.rules.specs.declared.Answer.{Answer}
 use Rattle.rules.specs.contracts.Answer as N
 use Rattle.rules.proofs.Answer.TheLaws as N'
@@ -129,7 +129,7 @@ module _ {M : Type 1} {𝓤 : Ura M} (𝓛 : Logic 𝓤) (mem : Memory → SProp
   abbrev Post : Val → SProp 𝓤
   Post = (walk_of 𝓛 call.ended stayed (call.clauses 𝓛 mem run)).post ((κs, (q, (q', tt)), tt, (text, (reading, (mode, (x, tt)))), at), tt)
 
-  exits : (w : Val) (r : Answer) (zs : List Step) → Promised recordCount (prepareAs (reading_of reading) (mode_of mode)) text.now x.now r zs → length zs ≡ length x.now
+  exits : (w : Val) (r : Answer) (zs : List Step) → Promised record_count (prepare_as (reading_of reading) (mode_of mode)) text.now x.now r zs → length zs ≡ length x.now
       → ent 𝓤 (⋆ 𝓛 (‵ ((N.the_row).own_val r (w ∷ [])) ∷ ‵ (finally R x.name zs) ∷ (‵ (flft κ q) ⊛ ‵ (flft κ' q') ⊛ ‵ ftrue) ∷ ‵ Text ∷ [])) (Post w)
   exits w r zs e l =
       qed 𝓛 (‵ ((N.the_row).own_val r (w ∷ [])) ∷ ‵ (finally R x.name zs) ∷ (‵ (flft κ q) ⊛ ‵ (flft κ' q') ⊛ ‵ ftrue) ∷ ‵ Text ∷ []) ∵
@@ -141,12 +141,12 @@ module _ {M : Type 1} {𝓤 : Ura M} (𝓛 : Logic 𝓤) (mem : Memory → SProp
       owned ! u8 (Is u8) (uint_Makes 𝓛 w8) reading _ (refl, small) $ fjoin ! $ move ! (2 ∷ 0 ∷ []) $ fjoin ! $ frame ! $ done !
 
   -- what the four callees have said is what is promised
-  said : {d : Reading} {m : Mode} {p : Prepared} {a : Answer} {zs : List Step} → d ≡ reading_of reading → m ≡ mode_of mode → PreparesAs d m text.now x.now p zs → a ≡ plainPrepared p
-      → Promised recordCount (prepareAs (reading_of reading) (mode_of mode)) text.now x.now a zs
+  said : {d : Reading} {m : Mode} {p : Prepared} {a : Answer} {zs : List Step} → d ≡ reading_of reading → m ≡ mode_of mode → PreparesAs d m text.now x.now p zs → a ≡ plain_prepared p
+      → Promised record_count (prepare_as (reading_of reading) (mode_of mode)) text.now x.now a zs
   said {d} {m} {p} {a} {zs} e k f g =
-      subst (λ (z : Reading). Promised recordCount (prepareAs z (mode_of mode)) text.now x.now a zs) e
-      (subst (λ (z : Mode). Promised recordCount (prepareAs d z) text.now x.now a zs) k
-      (subst (λ (z : Answer). Promised recordCount (prepareAs d m) text.now x.now z zs) (sym g) (in-other-words plainPrepared f)))
+      subst (λ (z : Reading). Promised record_count (prepare_as z (mode_of mode)) text.now x.now a zs) e
+      (subst (λ (z : Mode). Promised record_count (prepare_as d z) text.now x.now a zs) k
+      (subst (λ (z : Answer). Promised record_count (prepare_as d m) text.now x.now z zs) (sym g) (in-other-words plain_prepared f)))
 
   -- what each callee is passed, and that it has what it asks
   abbrev to-reading : (ReadingOf 𝓛 mem run).Ghost
@@ -225,7 +225,7 @@ module _ {M : Type 1} {𝓤 : Ura M} (𝓛 : Logic 𝓤) (mem : Memory → SProp
         land ! (from ! (stop !)) (init ! 7 refl ((EL.lawful P.the_type P'.the_laws 𝓛 tt).typed r _ is₁).0) $
         rewrite ! 7 (λ (z : Val). ‵ (fat full_share P'.mir l₇ 0 z)) (result-is Ans ans-val (EL.tells P.the_type P'.the_laws) r r w₁ is₁ refl) refl $
         use0 𝓛 (raw ((Counted 𝓛 mem run).pre (to-counted r))) (goes-counted r (result-has Ans ans-val (EL.tells P.the_type P'.the_laws) r r w₁ is₁ refl)) $
-        calls-known ! (fm_of 𝓤 H 𝓛.laws 𝓣) counted.ended (counted.clauses 𝓛 mem run) known-counted (to-counted r) (λ z. z ≡ plainPrepared r) (λ z _. id⊢ 𝓤 _)
+        calls-known ! (fm_of 𝓤 H 𝓛.laws 𝓣) counted.ended (counted.clauses 𝓛 mem run) known-counted (to-counted r) (λ z. z ≡ plain_prepared r) (λ z _. id⊢ 𝓤 _)
         (and_then ! (load ! (from ! (stop !)) (look ! 8 refl)) (no_more !)) (λ w₂ r₂ e₂.
         drop ! $ peeks ! N.the_row (Is N.the_row) (shows 𝓛 N.the_row) r₂ (w₂ ∷ []) (λ is₂.
         -- [the result; the last row; the tokens; what text owns; _9; …; …; room for _0; …]

@@ -57,7 +57,7 @@ use Rattle.entry.proofs.run.Symbol as row_def
 use Rattle.entry.proofs.run.Symbol.{name as #entry·run}
 use Rattle.entry.proofs.run.Met as row-thm
 use Rattle.sakondreno.proofs.PlainPromises.{runs-plain}
-use Rattle.rules.specs.Face.Plain.{directionOf, plainRan, PlainRuns}
+use Rattle.rules.specs.Face.Plain.{direction_of, plain_ran, PlainRuns}
 use Rattle.rules.specs.declared.Done.{Done}
 use Rattle.rules.specs.contracts.Done as N
 use Rattle.rules.proofs.Done.TheLaws as N'
@@ -169,7 +169,7 @@ module _ {M : Type 1} {𝓤 : Ura M} (𝓛 : Logic 𝓤) (mem : Memory → SProp
         pass1 ! (init ! 14 refl (tt, (tt, (record { fits = room₁.0 }, tt)))) $ pass1 ! (init ! 12 refl (tt, (tt, (record { fits = room₂.0 }, tt)))) $ pass0 ! $
         -- [_10; …; …; _4 = columns; …; _3 = tuples; …; _2 = inverse; …; _1 = the row; …; room for _0; …; the tokens; what the parameters own]: local k stands at 2 · (10 − k)
         use0 𝓛 (raw ((DirectionOf 𝓛 mem run).pre to-direction)) goes-direction $
-        calls-known ! (fm_of 𝓤 H 𝓛.laws 𝓣) direction.ended (direction.clauses 𝓛 mem run) known-direction to-direction (λ z. z ≡ directionOf inverse) (λ z _. id⊢ 𝓤 _)
+        calls-known ! (fm_of 𝓤 H 𝓛.laws 𝓣) direction.ended (direction.clauses 𝓛 mem run) known-direction to-direction (λ z. z ≡ direction_of inverse) (λ z _. id⊢ 𝓤 _)
         (and_then ! (load ! (from ! (stop !)) (look ! 17 refl)) (no_more !)) (λ w d e.
         drop ! $ facts ! (Row-of Way) (Is-of Way) (shows 𝓛 (Row-of Way)) d (w ∷ []) (λ is.
         land ! (from ! (stop !)) (init ! 10 refl (typed-of Way 𝓛 d w is).0) $
@@ -197,7 +197,7 @@ module _ {M : Type 1} {𝓤 : Ura M} (𝓛 : Logic 𝓤) (mem : Memory → SProp
         land ! (from ! (stop !)) (init ! 12 refl ((EL.lawful P.the_type P'.the_laws 𝓛 tt).typed o _ is₁).0) $
         rewrite ! 12 (λ (z : Val). ‵ (fat full_share P'.mir l₆ 0 z)) (result-is Out out-val (EL.tells P.the_type P'.the_laws) o o w₁ is₁ refl) refl $
         use0 𝓛 (raw ((Ended 𝓛 mem run).pre (to-ended o))) (goes-ended o (result-has Out out-val (EL.tells P.the_type P'.the_laws) o o w₁ is₁ refl)) $
-        calls-known ! (fm_of 𝓤 H 𝓛.laws 𝓣) ended.ended (ended.clauses 𝓛 mem run) known-ended (to-ended o) (λ z. z ≡ plainRan o) (λ z _. id⊢ 𝓤 _)
+        calls-known ! (fm_of 𝓤 H 𝓛.laws 𝓣) ended.ended (ended.clauses 𝓛 mem run) known-ended (to-ended o) (λ z. z ≡ plain_ran o) (λ z _. id⊢ 𝓤 _)
         (and_then ! (load ! (from ! (stop !)) (look ! 13 refl)) (no_more !)) (λ w₂ r e₂.
         drop ! $ peeks ! N.the_row (Is N.the_row) (shows 𝓛 N.the_row) r (w₂ ∷ []) (λ is₂.
         -- [the result; the last columns; the last tuples; the tokens; what the row owns; _10; …; …; room for _0; …]

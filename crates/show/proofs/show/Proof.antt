@@ -2,7 +2,7 @@
 use Rattle.show.proofs.Located.{translate-other}
 use Rattle.show.proofs.CallAnswers.{room-so, said-so, front-so, called-fits, called-counts, called-wrote, called-refused, text-refused, text-wrote}
 use Rattle.show.proofs.Sizes.{shown-room}
-use Rattle.rules.specs.Face.Shown.{refusalText, shownSteps, translatedLine, shown}
+use Rattle.rules.specs.Face.Shown.{refusal_text, shown_steps, translated_line, shown}
 use Rattle.rules.specs.Text.Split.{line}
 use mathlib.Core.List.{◌++◌}
 use lib.ListN.{take}
@@ -29,7 +29,7 @@ show-translation-requires c κs =
     let t = c.before.before.before.before.before.before.before.before.before.before.before.before.before.before in (
       t.requires.1.0,
       room-so (shown t.args.reading t.args.mode t.args.text.now)
-          (translatedLine (take c.before.before.before.before.written.given.0.0 c.before.before.before.before.before.before.before.before.translate.new.1.0) ++ shownSteps
+          (translated_line (take c.before.before.before.before.written.given.0.0 c.before.before.before.before.before.before.before.before.translate.new.1.0) ++ shown_steps
           t.args.reading t.args.mode
           (take c.before.before.before.before.written.given.0.0 c.before.before.before.before.before.before.before.before.translate.new.1.0)) t.args.out.now 0
           (text-wrote t.args.reading t.args.mode t.args.text.now
@@ -45,7 +45,7 @@ say-refusal-requires : tie.Need-say-refusal-requires
 say-refusal-requires c κs =
     let t = c.before.before.before.before.before.before.before.before.before.before.before.before in
     room-so (shown t.args.reading t.args.mode t.args.text.now)
-    (line (refusalText c.before.before.written2.given.0.0 c.before.before.written2.given.0.1.0)) t.args.out.now 0
+    (line (refusal_text c.before.before.written2.given.0.0 c.before.before.written2.given.0.1.0)) t.args.out.now 0
     (text-refused t.args.reading t.args.mode t.args.text.now
     (called-refused (translate-other t.args.text.now) c.before.before.written2.given.1 c.before.before.before.before.before.before.translate.ensures t.requires.0))
     (shown-room t.args.reading t.args.mode t.args.text.now t.args.out.now t.requires.1.1)
@@ -63,8 +63,8 @@ returns : tie.Need-returns
 returns c =
     let t = c.before.before.before.before.before.before.before.before.before.before.before.before.before.before.before.before.before.before.before in
     front-so (said-so (shown t.args.reading t.args.mode t.args.text.now)
-    (translatedLine (take c.before.before.before.before.before.before.before.before.before.written.given.0.0
-    c.before.before.before.before.before.before.before.before.before.before.before.before.before.translate.new.1.0) ++ shownSteps
+    (translated_line (take c.before.before.before.before.before.before.before.before.before.written.given.0.0
+    c.before.before.before.before.before.before.before.before.before.before.before.before.before.translate.new.1.0) ++ shown_steps
     t.args.reading t.args.mode
     (take c.before.before.before.before.before.before.before.before.before.written.given.0.0
     c.before.before.before.before.before.before.before.before.before.before.before.before.before.translate.new.1.0)) t.args.out.now 0
@@ -83,7 +83,7 @@ returns-2 : tie.Need-returns-2
 returns-2 c =
     let t = c.before.before.before.before.before.before.before.before.before.before.before.before.before.before.before in
     front-so (said-so (shown t.args.reading t.args.mode t.args.text.now)
-    (line (refusalText c.before.before.before.before.before.written2.given.0.0 c.before.before.before.before.before.written2.given.0.1.0)) t.args.out.now 0
+    (line (refusal_text c.before.before.before.before.before.written2.given.0.0 c.before.before.before.before.before.written2.given.0.1.0)) t.args.out.now 0
     (text-refused t.args.reading t.args.mode t.args.text.now
     (called-refused (translate-other t.args.text.now) c.before.before.before.before.before.written2.given.1
     c.before.before.before.before.before.before.before.before.before.translate.ensures t.requires.0))

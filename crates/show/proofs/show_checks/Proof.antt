@@ -1,7 +1,7 @@
 -- By what preparing answers in a table of 64 records, which are room enough.
 use Rattle.show.proofs.CallAnswers.{room-so, said-so, checks-refused, checks-located, checks-told}
 use Rattle.show.proofs.PreparedTable.{prepare-refused, prepare-faulty, prepare-steps}
-use Rattle.rules.specs.Face.Shown.{refusalText, offsetText, shownChecks, bothChecks}
+use Rattle.rules.specs.Face.Shown.{refusal_text, offset_text, shown_checks, both_checks}
 use Rattle.rules.specs.Pipeline.Record.{listed}
 use Rattle.rules.specs.Text.Split.{line}
 use borrow.Author.Rules.{rules}
@@ -23,7 +23,7 @@ first-of-requires c κs = search rules
 say-checks-requires : tie.Need-say-checks-requires
 say-checks-requires c κs =
     let t = c.before.before.before.before.before.before.before.before.before.before in
-    room-so (shownChecks t.args.reading t.args.mode t.args.text.now) (bothChecks (listed c.before.first_of.result)) t.args.out.now t.args.at
+    room-so (shown_checks t.args.reading t.args.mode t.args.text.now) (both_checks (listed c.before.first_of.result)) t.args.out.now t.args.at
     (checks-told t.args.reading t.args.mode t.args.text.now
     (prepare-steps t.args.reading t.args.mode t.args.text.now c.before.before.before.before.before.before.before.empty.ensures
     c.before.before.before.before.before.before.prepare-as.ensures
@@ -35,8 +35,8 @@ enum-known-answer-2 c = search rules
 say-offset-requires : tie.Need-say-offset-requires
 say-offset-requires c κs =
     let t = c.before.before.before.before.before.before.before.before.before in
-    room-so (shownChecks t.args.reading t.args.mode t.args.text.now)
-    (line (offsetText c.before.before.before.answer2.given.0.1.0 c.before.before.before.answer2.given.0.1.1.0))
+    room-so (shown_checks t.args.reading t.args.mode t.args.text.now)
+    (line (offset_text c.before.before.before.answer2.given.0.1.0 c.before.before.before.answer2.given.0.1.1.0))
     t.args.out.now t.args.at
     (checks-located t.args.reading t.args.mode t.args.text.now
     (prepare-faulty t.args.reading t.args.mode t.args.text.now c.before.before.before.before.before.before.empty.ensures
@@ -49,8 +49,8 @@ same_length c = search rules
 returns : tie.Need-returns
 returns c =
     let t = c.before.before.before.before.before.before.before.before.before.before.before.before in
-    said-so (shownChecks t.args.reading t.args.mode t.args.text.now)
-    (line (offsetText c.before.before.before.before.before.before.answer2.given.0.1.0 c.before.before.before.before.before.before.answer2.given.0.1.1.0))
+    said-so (shown_checks t.args.reading t.args.mode t.args.text.now)
+    (line (offset_text c.before.before.before.before.before.before.answer2.given.0.1.0 c.before.before.before.before.before.before.answer2.given.0.1.1.0))
     t.args.out.now t.args.at
     (checks-located t.args.reading t.args.mode t.args.text.now
     (prepare-faulty t.args.reading t.args.mode t.args.text.now c.before.before.before.before.before.before.before.before.before.empty.ensures
@@ -60,8 +60,8 @@ returns c =
 say-refusal-requires : tie.Need-say-refusal-requires
 say-refusal-requires c κs =
     let t = c.before.before.before.before.before.before.before.before.before in
-    room-so (shownChecks t.args.reading t.args.mode t.args.text.now)
-    (line (refusalText c.before.before.before.answer2.given.0.0 c.before.before.before.answer2.given.0.1.0))
+    room-so (shown_checks t.args.reading t.args.mode t.args.text.now)
+    (line (refusal_text c.before.before.before.answer2.given.0.0 c.before.before.before.answer2.given.0.1.0))
     t.args.out.now t.args.at
     (checks-refused t.args.reading t.args.mode t.args.text.now
     (prepare-refused t.args.reading t.args.mode t.args.text.now c.before.before.before.before.before.before.empty.ensures
@@ -74,7 +74,7 @@ same-length-2 c = search rules
 returns-2 : tie.Need-returns-2
 returns-2 c =
     let t = c.before.before.before.before.before.before.before.before.before.before.before.before.before in
-    said-so (shownChecks t.args.reading t.args.mode t.args.text.now) (bothChecks (listed c.before.before.before.before.first_of.result))
+    said-so (shown_checks t.args.reading t.args.mode t.args.text.now) (both_checks (listed c.before.before.before.before.first_of.result))
     t.args.out.now t.args.at
     (checks-told t.args.reading t.args.mode t.args.text.now
     (prepare-steps t.args.reading t.args.mode t.args.text.now
@@ -88,8 +88,8 @@ same-length-3 c = search rules
 returns-3 : tie.Need-returns-3
 returns-3 c =
     let t = c.before.before.before.before.before.before.before.before.before.before.before.before in
-    said-so (shownChecks t.args.reading t.args.mode t.args.text.now)
-    (line (refusalText c.before.before.before.before.before.before.answer2.given.0.0 c.before.before.before.before.before.before.answer2.given.0.1.0))
+    said-so (shown_checks t.args.reading t.args.mode t.args.text.now)
+    (line (refusal_text c.before.before.before.before.before.before.answer2.given.0.0 c.before.before.before.before.before.before.answer2.given.0.1.0))
     t.args.out.now t.args.at
     (checks-refused t.args.reading t.args.mode t.args.text.now
     (prepare-refused t.args.reading t.args.mode t.args.text.now c.before.before.before.before.before.before.before.before.before.empty.ensures

@@ -1,7 +1,7 @@
 -- By what splitting answers, for which 65,536 bytes are room enough.
 use Rattle.show.proofs.Located.{split-other}
 use Rattle.show.proofs.CallAnswers.{room-so, said-so, called-fits, called-counts, called-wrote, called-refused, steps-refused, steps-wrote}
-use Rattle.rules.specs.Face.Shown.{refusalText, headed, shownChecks, shownSteps}
+use Rattle.rules.specs.Face.Shown.{refusal_text, headed, shown_checks, shown_steps}
 use Rattle.rules.specs.Text.Split.{line}
 use mathlib.Core.Bool.{false}
 use mathlib.Core.List.{◌++◌}
@@ -27,8 +27,8 @@ slice-aggregate-show-lines c =
 show-lines-requires : tie.Need-show-lines-requires
 show-lines-requires c κs =
     let t = c.before.before.before.before.before.before.before.before.before.before.before.before in
-    room-so (shownSteps t.args.reading t.args.mode t.args.text.now)
-    (headed 1 false (take c.before.before.before.written.given.0.0 c.before.before.before.before.before.before.before.split.new.1.0) ++ shownChecks
+    room-so (shown_steps t.args.reading t.args.mode t.args.text.now)
+    (headed 1 false (take c.before.before.before.written.given.0.0 c.before.before.before.before.before.before.before.split.new.1.0) ++ shown_checks
     t.args.reading t.args.mode t.args.text.now) t.args.out.now t.args.at
     (steps-wrote t.args.reading t.args.mode t.args.text.now
     (called-wrote c.before.before.before.written.given.1 c.before.before.before.before.before.before.before.split.ensures t.requires.0
@@ -40,8 +40,8 @@ enum-known-written-2 c = search rules
 say-refusal-requires : tie.Need-say-refusal-requires
 say-refusal-requires c κs =
     let t = c.before.before.before.before.before.before.before.before.before.before.before in
-    room-so (shownSteps t.args.reading t.args.mode t.args.text.now)
-    (line (refusalText c.before.before.written2.given.0.0 c.before.before.written2.given.0.1.0))
+    room-so (shown_steps t.args.reading t.args.mode t.args.text.now)
+    (line (refusal_text c.before.before.written2.given.0.0 c.before.before.written2.given.0.1.0))
     t.args.out.now t.args.at
     (steps-refused t.args.reading t.args.mode t.args.text.now
     (called-refused (split-other t.args.text.now) c.before.before.written2.given.1 c.before.before.before.before.before.before.split.ensures t.requires.0))
@@ -56,9 +56,9 @@ same-length-2 c = search rules
 returns : tie.Need-returns
 returns c =
     let t = c.before.before.before.before.before.before.before.before.before.before.before.before.before.before.before in
-    said-so (shownSteps t.args.reading t.args.mode t.args.text.now)
+    said-so (shown_steps t.args.reading t.args.mode t.args.text.now)
     (headed 1 false (take c.before.before.before.before.before.before.written.given.0.0
-    c.before.before.before.before.before.before.before.before.before.before.split.new.1.0) ++ shownChecks t.args.reading t.args.mode
+    c.before.before.before.before.before.before.before.before.before.before.split.new.1.0) ++ shown_checks t.args.reading t.args.mode
     t.args.text.now) t.args.out.now t.args.at
     (steps-wrote t.args.reading t.args.mode t.args.text.now
     (called-wrote c.before.before.before.before.before.before.written.given.1 c.before.before.before.before.before.before.before.before.before.before.split.ensures
@@ -73,8 +73,8 @@ same-length-4 c = search rules
 returns-2 : tie.Need-returns-2
 returns-2 c =
     let t = c.before.before.before.before.before.before.before.before.before.before.before.before.before.before in
-    said-so (shownSteps t.args.reading t.args.mode t.args.text.now)
-    (line (refusalText c.before.before.before.before.before.written2.given.0.0 c.before.before.before.before.before.written2.given.0.1.0)) t.args.out.now t.args.at
+    said-so (shown_steps t.args.reading t.args.mode t.args.text.now)
+    (line (refusal_text c.before.before.before.before.before.written2.given.0.0 c.before.before.before.before.before.written2.given.0.1.0)) t.args.out.now t.args.at
     (steps-refused t.args.reading t.args.mode t.args.text.now
     (called-refused (split-other t.args.text.now) c.before.before.before.before.before.written2.given.1
     c.before.before.before.before.before.before.before.before.before.split.ensures t.requires.0))

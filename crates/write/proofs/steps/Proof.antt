@@ -3,7 +3,7 @@
 use Rattle.write.proofs.TableText.{rows-rest, row_room, row-turn, rows_end}
 use Rattle.numbers.proofs.EachInTurn.{Going, going_start, going-length, going_end}
 use Rattle.write.specs.Parts.{parted}
-use Rattle.rules.specs.Pipeline.Write.{tableWriting}
+use Rattle.rules.specs.Pipeline.Write.{table_writing}
 use Rattle.record.proofs.SoundTable.{Sound, sound-so}
 use Rattle.rules.specs.Pipeline.Record.{listed}
 use lib.ListN.{take, length-map}
@@ -15,7 +15,7 @@ use Rattle.write.proofs.steps.Statement.{statement}
 use Rattle.write.proofs.steps.Tie as tie
 
 abbrev invariant-loop : tie.invariant-loop
-invariant-loop out₀ o table n e₀ i₀ out e i = Sound table × Going parted (tableWriting (listed table)) (take table.n table.steps) out₀ o i e out
+invariant-loop out₀ o table n e₀ i₀ out e i = Sound table × Going parted (table_writing (listed table)) (take table.n table.steps) out₀ o i e out
 
 abbrev decreases-loop : tie.decreases-loop
 decreases-loop out₀ o table n e₀ i₀ out e i = table.n - i

@@ -1,19 +1,19 @@
--- `is_adapt`: the code asks the same as `isAdapt`, an order of four and four factors; the first test that fails decides.
+-- `is_adapt`: the code asks the same as `is_adapt`, an order of four and four factors; the first test that fails decides.
 use Rattle.numbers.proofs.Rest.{rest_of}
 use mathlib.Core.Path.{refl, sym, ap, ◌∙◌}
 use native.Mathlib.Omega.{arith}
 use borrow.Author.Tests.{ne_eqb}
 use lib.ListN.{length-take}
-use Rattle.rules.specs.Operators.Adapt.{isAdapt}
+use Rattle.rules.specs.Operators.Adapt.{is_adapt}
 use Rattle.laws_lists.specs.Tests.{not_so, not_left}
-use Rattle.adapt.specs.Arguments.{areFactors}
+use Rattle.adapt.specs.Arguments.{are_factors}
 use Rattle.adapt.proofs.AdaptTest.{adapt-tests}
 use borrow.Author.Rules.{rules}
 use Rattle.adapt.proofs.arguments.is_adapt.Statement.{statement}
 use Rattle.adapt.proofs.arguments.is_adapt.Tie as tie
 
 returns : tie.Need-returns
-unfolding isAdapt
+unfolding is_adapt
 returns c = rw (ne_eqb _ _ c.if1.true) refl
 
 slice-aggregate-is-order : tie.Need-slice-aggregate-is-order
@@ -42,7 +42,7 @@ returns-3 c =
     let s = c.before.before.before.before.before.before in
     let left = c.before.before.before.before.before.if1.false in
     let is-order = c.before.before.before.is-order.ensures in
-    rw (adapt-tests _ left, sym is-order ∙ not_left c.before.before.if2.false) (c.are-factors.ensures ∙ ap areFactors (rest_of s.args.l.now 4))
+    rw (adapt-tests _ left, sym is-order ∙ not_left c.before.before.if2.false) (c.are-factors.ensures ∙ ap are_factors (rest_of s.args.l.now 4))
 
 pub is-adapt-spec : {M : Type 1} → statement M
 is-adapt-spec =

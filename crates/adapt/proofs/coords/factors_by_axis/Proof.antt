@@ -1,6 +1,6 @@
 -- `factors_by_axis`: each arm knows which way it goes: back, each factor is 1 over its own; forward it is the step's own.
 use mathlib.Core.Path.{refl}
-use Rattle.adapt.specs.Factors.{factorsByAxis}
+use Rattle.adapt.specs.Factors.{factors_by_axis}
 use borrow.Author.Rules.{rules}
 use Rattle.adapt.proofs.coords.factors_by_axis.Statement.{statement}
 use Rattle.adapt.proofs.coords.factors_by_axis.Tie as tie
@@ -9,11 +9,11 @@ overs-of-requires : tie.Need-overs-of-requires
 overs-of-requires c κs = search rules
 
 returns : tie.Need-returns
-unfolding factorsByAxis
+unfolding factors_by_axis
 returns c = rw c.before.if1.true c.overs-of.ensures
 
 returns-2 : tie.Need-returns-2
-unfolding factorsByAxis
+unfolding factors_by_axis
 returns-2 c = rw c.if1.false refl
 
 pub factors-by-axis-spec : {M : Type 1} → statement M

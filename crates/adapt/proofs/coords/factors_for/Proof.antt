@@ -2,7 +2,7 @@
 -- step's own.
 use mathlib.Core.Path.{refl, ap, ◌∙◌}
 use Rattle.columns.specs.Coords.{picked}
-use Rattle.adapt.specs.Factors.{factorsFor}
+use Rattle.adapt.specs.Factors.{factors_for}
 use borrow.Author.Rules.{rules}
 use Rattle.adapt.proofs.coords.factors_for.Statement.{statement}
 use Rattle.adapt.proofs.coords.factors_for.Tie as tie
@@ -14,13 +14,13 @@ pick-requires : tie.Need-pick-requires
 pick-requires c κs = search rules
 
 returns : tie.Need-returns
-unfolding factorsFor
+unfolding factors_for
 returns c =
     let s = c.before.before.before in
     rw c.before.before.if1.true (c.pick.ensures ∙ ap (picked s.args.o) c.before.overs-of.ensures)
 
 returns-2 : tie.Need-returns-2
-unfolding factorsFor
+unfolding factors_for
 returns-2 c = rw c.if1.false refl
 
 pub factors-for-spec : {M : Type 1} → statement M

@@ -2,13 +2,13 @@
 use Prim.Native.Nat.{◌-◌}
 use native.Mathlib.Omega.{arith}
 use Rattle.columns.proofs.EachTuple.{Each, each_none, each_turn, each-end}
-use Rattle.adapt.specs.Factors.{scaledIf}
+use Rattle.adapt.specs.Factors.{scaled_if}
 use borrow.Author.Rules.{rules}
 use Rattle.adapt.proofs.coords.scale_all.Statement.{statement}
 use Rattle.adapt.proofs.coords.scale_all.Tie as tie
 
 abbrev invariant-loop : tie.invariant-loop
-invariant-loop xs₀ back o f n k₀ xs k = Each (scaledIf back o f) xs₀ xs k
+invariant-loop xs₀ back o f n k₀ xs k = Each (scaled_if back o f) xs₀ xs k
 
 abbrev decreases-loop : tie.decreases-loop
 decreases-loop xs₀ back o f n k₀ xs k = n - k

@@ -1,4 +1,4 @@
--- `is_documented`: the code asks the same as `isDocumented`; the first test that fails decides.
+-- `is_documented`: the code asks the same as `is_documented`; the first test that fails decides.
 use Rattle.numbers.proofs.Rest.{rest_of}
 use mathlib.Core.Path.{refl, sym, ap, ◌∙◌}
 use native.Mathlib.Omega.{arith}
@@ -6,7 +6,7 @@ use borrow.Author.Tests.{eq-eqb, ne_eqb}
 use lib.ListN.{length-take}
 use Rattle.rules.specs.Text.Lists.{all_of}
 use Rattle.rules.specs.Operators.Adapt.{is_code}
-use Rattle.rules.specs.Operators.Documented.{twoAlike, isDocumented}
+use Rattle.rules.specs.Operators.Documented.{two_alike, is_documented}
 use Rattle.laws_lists.specs.Tests.{not_so, not_left}
 use Rattle.adapt.proofs.ByAxis.{documented-tests}
 use borrow.Author.Rules.{rules}
@@ -14,7 +14,7 @@ use Rattle.adapt.proofs.documented.is_documented.Statement.{statement}
 use Rattle.adapt.proofs.documented.is_documented.Tie as tie
 
 returns : tie.Need-returns
-unfolding isDocumented
+unfolding is_documented
 returns c = rw (ne_eqb _ _ c.if1.true) refl
 
 slice-aggregate-is-order : tie.Need-slice-aggregate-is-order
@@ -77,7 +77,7 @@ returns-4 c =
     let size-at3 = c.before.before.size-at3 in
     let codes = are-codes.ensures ∙ ap (all_of is_code) (rest_of start.args.l.now 4) in
     rw (documented-tests _ if1.false, sym is-order.ensures ∙ not_left if2.false, sym codes ∙ not_left if3.false)
-    (c.two-alike.ensures ∙ (λ i. twoAlike (size-at.ensures i) (size-at2.ensures i) (size-at3.ensures i) (c.before.size-at4.ensures i)))
+    (c.two-alike.ensures ∙ (λ i. two_alike (size-at.ensures i) (size-at2.ensures i) (size-at3.ensures i) (c.before.size-at4.ensures i)))
 
 pub is-documented-spec : {M : Type 1} → statement M
 is-documented-spec =

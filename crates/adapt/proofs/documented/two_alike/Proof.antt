@@ -1,6 +1,6 @@
--- `two_alike`: the six pairs are asked in the order of `twoAlike`; the first that is one decides.
+-- `two_alike`: the six pairs are asked in the order of `two_alike`; the first that is one decides.
 use mathlib.Core.Path.{refl, sym, ◌∙◌}
-use Rattle.rules.specs.Operators.Documented.{twoAlike}
+use Rattle.rules.specs.Operators.Documented.{two_alike}
 use borrow.Author.Rules.{rules}
 use Rattle.adapt.proofs.documented.two_alike.Statement.{statement}
 use Rattle.adapt.proofs.documented.two_alike.Tie as tie
@@ -9,14 +9,14 @@ is-pair-requires : tie.Need-is-pair-requires
 is-pair-requires c κs = search rules
 
 returns : tie.Need-returns
-unfolding twoAlike
+unfolding two_alike
 returns c = rw (sym c.before.is-pair.ensures ∙ c.if1.true) refl
 
 is-pair-requires-2 : tie.Need-is-pair-requires-2
 is-pair-requires-2 c κs = search rules
 
 returns-2 : tie.Need-returns-2
-unfolding twoAlike
+unfolding two_alike
 returns-2 c =
     let is-pair = c.before.before.before.is-pair in
     let if1 = c.before.before.if1 in
@@ -26,7 +26,7 @@ is-pair-requires-3 : tie.Need-is-pair-requires-3
 is-pair-requires-3 c κs = search rules
 
 returns-3 : tie.Need-returns-3
-unfolding twoAlike
+unfolding two_alike
 returns-3 c =
     let is-pair = c.before.before.before.before.before.is-pair in
     let if1 = c.before.before.before.before.if1 in
@@ -38,7 +38,7 @@ is-pair-requires-4 : tie.Need-is-pair-requires-4
 is-pair-requires-4 c κs = search rules
 
 returns-4 : tie.Need-returns-4
-unfolding twoAlike
+unfolding two_alike
 returns-4 c =
     let is-pair = c.before.before.before.before.before.before.before.is-pair in
     let if1 = c.before.before.before.before.before.before.if1 in
@@ -52,7 +52,7 @@ is-pair-requires-5 : tie.Need-is-pair-requires-5
 is-pair-requires-5 c κs = search rules
 
 returns-5 : tie.Need-returns-5
-unfolding twoAlike
+unfolding two_alike
 returns-5 c =
     let is-pair = c.before.before.before.before.before.before.before.before.before.is-pair in
     let if1 = c.before.before.before.before.before.before.before.before.if1 in
@@ -68,7 +68,7 @@ is-pair-requires-6 : tie.Need-is-pair-requires-6
 is-pair-requires-6 c κs = search rules
 
 returns-6 : tie.Need-returns-6
-unfolding twoAlike
+unfolding two_alike
 returns-6 c =
     let is-pair = c.before.before.before.before.before.before.before.before.before.before.is-pair in
     let if1 = c.before.before.before.before.before.before.before.before.before.if1 in

@@ -1,7 +1,7 @@
--- `axes_for`: the pairs are asked in the order of `lettersFor`; the first of which both are 0 decides.
+-- `axes_for`: the pairs are asked in the order of `letters_for`; the first of which both are 0 decides.
 use mathlib.Core.Path.{sym, ◌∙◌}
 use Rattle.rules.specs.Text.Ascii.{ascii}
-use Rattle.rules.specs.Operators.Documented.{lettersFor}
+use Rattle.rules.specs.Operators.Documented.{letters_for}
 use borrow.Author.Rules.{rules}
 use borrow.Author.Rules.{rules}
 use Rattle.adapt.proofs.documented_text.axes_for.Statement.{statement}
@@ -17,7 +17,7 @@ axes-of-requires : tie.Need-axes-of-requires
 axes-of-requires c κs = search rules
 
 returns : tie.Need-returns
-unfolding lettersFor ascii
+unfolding letters_for ascii
 returns c = rw (sym c.before.before.before.both_zero.ensures ∙ c.before.before.if1.true) c.axes-of.ensures
 
 both-zero-requires-2 : tie.Need-both-zero-requires-2
@@ -30,7 +30,7 @@ axes-of-requires-2 : tie.Need-axes-of-requires-2
 axes-of-requires-2 c κs = search rules
 
 returns-2 : tie.Need-returns-2
-unfolding lettersFor ascii
+unfolding letters_for ascii
 returns-2 c =
     let both_zero = c.before.before.before.before.before.both_zero.ensures in
     let if1 = c.before.before.before.before.if1.false in
@@ -48,7 +48,7 @@ axes-of-requires-3 : tie.Need-axes-of-requires-3
 axes-of-requires-3 c κs = search rules
 
 returns-3 : tie.Need-returns-3
-unfolding lettersFor ascii
+unfolding letters_for ascii
 returns-3 c =
     let both_zero = c.before.before.before.before.before.before.before.both_zero.ensures in
     let if1 = c.before.before.before.before.before.before.if1.false in
@@ -69,7 +69,7 @@ axes-of-requires-4 : tie.Need-axes-of-requires-4
 axes-of-requires-4 c κs = search rules
 
 returns-4 : tie.Need-returns-4
-unfolding lettersFor ascii
+unfolding letters_for ascii
 returns-4 c =
     let both_zero = c.before.before.before.before.before.before.before.before.before.both_zero.ensures in
     let if1 = c.before.before.before.before.before.before.before.before.if1.false in
@@ -92,7 +92,7 @@ axes-of-requires-5 : tie.Need-axes-of-requires-5
 axes-of-requires-5 c κs = search rules
 
 returns-5 : tie.Need-returns-5
-unfolding lettersFor ascii
+unfolding letters_for ascii
 returns-5 c =
     let both_zero = c.before.before.before.before.before.before.before.before.before.before.before.both_zero.ensures in
     let if1 = c.before.before.before.before.before.before.before.before.before.before.if1.false in
@@ -114,7 +114,7 @@ axes-of-requires-6 : tie.Need-axes-of-requires-6
 axes-of-requires-6 c κs = search rules
 
 returns-6 : tie.Need-returns-6
-unfolding lettersFor ascii
+unfolding letters_for ascii
 returns-6 c =
     let both_zero = c.before.before.before.before.before.before.before.before.before.before.before.both_zero.ensures in
     let if1 = c.before.before.before.before.before.before.before.before.before.before.if1.false in

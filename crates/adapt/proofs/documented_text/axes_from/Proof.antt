@@ -2,7 +2,7 @@
 use mathlib.Core.Path.{◌∙◌}
 use mathlib.Core.List.{map}
 use Rattle.rules.specs.Operators.Adapt.{axis}
-use Rattle.rules.specs.Operators.Documented.{lettersFor, lettersFrom}
+use Rattle.rules.specs.Operators.Documented.{letters_for, letters_from}
 use borrow.Author.Rules.{rules}
 use borrow.Author.Rules.{rules}
 use Rattle.adapt.proofs.documented_text.axes_from.Statement.{statement}
@@ -24,14 +24,14 @@ axes-for-requires : tie.Need-axes-for-requires
 axes-for-requires c κs = search rules
 
 returns : tie.Need-returns
-unfolding lettersFrom
+unfolding letters_from
 returns c =
     let code-from = c.before.before.before.before.code-from.ensures in
     let code-from2 = c.before.before.before.code-from2.ensures in
     let code-from3 = c.before.before.code-from3.ensures in
     let code-from4 = c.before.code-from4.ensures in
     c.axes-for.ensures
-    ∙ (λ i. map axis (lettersFor (code-from i) (code-from2 i) (code-from3 i) (code-from4 i)))
+    ∙ (λ i. map axis (letters_for (code-from i) (code-from2 i) (code-from3 i) (code-from4 i)))
 
 pub axes-from-spec : {M : Type 1} → statement M
 axes-from-spec =

@@ -4,7 +4,7 @@ use native.Mathlib.Omega.{arith}
 use lib.IntN.{pos}
 use lib.ListN.{get_or}
 use Rattle.laws_lists.specs.Signed.{given_is}
-use Rattle.numbers.specs.Axes.{isAxis}
+use Rattle.numbers.specs.Axes.{is_axis}
 use Rattle.numbers.proofs.Listed.{all-at}
 use Rattle.adapt.proofs.Spelt.{axis-least, axis-most}
 use Rattle.adapt.proofs.SpeltByAxis.{axis-small, taken-axis, axis-from-so}
@@ -23,20 +23,20 @@ sub-size-at : tie.Need-overflow-sub-size-at
 sub-size-at c =
     let s = c.before.before in
     let p = s.requires in
-    axis-least _ c.size-at.ensures (all-at isAxis s.args.l.now s.args.i (pos 0) p.1.1.1 p.1.1.0)
+    axis-least _ c.size-at.ensures (all-at is_axis s.args.l.now s.args.i (pos 0) p.1.1.1 p.1.1.0)
 
 size-at-requires-2 : tie.Need-size-at-requires-2
 size-at-requires-2 c κs =
     let s = c.before.before in
     let p = s.requires in
-    omega (arith, p.0, axis-most _ c.size-at.ensures (all-at isAxis s.args.l.now s.args.i (pos 0) p.1.1.1 p.1.1.0))
+    omega (arith, p.0, axis-most _ c.size-at.ensures (all-at is_axis s.args.l.now s.args.i (pos 0) p.1.1.1 p.1.1.0))
 
 signed-requires : tie.Need-signed-requires
 signed-requires c κs =
     let s = c.before.before.before in
     let size-at = c.before.size-at.ensures in
     let p = s.requires in
-    let output = all-at isAxis s.args.l.now s.args.i (pos 0) p.1.1.1 p.1.1.0 in
+    let output = all-at is_axis s.args.l.now s.args.i (pos 0) p.1.1.1 p.1.1.0 in
     axis-small _ c.size-at2.ensures (taken-axis s.args.from.now p.0 p.1.0 _ size-at output)
 
 returns : tie.Need-returns

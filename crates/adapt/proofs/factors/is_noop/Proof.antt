@@ -1,17 +1,17 @@
--- `is_noop`: the four tests are those of `allStaying`, in its order; the first that fails decides.
+-- `is_noop`: the four tests are those of `all_staying`, in its order; the first that fails decides.
 use borrow.Author.Tests.{not-true, not-false}
 use mathlib.Core.Path.{sym, ◌∙◌}
-use Rattle.adapt.specs.Factors.{allStaying}
+use Rattle.adapt.specs.Factors.{all_staying}
 use borrow.Author.Rules.{rules}
 use Rattle.adapt.proofs.factors.is_noop.Statement.{statement}
 use Rattle.adapt.proofs.factors.is_noop.Tie as tie
 
 returns : tie.Need-returns
-unfolding allStaying
+unfolding all_staying
 returns c = rw (sym c.before.is-staying.ensures ∙ not-true _ c.if1.true)
 
 returns-2 : tie.Need-returns-2
-unfolding allStaying
+unfolding all_staying
 returns-2 c =
     rw (
       sym c.before.before.before.is-staying.ensures ∙ not-false _ c.before.before.if1.false,
@@ -19,7 +19,7 @@ returns-2 c =
     )
 
 returns-3 : tie.Need-returns-3
-unfolding allStaying
+unfolding all_staying
 returns-3 c =
     rw (
       sym c.before.before.before.before.before.is-staying.ensures ∙ not-false _ c.before.before.before.before.if1.false,
@@ -28,7 +28,7 @@ returns-3 c =
     )
 
 returns-4 : tie.Need-returns-4
-unfolding allStaying
+unfolding all_staying
 returns-4 c =
     let is-staying = c.before.before.before.before.before.before.is-staying.ensures in
     let left1 = c.before.before.before.before.before.if1.false in

@@ -1,4 +1,4 @@
--- `kind_of`: the keys are tried in the order of the list `wordKeys`: the first that is the same decides (`kind-here`, `kind-next`).
+-- `kind_of`: the keys are tried in the order of the list `word_keys`: the first that is the same decides (`kind-here`, `kind-next`).
 use mathlib.Core.Path.{◌∙◌}
 use Rattle.rules.specs.Text.Ascii.{ascii}
 use Rattle.rules.specs.Operators.Keys.{worded}

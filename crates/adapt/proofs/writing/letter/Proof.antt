@@ -1,7 +1,7 @@
 -- `letter`: the size of an axis is from 1 to 4, so one less is a place among four letters; its sign tells which four.
 use Rattle.adapt.proofs.Spelt.{axis-least, axis-most, letter-turned, letter-plain}
 use Rattle.numbers.proofs.Listed.{all-at}
-use Rattle.numbers.specs.Axes.{isAxis}
+use Rattle.numbers.specs.Axes.{is_axis}
 use lib.IntN.{pos}
 use mathlib.Core.Path.{sym, ◌∙◌}
 use borrow.Author.Rules.{rules}
@@ -21,13 +21,13 @@ sub-byte-at : tie.Need-overflow-sub-byte-at
 sub-byte-at c =
     let s = c.before.before.before.before in
     let size-at = c.before.before.before.size-at.ensures in
-    axis-least _ size-at (all-at isAxis _ _ (pos 0) s.requires.0 s.requires.1)
+    axis-least _ size-at (all-at is_axis _ _ (pos 0) s.requires.0 s.requires.1)
 
 byte-at-requires : tie.Need-byte-at-requires
 byte-at-requires c κs =
     let s = c.before.before.before.before in
     let size-at = c.before.before.before.size-at.ensures in
-    axis-most _ size-at (all-at isAxis _ _ (pos 0) s.requires.0 s.requires.1)
+    axis-most _ size-at (all-at is_axis _ _ (pos 0) s.requires.0 s.requires.1)
 
 returns : tie.Need-returns
 returns c =
@@ -42,13 +42,13 @@ sub-byte-at-2 : tie.Need-overflow-sub-byte-at-2
 sub-byte-at-2 c =
     let s = c.before.before.before.before in
     let size-at = c.before.before.before.size-at.ensures in
-    axis-least _ size-at (all-at isAxis _ _ (pos 0) s.requires.0 s.requires.1)
+    axis-least _ size-at (all-at is_axis _ _ (pos 0) s.requires.0 s.requires.1)
 
 byte-at-requires-2 : tie.Need-byte-at-requires-2
 byte-at-requires-2 c κs =
     let s = c.before.before.before.before in
     let size-at = c.before.before.before.size-at.ensures in
-    axis-most _ size-at (all-at isAxis _ _ (pos 0) s.requires.0 s.requires.1)
+    axis-most _ size-at (all-at is_axis _ _ (pos 0) s.requires.0 s.requires.1)
 
 returns-2 : tie.Need-returns-2
 returns-2 c =

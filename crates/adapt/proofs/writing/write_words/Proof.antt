@@ -3,7 +3,7 @@ use mathlib.Core.Path.{refl, sym}
 use native.Mathlib.Omega.{arith}
 use lib.Seq.{length-take-le}
 use Rattle.rules.specs.Text.Lists.{all_of}
-use Rattle.numbers.specs.Axes.{isAxis}
+use Rattle.numbers.specs.Axes.{is_axis}
 use Rattle.numbers.proofs.InTurn.{room_as, as_written}
 use Rattle.adapt.proofs.Spelt.{adapt-is, adapt-long, adapt-axes}
 use borrow.Author.Rules.{rules}
@@ -22,7 +22,7 @@ slice-aggregate-words-2 c =
     sym (length-take-le 4 s.args.l.now (omega (arith, adapt-long s.args.l.now s.requires.0)))
 
 words-requires : tie.Need-words-requires
-unfolding all_of isAxis
+unfolding all_of is_axis
 words-requires c κs =
     let s = c.before.before.before.before.before in
     let size-at = c.before.before.before.size-at.ensures in

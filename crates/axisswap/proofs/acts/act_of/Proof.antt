@@ -1,7 +1,7 @@
 -- `act_of`: each arm knows its direction: forward the act orders, inverse it orders back, with the same arguments.
 use mathlib.Core.Path.{refl}
 use Rattle.rules.specs.Operators.Table.{forward, inverse}
-use Rattle.rules.specs.Pipeline.Running.{actOf}
+use Rattle.rules.specs.Pipeline.Running.{act_of}
 use Rattle.columns.specs.Doings.{does, doing, able}
 use borrow.Author.Rules.{rules}
 use Rattle.axisswap.proofs.acts.act_of.Statement.{statement}
@@ -14,11 +14,11 @@ enum-told-2 : tie.Need-enum-told-2
 enum-told-2 c = search rules
 
 returns : tie.Need-returns
-unfolding actOf forward doing does able
+unfolding act_of forward doing does able
 returns c = rw c.enum_told.given.1 (record { same = refl; slots = c.before.before.requires.0; rule = c.before.before.requires.1 })
 
 returns-2 : tie.Need-returns-2
-unfolding actOf inverse doing does able
+unfolding act_of inverse doing does able
 returns-2 c = rw c.enum-told2.given.1 (record { same = refl; slots = c.before.before.requires.0; rule = c.before.before.requires.1 })
 
 pub act-of-spec : {M : Type 1} → statement M

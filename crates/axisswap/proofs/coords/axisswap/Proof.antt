@@ -4,14 +4,14 @@ use mathlib.Core.Path.{◌∙◌}
 use Prim.Native.Nat.{◌-◌}
 use Rattle.rules.specs.Pipeline.Tuples.{tuples}
 use Rattle.columns.proofs.EachTuple.{Each, each_none, each_turn, each-end}
-use Rattle.axisswap.specs.Signs.{orderedBy}
+use Rattle.axisswap.specs.Signs.{ordered_by}
 use Rattle.axisswap.proofs.OrderedNumbers.{all-swapped}
 use borrow.Author.Rules.{rules}
 use Rattle.axisswap.proofs.coords.axisswap.Statement.{statement}
 use Rattle.axisswap.proofs.coords.axisswap.Tie as tie
 
 abbrev invariant-loop : tie.invariant-loop
-invariant-loop xs₀ back args o t n k₀ xs k = Each (orderedBy back o t) xs₀ xs k
+invariant-loop xs₀ back args o t n k₀ xs k = Each (ordered_by back o t) xs₀ xs k
 
 abbrev decreases-loop : tie.decreases-loop
 decreases-loop xs₀ back args o t n k₀ xs k = n - k

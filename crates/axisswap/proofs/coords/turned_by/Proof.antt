@@ -1,5 +1,5 @@
--- `turned_by`: each number is turned by its own sign, as `turnedBy` says.
-use Rattle.axisswap.specs.Signs.{turnedBy}
+-- `turned_by`: each number is turned by its own sign, as `turned_by` says.
+use Rattle.axisswap.specs.Signs.{turned_by}
 use borrow.Author.Rules.{rules}
 use Rattle.axisswap.proofs.coords.turned_by.Statement.{statement}
 use Rattle.axisswap.proofs.coords.turned_by.Tie as tie
@@ -17,7 +17,7 @@ turned-requires-4 : tie.Need-turned-requires-4
 turned-requires-4 c κs = search rules
 
 returns : tie.Need-returns
-unfolding turnedBy
+unfolding turned_by
 returns c =
     let turned = c.before.before.before.turned.ensures in
     λ i. record { a = turned i; b = c.before.before.turned2.ensures i; c = c.before.turned3.ensures i; d = c.turned4.ensures i }

@@ -1,4 +1,4 @@
--- `kind_of`: the list `orderKeys` has one key, so the text is that key or none.
+-- `kind_of`: the list `order_keys` has one key, so the text is that key or none.
 use mathlib.Core.Path.{◌∙◌}
 use Rattle.rules.specs.Text.Ascii.{ascii}
 use Rattle.rules.specs.Operators.Keys.{numbered}

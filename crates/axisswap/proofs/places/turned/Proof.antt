@@ -1,7 +1,7 @@
 -- `turned`: that two Booleans differ is what `xor` says of them, whichever they are.
 use mathlib.Core.Path.{◌≡◌, refl}
 use mathlib.Core.Bool.{Bool, beq, true, false, not, xor}
-use Rattle.rules.specs.Pipeline.Check.{turnPlace}
+use Rattle.rules.specs.Pipeline.Check.{turn_place}
 use Rattle.axisswap.proofs.places.turned.Statement.{statement}
 use Rattle.axisswap.proofs.places.turned.Tie as tie
 
@@ -13,7 +13,7 @@ other false true = refl
 other false false = refl
 
 returns : tie.Need-returns
-unfolding turnPlace xor
+unfolding turn_place xor
 returns c = λ i. record { axis = c.before.args.p.axis; minus = other c.before.args.p.minus c.before.args.minus i }
 
 pub turned-spec : {M : Type 1} → statement M

@@ -6,7 +6,7 @@ use Rattle.laws_steps.specs.Lengths.{tuples-length}
 use Rattle.columns.proofs.OneNumber.{column-length, copy-turn, store-end, not_yet, flip-tuples, flip-number}
 use Rattle.rules.specs.Operators.Numbers.{number, put}
 use Rattle.rules.specs.Pipeline.Tuples.{tuples, column}
-use Rattle.columns.proofs.Firsts.{firstsFrom, firsts-none}
+use Rattle.columns.proofs.Firsts.{firsts_from, firsts-none}
 use lib.Ieee.{nan}
 use native.Mathlib.Omega.{arith}
 use lib.ListN.{length, get_or, set, take, drop, length-set}
@@ -18,7 +18,7 @@ use Rattle.columns.proofs.column.flip_column.Tie as tie
 
 abbrev invariant-loop : tie.invariant-loop
 invariant-loop xs₀ store₀ at i n k₀ xs store k =
-    (tuples xs ≡ firstsFrom 0 k (λ t c. put i (get_or (take n (drop at store₀)) t nan) c) (tuples xs₀)) × (length xs ≡ length xs₀)
+    (tuples xs ≡ firsts_from 0 k (λ t c. put i (get_or (take n (drop at store₀)) t nan) c) (tuples xs₀)) × (length xs ≡ length xs₀)
     × (store ≡ paste store₀ at (column i (tuples xs₀)) k) × (length store ≡ length store₀) × (k ≤ n)
 
 abbrev decreases-loop : tie.decreases-loop

@@ -1,6 +1,6 @@
 -- `nan_all`: of the first k tuples every number is NaN, the others are as they were (`Each`). What is left of n is the measure.
 use Rattle.columns.proofs.EachTuple.{Each, each_none, each_turn, each-end}
-use Rattle.columns.specs.Coords.{noTuple}
+use Rattle.columns.specs.Coords.{no_tuple}
 use Prim.Native.Nat.{◌-◌}
 use mathlib.Core.Path.{refl}
 use borrow.Author.Rules.{rules}
@@ -8,7 +8,7 @@ use Rattle.columns.proofs.column.nan_all.Statement.{statement}
 use Rattle.columns.proofs.column.nan_all.Tie as tie
 
 abbrev invariant-loop : tie.invariant-loop
-invariant-loop xs₀ n k₀ xs k = Each (λ _. noTuple) xs₀ xs k
+invariant-loop xs₀ n k₀ xs k = Each (λ _. no_tuple) xs₀ xs k
 
 abbrev decreases-loop : tie.decreases-loop
 decreases-loop xs₀ n k₀ xs k = n - k

@@ -4,7 +4,7 @@ use Rattle.laws_steps.specs.Lengths.{tuples-length}
 use Rattle.columns.proofs.OneNumber.{store-turn, store-end}
 use Rattle.rules.specs.Operators.Numbers.{put}
 use Rattle.rules.specs.Pipeline.Tuples.{tuples}
-use Rattle.columns.proofs.Firsts.{firstsFrom, firsts-none}
+use Rattle.columns.proofs.Firsts.{firsts_from, firsts-none}
 use lib.Ieee.{nan}
 use native.Mathlib.Omega.{arith}
 use lib.ListN.{length, get_or, set, take, drop}
@@ -15,7 +15,7 @@ use Rattle.columns.proofs.column.pop_column.Statement.{statement}
 use Rattle.columns.proofs.column.pop_column.Tie as tie
 
 abbrev invariant-loop : tie.invariant-loop
-invariant-loop xs₀ store at i n k₀ xs k = (tuples xs ≡ firstsFrom 0 k (λ t c. put i (get_or (take n (drop at store)) t nan) c) (tuples xs₀)) × (length xs ≡ length xs₀)
+invariant-loop xs₀ store at i n k₀ xs k = (tuples xs ≡ firsts_from 0 k (λ t c. put i (get_or (take n (drop at store)) t nan) c) (tuples xs₀)) × (length xs ≡ length xs₀)
 
 abbrev decreases-loop : tie.decreases-loop
 decreases-loop xs₀ store at i n k₀ xs k = n - k

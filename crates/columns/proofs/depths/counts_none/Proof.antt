@@ -3,7 +3,7 @@
 use mathlib.Core.Path.{refl, ap, ◌∙◌}
 use Prim.Native.Nat.{ℕ}
 use lib.Dec.{ltb}
-use Rattle.rules.specs.Pipeline.Tuples.{countsNone}
+use Rattle.rules.specs.Pipeline.Tuples.{counts_none}
 use Rattle.columns.specs.Doings.{does, doing}
 use Rattle.columns.proofs.DepthRules.{counts-few}
 use borrow.Author.Rules.{rules}
@@ -20,11 +20,11 @@ takes-requires : tie.Need-takes-requires
 takes-requires c κs = search rules
 
 returns : tie.Need-returns
-unfolding countsNone doing does
+unfolding counts_none doing does
 returns c = rw c.enum_told.given.1 refl
 
 returns-2 : tie.Need-returns-2
-unfolding countsNone doing does
+unfolding counts_none doing does
 returns-2 c = rw c.enum-told2.given.1 refl
 
 returns-3 : tie.Need-returns-3

@@ -3,7 +3,7 @@
 use mathlib.Core.Path.{◌≡◌, sym, ◌∙◌}
 use lib.ListN.{length, length-map}
 use Rattle.columns.specs.Doings.{doing}
-use Rattle.columns.proofs.DepthRules.{after-pushes, after-pops, after-pops-few, after-popsAll, after-popsAll-few, depth-stays}
+use Rattle.columns.proofs.DepthRules.{after-pushes, after-pops, after-pops-few, after-pops_all, after-pops_all-few, depth-stays}
 use borrow.Author.Rules.{rules}
 use Rattle.columns.proofs.depths.depth_after.Statement.{statement}
 use Rattle.columns.proofs.depths.depth_after.Tie as tie
@@ -32,7 +32,7 @@ enum-told-3 c = search rules
 returns-2 : tie.Need-returns-2
 returns-2 c =
     let s = c.before.before.before in
-    after-popsAll-few s.args.d (full s) s.requires.1 s.args.depth c.before.enum-told3.given.1 c.if2.true
+    after-pops_all-few s.args.d (full s) s.requires.1 s.args.depth c.before.enum-told3.given.1 c.if2.true
 
 returns-3 : tie.Need-returns-3
 returns-3 c = let s = c.before.before in after-pushes s.args.d (full s) s.requires.1 s.args.depth c.enum_told.given.1
@@ -45,7 +45,7 @@ returns-4 c =
 returns-5 : tie.Need-returns-5
 returns-5 c =
     let s = c.before.before.before in
-    after-popsAll s.args.d (full s) s.requires.1 s.args.depth c.before.enum-told3.given.1 c.if2.false
+    after-pops_all s.args.d (full s) s.requires.1 s.args.depth c.before.enum-told3.given.1 c.if2.false
 
 returns-6 : tie.Need-returns-6
 unfolding doing

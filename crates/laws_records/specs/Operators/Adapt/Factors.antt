@@ -7,7 +7,7 @@ use Rattle.std.specs.Float.{nan, inf, fin, Format}
 use Rattle.std.specs.Float.Ieee.{binary64, prec, emax, low, up, down, unlike, odd, units, round, neg, div}
 use Rattle.rules.specs.Text.Decimal.{signed, minus}
 use Rattle.rules.specs.Operators.Arguments.{size, arg}
-use Rattle.rules.specs.Operators.Adapt.{Word, position, outputOf, angles, combined, angle, factor, mult}
+use Rattle.rules.specs.Operators.Adapt.{Word, position, output_of, angles, combined, angle, factor, mult}
 use Rattle.rules.specs.Operators.Numbers.{turn}
 use Rattle.laws_lists.specs.Tests.{beq-is, both, both_at}
 use Rattle.laws_records.specs.Series.{size-signed}
@@ -124,9 +124,9 @@ own w i = turn (minus (arg i w.axes)) (angle (cond (leb i 2) w.angle 0))
 
 module _ (v w : Word) where
   -- output i, where its code is that of the angles x and y
-  of_code : (i x y k : ℕ) → 1 ≤ size (outputOf v w i) → factor k ≡ div binary64 (angle x) (angle y)
-      → turn (minus (outputOf v w i)) (factor k) ≡ div binary64 (turn (minus (arg i v.axes)) (angle x)) (turn (minus (arg i w.axes)) (angle y))
-  unfolding outputOf
+  of_code : (i x y k : ℕ) → 1 ≤ size (output_of v w i) → factor k ≡ div binary64 (angle x) (angle y)
+      → turn (minus (output_of v w i)) (factor k) ≡ div binary64 (turn (minus (arg i v.axes)) (angle x)) (turn (minus (arg i w.axes)) (angle y))
+  unfolding output_of
   of_code i x y k h f =
       let a = minus (arg i v.axes) in
       let b = minus (arg i w.axes) in
@@ -139,8 +139,8 @@ module _ (v w : Word) where
   unfolding mult combined arg own angles
   mult-words p q i h k = go i h k
     where
-      s : Sized (outputOf v w 1) × Sized (outputOf v w 2) × Sized (outputOf v w 3) × Sized (outputOf v w 4)
-      s = order-sized (outputOf v w 1) (outputOf v w 2) (outputOf v w 3) (outputOf v w 4) (outs-order v w p q)
+      s : Sized (output_of v w 1) × Sized (output_of v w 2) × Sized (output_of v w 3) × Sized (output_of v w 4)
+      s = order-sized (output_of v w 1) (output_of v w 2) (output_of v w 3) (output_of v w 4) (outs-order v w p q)
 
       f : factor (size (angles v w)) ≡ div binary64 (angle v.angle) (angle w.angle)
       f = factor-angles v.angle w.angle p.angle-small q.angle-small

@@ -11,10 +11,10 @@ use Rattle.std.specs.Float.Ieee.{binary64, mul, div, unlike}
 use Rattle.rules.specs.Text.Decimal.{signed, minus}
 use Rattle.rules.specs.Operators.Arguments.{size, arg}
 use Rattle.rules.specs.Operators.Numbers.{number}
-use Rattle.rules.specs.Operators.Table.{isArgs}
-use Rattle.rules.specs.Operators.Adapt.{Word, position, outputOf, angles, one, angle, factor, post, mult, output}
-use Rattle.rules.specs.Operators.Documented.{input_at, outputByAxis, carriesAngle, angleByAxis, combinedByAxis, isDocumented, adaptedByAxis}
-use Rattle.rules.specs.Face.Demands.{signAngle}
+use Rattle.rules.specs.Operators.Table.{is_args}
+use Rattle.rules.specs.Operators.Adapt.{Word, position, output_of, angles, one, angle, factor, post, mult, output}
+use Rattle.rules.specs.Operators.Documented.{input_at, output_by_axis, carries_angle, angle_by_axis, combined_by_axis, is_documented, adapted_by_axis}
+use Rattle.rules.specs.Face.Demands.{sign_angle}
 use Rattle.rules.specs.declared.Coord.{Coord}
 use Rattle.laws_records.specs.Series.{size-signed}
 use Rattle.laws_records.specs.Operators.Adapt.Words.{Sized, order-sized, IsWord, outs-order}
@@ -57,15 +57,15 @@ place-axis x l h = go (position 1 x l) (place-holds 0 x l) h
 
 module _ (v w : Word) (p : IsWord v) (q : IsWord w) where
   -- each axis of one word stands somewhere in the other
-  sized-some : (i : ℕ) → Sized (outputOf v w i) → 1 ≤ input_at v w i
-  unfolding outputOf input_at
+  sized-some : (i : ℕ) → Sized (output_of v w i) → 1 ≤ input_at v w i
+  unfolding output_of input_at
   sized-some i s = omega (arith, s.least, size-signed (xor (minus (arg i v.axes)) (minus (arg i w.axes))) (position 1 (size (arg i w.axes)) v.axes))
 
   input-some : (i : ℕ) → 1 ≤ i → i ≤ 4 → 1 ≤ input_at v w i
   input-some i h k = go i h k
     where
-      s : Sized (outputOf v w 1) × Sized (outputOf v w 2) × Sized (outputOf v w 3) × Sized (outputOf v w 4)
-      s = order-sized (outputOf v w 1) (outputOf v w 2) (outputOf v w 3) (outputOf v w 4) (outs-order v w p q)
+      s : Sized (output_of v w 1) × Sized (output_of v w 2) × Sized (output_of v w 3) × Sized (output_of v w 4)
+      s = order-sized (output_of v w 1) (output_of v w 2) (output_of v w 3) (output_of v w 4) (outs-order v w p q)
 
       go : (i : ℕ) → 1 ≤ i → i ≤ 4 → 1 ≤ input_at v w i
       go zero h k = absurd (none h)
@@ -88,11 +88,11 @@ module _ (v w : Word) (p : IsWord v) (q : IsWord w) where
     same-axis = place-axis (size (arg i w.axes)) v.axes (unfold input_at in input-some i h k)
 
     -- arguments i and i + 4 of what the two words make
-    args_at : (arg i (combinedByAxis v w) ≡ outputByAxis v w i) × (arg (i + 4) (combinedByAxis v w) ≡ angleByAxis v w i)
-    unfolding combinedByAxis arg
+    args_at : (arg i (combined_by_axis v w) ≡ output_by_axis v w i) × (arg (i + 4) (combined_by_axis v w) ≡ angle_by_axis v w i)
+    unfolding combined_by_axis arg
     args_at = go i h k
       where
-        go : (i : ℕ) → 1 ≤ i → i ≤ 4 → (arg i (combinedByAxis v w) ≡ outputByAxis v w i) × (arg (i + 4) (combinedByAxis v w) ≡ angleByAxis v w i)
+        go : (i : ℕ) → 1 ≤ i → i ≤ 4 → (arg i (combined_by_axis v w) ≡ output_by_axis v w i) × (arg (i + 4) (combined_by_axis v w) ≡ angle_by_axis v w i)
         go zero h k = absurd (none h)
           where
             none : 1 ≤ 0 → ⊥
@@ -107,14 +107,14 @@ module _ (v w : Word) (p : IsWord v) (q : IsWord w) where
             over h = omega arith
 
     -- "each output place takes the input place of the same axis"
-    pub post-by-axis : post (combinedByAxis v w) i ≡ input_at v w i
-    unfolding post outputByAxis
+    pub post-by-axis : post (combined_by_axis v w) i ≡ input_at v w i
+    unfolding post output_by_axis
     post-by-axis = rw args_at.0 (size-signed _ (input_at v w i))
 
     -- the code stands for the angle of the one over the angle of the other
-    code-factor : factor (size (angleByAxis v w i))
-        ≡ div binary64 (angle (cond (carriesAngle (arg (input_at v w i) v.axes)) v.angle 0)) (angle (cond (carriesAngle (arg i w.axes)) w.angle 0))
-    unfolding angleByAxis carriesAngle
+    code-factor : factor (size (angle_by_axis v w i))
+        ≡ div binary64 (angle (cond (carries_angle (arg (input_at v w i) v.axes)) v.angle 0)) (angle (cond (carries_angle (arg i w.axes)) w.angle 0))
+    unfolding angle_by_axis carries_angle
     code-factor = rw same-axis (go (leb (size (arg i w.axes)) 2))
       where
         go : (b : Bool) → factor (size (cond b (angles v w) (pos 0))) ≡ div binary64 (angle (cond b v.angle 0)) (angle (cond b w.angle 0))
@@ -122,8 +122,8 @@ module _ (v w : Word) (p : IsWord v) (q : IsWord w) where
         go false = factor-same 0 (lit≤ tt)
 
     -- "times the input's sign and angle factor over the output's"
-    pub mult-by-axis : mult (combinedByAxis v w) i ≡ div binary64 (signAngle v (input_at v w i)) (signAngle w i)
-    unfolding mult outputByAxis signAngle
+    pub mult-by-axis : mult (combined_by_axis v w) i ≡ div binary64 (sign_angle v (input_at v w i)) (sign_angle w i)
+    unfolding mult output_by_axis sign_angle
     mult-by-axis =
         let a = minus (arg (input_at v w i) v.axes) in
         let b = minus (arg i w.axes) in
@@ -131,19 +131,19 @@ module _ (v w : Word) (p : IsWord v) (q : IsWord w) where
 
     -- ---- what the step does, in these words
 
-    rule : isDocumented (combinedByAxis v w) ≡ true
-    rule = unfold isArgs in (by-axis-kept v w p q).rule
+    rule : is_documented (combined_by_axis v w) ≡ true
+    rule = unfold is_args in (by-axis-kept v w p q).rule
 
     module _ (t : Coord) where
-      pub forward-in-words : number i (adaptedByAxis false (combinedByAxis v w) t)
-          ≡ mul binary64 (number (input_at v w i) t) (div binary64 (signAngle v (input_at v w i)) (signAngle w i))
+      pub forward-in-words : number i (adapted_by_axis false (combined_by_axis v w) t)
+          ≡ mul binary64 (number (input_at v w i) t) (div binary64 (sign_angle v (input_at v w i)) (sign_angle w i))
       unfolding output
-      forward-in-words = taken (combinedByAxis v w) rule t (is-four i h k) t ∙ rw (post-by-axis, mult-by-axis) refl
+      forward-in-words = taken (combined_by_axis v w) rule t (is-four i h k) t ∙ rw (post-by-axis, mult-by-axis) refl
 
-      pub inverse-in-words : number (input_at v w i) (adaptedByAxis true (combinedByAxis v w) t)
-          ≡ mul binary64 (number i t) (div binary64 one (div binary64 (signAngle v (input_at v w i)) (signAngle w i)))
+      pub inverse-in-words : number (input_at v w i) (adapted_by_axis true (combined_by_axis v w) t)
+          ≡ mul binary64 (number i t) (div binary64 one (div binary64 (sign_angle v (input_at v w i)) (sign_angle w i)))
       unfolding back
       inverse-in-words =
-          ap (λ (n : ℕ). number n (adaptedByAxis true (combinedByAxis v w) t)) (sym post-by-axis)
-          ∙ sent-to (combinedByAxis v w) rule t (is-four i h k)
+          ap (λ (n : ℕ). number n (adapted_by_axis true (combined_by_axis v w) t)) (sym post-by-axis)
+          ∙ sent-to (combined_by_axis v w) rule t (is-four i h k)
           ∙ ap (λ (m : Float). mul binary64 (number i t) (div binary64 one m)) mult-by-axis

@@ -14,11 +14,11 @@ use Rattle.rules.specs.Text.Ascii.{ascii}
 use Rattle.rules.specs.Text.Lists.{any_of, all_of}
 use Rattle.rules.specs.Text.Bytes.{same}
 use Rattle.rules.specs.Text.Decimal.{signed, minus}
-use Rattle.rules.specs.Operators.Arguments.{size, arg, isDistinct, is_order}
-use Rattle.rules.specs.Operators.Adapt.{is_code, isAdapt, Word, place_in, axis, ending, word_of, word, position, outputOf, angles, combined, between, letter, endingOf, fromWord, toWord}
+use Rattle.rules.specs.Operators.Arguments.{size, arg, is_distinct, is_order}
+use Rattle.rules.specs.Operators.Adapt.{is_code, is_adapt, Word, place_in, axis, ending, word_of, word, position, output_of, angles, combined, between, letter, ending_of, from_word, to_word}
 use Rattle.rules.specs.Operators.Descriptions.{Adapt}
-use Rattle.rules.specs.Operators.Documented.{adaptIn, combinedIn}
-use Rattle.rules.specs.Pipeline.Write.{argWords}
+use Rattle.rules.specs.Operators.Documented.{adapt_in, combined_in}
+use Rattle.rules.specs.Pipeline.Write.{arg_words}
 use Rattle.rules.specs.declared.Mode.TheVariants as mode-is
 use Rattle.laws_lists.specs.Tests.{and_left, and_right, below, below_at}
 use Rattle.laws_records.specs.Operators.Adapt.TwoWords.{Spelt}
@@ -68,8 +68,8 @@ letters-so q a (negsuc (suc (suc (suc (suc n))))) h = absurd (too-big n h.most)
 
 -- ---- endings
 
-ending-again : (k : ℕ) → k < 3 → ending (endingOf k) ≡ some k
-unfolding ending endingOf same ascii
+ending-again : (k : ℕ) → k < 3 → ending (ending_of k) ≡ some k
+unfolding ending ending_of same ascii
 ending-again zero h = refl
 ending-again (suc zero) h = refl
 ending-again (suc (suc zero)) h = refl
@@ -80,22 +80,22 @@ ending-again (suc (suc (suc k))) h = absurd (none h)
 
 -- ---- the two words
 
-abbrev plainAxes : List ℤ
-plainAxes = pos 1 ∷ pos 2 ∷ pos 3 ∷ pos 4 ∷ []
+abbrev plain_axes : List ℤ
+plain_axes = pos 1 ∷ pos 2 ∷ pos 3 ∷ pos 4 ∷ []
 
-from-read : (code : ℕ) → code / 3 < 3 → word (fromWord code) ≡ some (record { axes = plainAxes; angle = code / 3 })
-unfolding word fromWord
+from-read : (code : ℕ) → code / 3 < 3 → word (from_word code) ≡ some (record { axes = plain_axes; angle = code / 3 })
+unfolding word from_word
 from-read code h = go (code / 3) h
   where
     go : (k : ℕ) → k < 3
-        → (let letters = cond (same (ascii "enuf" ++ endingOf k) (ascii "pass")) (ascii "enuf") (ascii "enuf" ++ endingOf k) in
-        word_of (map axis (take 4 letters)) (ending (drop 4 letters))) ≡ some (record { axes = plainAxes; angle = k })
-    go k h = unfold same ascii axis place_in signed word_of is_order isDistinct all_of any_of in rw (ending-again k h)
+        → (let letters = cond (same (ascii "enuf" ++ ending_of k) (ascii "pass")) (ascii "enuf") (ascii "enuf" ++ ending_of k) in
+        word_of (map axis (take 4 letters)) (ending (drop 4 letters))) ≡ some (record { axes = plain_axes; angle = k })
+    go k h = unfold same ascii axis place_in signed word_of is_order is_distinct all_of any_of in rw (ending-again k h)
 
 module _ (a b c d : ℤ) (o : is_order (a ∷ b ∷ c ∷ d ∷ []) ≡ true) where
-  pub to_read : (code : ℕ) → code % 3 < 3 → word (toWord code (a ∷ b ∷ c ∷ d ∷ [])) ≡ some (record { axes = a ∷ b ∷ c ∷ d ∷ []; angle = code % 3 })
-  unfolding word toWord same ascii word_of
-  to_read code h =
+  pub to-read : (code : ℕ) → code % 3 < 3 → word (to_word code (a ∷ b ∷ c ∷ d ∷ [])) ≡ some (record { axes = a ∷ b ∷ c ∷ d ∷ []; angle = code % 3 })
+  unfolding word to_word same ascii word_of
+  to-read code h =
       let z = order-sized a b c d o in
       let n : eqb (letter b) 97 ≡ false = not-true (eqb (letter b) 97) (letters-so (λ x. not (eqb x 97)) (unfold all_of ascii in refl) b z.1) in
       rw (n, and_no (eqb (letter a) 112))
@@ -108,8 +108,8 @@ module _ (a b c d : ℤ) (o : is_order (a ∷ b ∷ c ∷ d ∷ []) ≡ true) wh
 -- ---- the eight arguments
 
 -- a place of an order of four stands at itself
-place-again : (k : ℕ) → k ≤ 4 → position 1 k plainAxes ≡ k
-place-again k h = eqb-true (position 1 k plainAxes) k (unfold below position in below_at 5 (λ k. eqb (position 1 k plainAxes) k) refl k (omega arith))
+place-again : (k : ℕ) → k ≤ 4 → position 1 k plain_axes ≡ k
+place-again k h = eqb-true (position 1 k plain_axes) k (unfold below position in below_at 5 (λ k. eqb (position 1 k plain_axes) k) refl k (omega arith))
 
 signed-again : (x : ℤ) → signed (minus x) (size x) ≡ x
 unfolding signed minus
@@ -148,8 +148,8 @@ pub record Adapts (l : List ℤ) : Type 0 where
   pub ordered : is_order (a ∷ b ∷ c ∷ d ∷ []) ≡ true
   pub coded : is_code (pos code) ≡ true
 
-eight : (a b c d e f g h : ℤ) → isAdapt (a ∷ b ∷ c ∷ d ∷ e ∷ f ∷ g ∷ h ∷ []) ≡ true → Adapts (a ∷ b ∷ c ∷ d ∷ e ∷ f ∷ g ∷ h ∷ [])
-unfolding isAdapt arg all_of
+eight : (a b c d e f g h : ℤ) → is_adapt (a ∷ b ∷ c ∷ d ∷ e ∷ f ∷ g ∷ h ∷ []) ≡ true → Adapts (a ∷ b ∷ c ∷ d ∷ e ∷ f ∷ g ∷ h ∷ [])
+unfolding is_adapt arg all_of
 eight a b c d e f g h k =
     let o = and_left (is_order (a ∷ b ∷ c ∷ d ∷ [])) _ k in
     let k1 = and_right (is_order (a ∷ b ∷ c ∷ d ∷ [])) _ k in
@@ -177,17 +177,17 @@ eight a b c d e f g h k =
       coded = rw ee at ce;
     }
 
-pub adapts : (l : List ℤ) → isAdapt l ≡ true → Adapts l
-adapts [] h = absurd (false≢true (unfold isAdapt in h))
-adapts (a ∷ []) h = absurd (false≢true (unfold isAdapt in h))
-adapts (a ∷ b ∷ []) h = absurd (false≢true (unfold isAdapt in h))
-adapts (a ∷ b ∷ c ∷ []) h = absurd (false≢true (unfold isAdapt in h))
-adapts (a ∷ b ∷ c ∷ d ∷ []) h = absurd (false≢true (unfold isAdapt in h))
-adapts (a ∷ b ∷ c ∷ d ∷ e ∷ []) h = absurd (false≢true (unfold isAdapt in h))
-adapts (a ∷ b ∷ c ∷ d ∷ e ∷ f ∷ []) h = absurd (false≢true (unfold isAdapt in h))
-adapts (a ∷ b ∷ c ∷ d ∷ e ∷ f ∷ g ∷ []) h = absurd (false≢true (unfold isAdapt in h))
+pub adapts : (l : List ℤ) → is_adapt l ≡ true → Adapts l
+adapts [] h = absurd (false≢true (unfold is_adapt in h))
+adapts (a ∷ []) h = absurd (false≢true (unfold is_adapt in h))
+adapts (a ∷ b ∷ []) h = absurd (false≢true (unfold is_adapt in h))
+adapts (a ∷ b ∷ c ∷ []) h = absurd (false≢true (unfold is_adapt in h))
+adapts (a ∷ b ∷ c ∷ d ∷ []) h = absurd (false≢true (unfold is_adapt in h))
+adapts (a ∷ b ∷ c ∷ d ∷ e ∷ []) h = absurd (false≢true (unfold is_adapt in h))
+adapts (a ∷ b ∷ c ∷ d ∷ e ∷ f ∷ []) h = absurd (false≢true (unfold is_adapt in h))
+adapts (a ∷ b ∷ c ∷ d ∷ e ∷ f ∷ g ∷ []) h = absurd (false≢true (unfold is_adapt in h))
 adapts (a ∷ b ∷ c ∷ d ∷ e ∷ f ∷ g ∷ k ∷ []) h = eight a b c d e f g k h
-adapts (a ∷ b ∷ c ∷ d ∷ e ∷ f ∷ g ∷ k ∷ m ∷ l) h = absurd (none (length l) (eqb-true _ 8 (unfold isAdapt in and_left (eqb (length (a ∷ b ∷ c ∷ d ∷ e ∷ f ∷ g ∷ k ∷ m ∷ l)) 8) _ h)))
+adapts (a ∷ b ∷ c ∷ d ∷ e ∷ f ∷ g ∷ k ∷ m ∷ l) h = absurd (none (length l) (eqb-true _ 8 (unfold is_adapt in and_left (eqb (length (a ∷ b ∷ c ∷ d ∷ e ∷ f ∷ g ∷ k ∷ m ∷ l)) 8) _ h)))
   where
     none : (n : ℕ) → suc (suc (suc (suc (suc (suc (suc (suc (suc n)))))))) ≡ 8 → ⊥
     none n e = omega arith
@@ -201,60 +201,60 @@ module _ {l : List ℤ} (p : Adapts l) where
   abbrev pub outputs : List ℤ
   outputs = p.a ∷ p.b ∷ p.c ∷ p.d ∷ []
 
-  abbrev fromRead : Word
-  fromRead = record { axes = plainAxes; angle = p.code / 3 }
+  abbrev from_read : Word
+  from_read = record { axes = plain_axes; angle = p.code / 3 }
 
-  abbrev toRead : Word
-  toRead = record { axes = outputs; angle = p.code % 3 }
+  abbrev to_read : Word
+  to_read = record { axes = outputs; angle = p.code % 3 }
 
   -- the outputs of the axes in their order are the letters' own
-  output-again : (x : ℤ) → size x ≤ 4 → signed (xor false (minus x)) (position 1 (size x) plainAxes) ≡ x
+  output-again : (x : ℤ) → size x ≤ 4 → signed (xor false (minus x)) (position 1 (size x) plain_axes) ≡ x
   output-again x h = rw (place-again (size x) h, xor-false (minus x)) (signed-again x)
 
-  combined-again : combined fromRead toRead ≡ l
-  unfolding combined outputOf angles arg minus
+  combined-again : combined from_read to_read ≡ l
+  unfolding combined output_of angles arg minus
   combined-again =
       let z = order-sized p.a p.b p.c p.d p.ordered in
       rw (output-again p.a z.0.most, output-again p.b z.1.most, output-again p.c z.2.most, output-again p.d z.3.most, code-again p.code p.coded) (sym p.are)
 
-  between-again : between combined (word (fromWord p.code)) (word (toWord p.code outputs)) ≡ some l
+  between-again : between combined (word (from_word p.code)) (word (to_word p.code outputs)) ≡ some l
   unfolding between
   between-again =
       rw (
         from-read p.code ((div-lt_iff_lt-mul {k = 3} {x = p.code} {y = 3} (lit≤ tt)).1 (omega (arith, code-small p.code p.coded))),
-        to_read p.a p.b p.c p.d p.ordered p.code (mod-lt p.code (lit≤ tt)),
+        to-read p.a p.b p.c p.d p.ordered p.code (mod-lt p.code (lit≤ tt)),
       )
       (ap some combined-again)
 
 -- ---- the bytes of the words
 
-ending-firm : (k : ℕ) → all_of firm (endingOf k) ≡ true
-unfolding endingOf all_of firm known any_of ascii
+ending-firm : (k : ℕ) → all_of firm (ending_of k) ≡ true
+unfolding ending_of all_of firm known any_of ascii
 ending-firm zero = refl
 ending-firm (suc zero) = refl
 ending-firm (suc (suc k)) = refl
 
-ending-short : (k : ℕ) → length (endingOf k) ≤ 4
-unfolding endingOf ascii
+ending-short : (k : ℕ) → length (ending_of k) ≤ 4
+unfolding ending_of ascii
 ending-short zero = lit≤ tt
 ending-short (suc zero) = lit≤ tt
 ending-short (suc (suc k)) = lit≤ tt
 
-from-firm : (code : ℕ) → Firmly (fromWord code)
-unfolding fromWord ascii
+from-firm : (code : ℕ) → Firmly (from_word code)
+unfolding from_word ascii
 from-firm code =
     record { firmly = unfold all_of in (unfold firm known any_of ascii in ending-firm (code / 3)); not-empty = omega arith }
 
-from-short : (code : ℕ) → length (fromWord code) ≤ 8
-unfolding fromWord ascii
+from-short : (code : ℕ) → length (from_word code) ≤ 8
+unfolding from_word ascii
 from-short code = omega (arith, ending-short (code / 3))
 
 module _ (code : ℕ) (a b c d : ℤ) (o : is_order (a ∷ b ∷ c ∷ d ∷ []) ≡ true) where
   firm-letter : (x : ℤ) → Sized x → firm (letter x) ≡ true
   firm-letter x h = letters-so firm (unfold all_of firm known any_of ascii in refl) x h
 
-  pub to-firm : Firmly (toWord code (a ∷ b ∷ c ∷ d ∷ []))
-  unfolding toWord
+  pub to-firm : Firmly (to_word code (a ∷ b ∷ c ∷ d ∷ []))
+  unfolding to_word
   to-firm =
       let z = order-sized a b c d o in
       record {
@@ -262,20 +262,20 @@ module _ (code : ℕ) (a b c d : ℤ) (o : is_order (a ∷ b ∷ c ∷ d ∷ [])
         not-empty = omega arith;
       }
 
-  pub to-short : length (toWord code (a ∷ b ∷ c ∷ d ∷ [])) ≤ 8
-  unfolding toWord
+  pub to-short : length (to_word code (a ∷ b ∷ c ∷ d ∷ [])) ≤ 8
+  unfolding to_word
   to-short = omega (arith, ending-short (code % 3))
 
 -- ---- both words
 
-pub spelt : (l : List ℤ) → isAdapt l ≡ true → Spelt mode-is.Crate l
-unfolding argWords arg adaptIn combinedIn
+pub spelt : (l : List ℤ) → is_adapt l ≡ true → Spelt mode-is.Crate l
+unfolding arg_words arg adapt_in combined_in
 spelt l h =
     let p = adapts l h in
     record {
-      from = fromWord p.code;
-      to = toWord p.code (outputs p);
-      are = ap (argWords Adapt) p.are;
+      from = from_word p.code;
+      to = to_word p.code (outputs p);
+      are = ap (arg_words Adapt) p.are;
       from-firm = from-firm p.code;
       from-short = from-short p.code;
       to-firm = to-firm p.code p.a p.b p.c p.d p.ordered;

@@ -12,17 +12,17 @@ use Rattle.std.specs.Float.{nan, inf, fin}
 use store.Seg.{eqb_same}
 use Rattle.rules.specs.Text.Lists.{all_of, any_of}
 use Rattle.rules.specs.Operators.Acts.{Act, adapts}
-use Rattle.rules.specs.Operators.Arguments.{size, arg, isDistinct, is_order}
+use Rattle.rules.specs.Operators.Arguments.{size, arg, is_distinct, is_order}
 use Rattle.rules.specs.Operators.Numbers.{number, put, turn}
 use Rattle.rules.specs.Operators.Adapt.{one, post, mult, output}
-use Rattle.rules.specs.Operators.Documented.{isDocumented, sendsBack, adaptedByAxis, adaptedIn}
+use Rattle.rules.specs.Operators.Documented.{is_documented, sends_back, adapted_by_axis, adapted_in}
 use Rattle.rules.specs.Face.Demands.{number_at, IsUnit, plus_one, minus_one, EachUnit}
 use Rattle.rules.specs.Operators.Descriptions.{Documented}
-use Rattle.rules.specs.Operators.Table.{isArgs, forward, inverse}
+use Rattle.rules.specs.Operators.Table.{is_args, forward, inverse}
 use Rattle.rules.specs.Pipeline.Record.{reading_of, operator, args, is_set, made}
-use Rattle.rules.specs.Pipeline.Running.{opposite, turns, directed, actOf, act, omitted, ordered, runningFrom, running}
-use Rattle.rules.specs.Pipeline.Columns.{takes, tooFew, moved, after}
-use Rattle.rules.specs.Pipeline.Tuples.{tuples, numbers, actedIf, acted}
+use Rattle.rules.specs.Pipeline.Running.{opposite, turns, directed, act_of, act, omitted, ordered, running_from, running}
+use Rattle.rules.specs.Pipeline.Columns.{takes, too_few, moved, after}
+use Rattle.rules.specs.Pipeline.Tuples.{tuples, numbers, acted_if, acted}
 use Rattle.rules.specs.Pipeline.Run.{start, runs}
 use Rattle.rules.specs.declared.Coord.{Coord}
 use Rattle.rules.specs.declared.Mode.TheVariants as mode-is
@@ -36,7 +36,7 @@ use Rattle.laws_steps.specs.Runs.{answered, fourfold}
 use Rattle.laws_steps.specs.OwnNumbers.{own_at, mapped_at}
 use Rattle.laws_records.specs.MadeSo.{made_so}
 use Rattle.laws_records.specs.Ieee.{unit, turn-mul}
-use Rattle.laws_records.specs.Operators.Adapt.Words.{order4, up_to, upTo-at, order-sizes, order-sized}
+use Rattle.laws_records.specs.Operators.Adapt.Words.{order4, up_to, up_to-at, order-sizes, order-sized}
 
 -- ---- one number, times 1 or -1 and back
 
@@ -144,7 +144,7 @@ apart a b c d = not (eqb a b) && (not (eqb a c) && (not (eqb a d) && (not (eqb b
 
 -- of the sizes alone that is a finite table, which is computed
 orders : up_to 4 (λ a b c d. so (order4 a b c d) (here 1 a b c d && (here 2 a b c d && (here 3 a b c d && (here 4 a b c d && apart a b c d))))) ≡ true
-unfolding below up_to order4 so here apart is_order isDistinct all_of any_of
+unfolding below up_to order4 so here apart is_order is_distinct all_of any_of
 orders = refl
 
 record Places (a b c d : ℕ) : Type 0 where
@@ -164,7 +164,7 @@ places : (a b c d : ℤ) → is_order (a ∷ b ∷ c ∷ d ∷ []) ≡ true → 
 unfolding apart
 places a b c d h =
     let s = order-sized a b c d h in
-    let row = upTo-at 4 _ orders (size a) (size b) (size c) (size d) s.0.most s.1.most s.2.most s.3.most in
+    let row = up_to-at 4 _ orders (size a) (size b) (size c) (size d) s.0.most s.1.most s.2.most s.3.most in
     let t = so-at (order4 (size a) (size b) (size c) (size d)) _ row (order-sizes a b c d h) in
     let t2 = and_right (here 1 (size a) (size b) (size c) (size d)) _ t in
     let t3 = and_right (here 2 (size a) (size b) (size c) (size d)) _ t2 in
@@ -210,8 +210,8 @@ module _ {a b c d : ℕ} (p : Places a b c d) where
 
 -- ---- one coordinate
 
-fours : (l : List ℤ) → isDocumented l ≡ true → Places (post l 1) (post l 2) (post l 3) (post l 4)
-unfolding isDocumented post arg
+fours : (l : List ℤ) → is_documented l ≡ true → Places (post l 1) (post l 2) (post l 3) (post l 4)
+unfolding is_documented post arg
 fours l h = go l (eqb-true (length l) 8 (and_left (eqb (length l) 8) _ h)) (and_left (is_order (take 4 l)) _ (and_right (eqb (length l) 8) _ h))
   where
     short : {n : ℕ} → n ≤ 3 → n ≡ 8 → ⊥
@@ -225,33 +225,33 @@ fours l h = go l (eqb-true (length l) 8 (and_left (eqb (length l) 8) _ h)) (and_
     go (a ∷ b ∷ c ∷ []) e h = absurd (short (lit≤ tt) e)
     go (a ∷ b ∷ c ∷ d ∷ l) e h = places a b c d h
 
-module _ (l : List ℤ) (is : isDocumented l ≡ true) (t : Coord) where
+module _ (l : List ℤ) (is : is_documented l ≡ true) (t : Coord) where
   -- forward, an output takes a number; back, a number goes to a place of its own
   unfoldable pub back : ℕ → Float
   back k = mul binary64 (number k t) (div binary64 one (mult l k))
 
-  pub sent-to : {j : ℕ} → Four j → number (post l j) (adaptedByAxis true l t) ≡ back j
-  unfolding adaptedByAxis sendsBack number back
+  pub sent-to : {j : ℕ} → Four j → number (post l j) (adapted_by_axis true l t) ≡ back j
+  unfolding adapted_by_axis sends_back number back
   sent-to first = let p = fours l is in put_all p p.one-is (back 1) (back 2) (back 3) (back 4) t ∙ rw (p.ad, p.ac, p.ab, eqb_same (post l 1)) refl
   sent-to second = let p = fours l is in put_all p p.two_is (back 1) (back 2) (back 3) (back 4) t ∙ rw (p.bd, p.bc, eqb_same (post l 2)) refl
   sent-to third = let p = fours l is in put_all p p.three-is (back 1) (back 2) (back 3) (back 4) t ∙ rw (p.cd, eqb_same (post l 3)) refl
   sent-to fourth = let p = fours l is in put_all p p.four_is (back 1) (back 2) (back 3) (back 4) t ∙ rw (eqb_same (post l 4)) refl
 
-  pub taken : {j : ℕ} → Four j → (c : Coord) → number j (adaptedByAxis false l c) ≡ output l c j
-  unfolding adaptedByAxis number
+  pub taken : {j : ℕ} → Four j → (c : Coord) → number j (adapted_by_axis false l c) ≡ output l c j
+  unfolding adapted_by_axis number
   taken first c = refl
   taken second c = refl
   taken third c = refl
   taken fourth c = refl
 
-module _ (l : List ℤ) (is : isDocumented l ≡ true) (u : EachUnit l) (t : Coord) where
+module _ (l : List ℤ) (is : is_documented l ≡ true) (u : EachUnit l) (t : Coord) where
   -- forward, then back: the number that comes back to a place is the one that stood there
   returned : (k : ℕ) → 1 ≤ k → k ≤ 4 → (j : ℕ) → T (fits binary64 (number j t)) → j ≡ post l k → mul binary64 (output l t k) (div binary64 one (mult l k)) ≡ number j t
   unfolding output
   returned k a b j h e = rw e (there_back (mult l k) (u k a b) (number (post l k) t) (rw e at h))
 
-  pub inverse-after-forward : {j : ℕ} → Four j → T (fits binary64 (number j t)) → number j (adaptedByAxis true l (adaptedByAxis false l t)) ≡ number j t
-  unfolding adaptedByAxis sendsBack number here
+  pub inverse-after-forward : {j : ℕ} → Four j → T (fits binary64 (number j t)) → number j (adapted_by_axis true l (adapted_by_axis false l t)) ≡ number j t
+  unfolding adapted_by_axis sends_back number here
   inverse-after-forward {j} f h =
       let p = fours l is in
       put_all p f _ _ _ _ _ ∙ go _ (eqb j (post l 1)) (eqb j (post l 2)) (eqb j (post l 3)) (eqb j (post l 4)) refl refl refl refl (p.there f)
@@ -271,16 +271,16 @@ module _ (l : List ℤ) (is : isDocumented l ≡ true) (u : EachUnit l) (t : Coo
       go z false false false false p q r s e = absurd (never (cc e))
 
   -- back, then forward: the forward step takes it from that place
-  pub forward-after-inverse : {j : ℕ} → Four j → T (fits binary64 (number j t)) → number j (adaptedByAxis false l (adaptedByAxis true l t)) ≡ number j t
+  pub forward-after-inverse : {j : ℕ} → Four j → T (fits binary64 (number j t)) → number j (adapted_by_axis false l (adapted_by_axis true l t)) ≡ number j t
   unfolding output back
-  forward-after-inverse {j} f h = taken l is t f (adaptedByAxis true l t) ∙ rw (sent-to l is t f) (back-there (mult l j) (u j (least f) (most f)) (number j t) h)
+  forward-after-inverse {j} f h = taken l is t f (adapted_by_axis true l t) ∙ rw (sent-to l is t f) (back-there (mult l j) (u j (least f) (most f)) (number j t) h)
 
 -- ---- a run, and a run the other way
 
 -- either way first
-there_and_back : (back : Bool) (l : List ℤ) → isDocumented l ≡ true → EachUnit l → (t : Coord) (j : ℕ) → 1 ≤ j → j ≤ 4 → T (fits binary64 (number j t))
-    → number j (adaptedIn mode-is.Documented (not back) l (adaptedIn mode-is.Documented back l t)) ≡ number j t
-unfolding adaptedIn
+there_and_back : (back : Bool) (l : List ℤ) → is_documented l ≡ true → EachUnit l → (t : Coord) (j : ℕ) → 1 ≤ j → j ≤ 4 → T (fits binary64 (number j t))
+    → number j (adapted_in mode-is.Documented (not back) l (adapted_in mode-is.Documented back l t)) ≡ number j t
+unfolding adapted_in
 there_and_back false l is u t j a b h = inverse-after-forward l is u t (is-four j a b) h
 there_and_back true l is u t j a b h = forward-after-inverse l is u t (is-four j a b) h
 
@@ -297,41 +297,41 @@ pub record RunsBothWays (s : Step) : Type 0 where
   pub forward-too : is_set s.omit_fwd ≡ false
   pub inverse-too : is_set s.omit_inv ≡ false
 
-isBack : Direction → Bool
-isBack Forward = false
-isBack Inverse = true
+is_back : Direction → Bool
+is_back Forward = false
+is_back Inverse = true
 
 module _ (s : Step) (r : RunsBothWays s) where
-  does : (d : Direction) → act d s ≡ adapts mode-is.Documented (isBack (directed d s)) (args s)
+  does : (d : Direction) → act d s ≡ adapts mode-is.Documented (is_back (directed d s)) (args s)
   unfolding act
   does d = rw r.is-documented (go (directed d s))
     where
-      go : (d : Direction) → actOf d Documented (args s) ≡ adapts mode-is.Documented (isBack d) (args s)
-      go Forward = unfold actOf forward isBack in refl
-      go Inverse = unfold actOf inverse isBack in refl
+      go : (d : Direction) → act_of d Documented (args s) ≡ adapts mode-is.Documented (is_back d) (args s)
+      go Forward = unfold act_of forward is_back in refl
+      go Inverse = unfold act_of inverse is_back in refl
 
-  turns-back : (d : Direction) → isBack (directed (opposite d) s) ≡ not (isBack (directed d s))
+  turns-back : (d : Direction) → is_back (directed (opposite d) s) ≡ not (is_back (directed d s))
   unfolding directed
   turns-back d = go d (turns (reading_of s.reading) (operator s) && is_set s.inv)
     where
-      go : (d : Direction) (b : Bool) → isBack (cond b (opposite (opposite d)) (opposite d)) ≡ not (isBack (cond b (opposite d) d))
-      go Forward true = unfold opposite isBack in refl
-      go Forward false = unfold opposite isBack in refl
-      go Inverse true = unfold opposite isBack in refl
-      go Inverse false = unfold opposite isBack in refl
+      go : (d : Direction) (b : Bool) → is_back (cond b (opposite (opposite d)) (opposite d)) ≡ not (is_back (cond b (opposite d) d))
+      go Forward true = unfold opposite is_back in refl
+      go Forward false = unfold opposite is_back in refl
+      go Inverse true = unfold opposite is_back in refl
+      go Inverse false = unfold opposite is_back in refl
 
   alone : (d : Direction) → running d (s ∷ []) ≡ record { place = 1; does = act d s } ∷ []
-  unfolding running runningFrom omitted ordered
+  unfolding running running_from omitted ordered
   alone Forward = rw r.forward-too refl
   alone Inverse = rw r.inverse-too refl
 
   -- the tuples that a run leaves
-  left : (d : Direction) (xs : List Float) → (after acted (running d (s ∷ [])) (start xs)).tuples ≡ map (adaptedIn mode-is.Documented (isBack (directed d s)) (args s)) (tuples xs)
-  unfolding after acted actedIf tooFew takes moved
+  left : (d : Direction) (xs : List Float) → (after acted (running d (s ∷ [])) (start xs)).tuples ≡ map (adapted_in mode-is.Documented (is_back (directed d s)) (args s)) (tuples xs)
+  unfolding after acted acted_if too_few takes moved
   left d xs = rw (alone d, does d) refl
 
-  rule : isDocumented (args s) ≡ true
-  rule = unfold isArgs in (rw r.is-documented at (made_so s r.is_made).rule)
+  rule : is_documented (args s) ≡ true
+  rule = unfold is_args in (rw r.is-documented at (made_so s r.is_made).rule)
 
   pub restores : EachUnit (args s) → (d : Direction) (xs store : List Float) (c n : ℕ) → (runs d (s ∷ []) xs store).answer ≡ Done c n
       → (store₂ : List Float) (c₂ n₂ : ℕ) → (runs (opposite d) (s ∷ []) (runs d (s ∷ []) xs store).list store₂).answer ≡ Done c₂ n₂
@@ -342,13 +342,13 @@ module _ (s : Step) (r : RunsBothWays s) where
       let ys = (runs d (s ∷ []) xs store).list in
       let two = answered (opposite d) (s ∷ []) ys store₂ c₂ n₂ done₂ in
       let whole = fourfold xs one.fourfold in
-      let there : Coord → Coord = adaptedIn mode-is.Documented (isBack (directed d s)) (args s) in
-      let home : Coord → Coord = adaptedIn mode-is.Documented (not (isBack (directed d s))) (args s) in
+      let there : Coord → Coord = adapted_in mode-is.Documented (is_back (directed d s)) (args s) in
+      let home : Coord → Coord = adapted_in mode-is.Documented (not (is_back (directed d s))) (args s) in
       let ys-is : ys ≡ numbers (map there (tuples xs)) = one.list-after ∙ ap numbers (left d xs) in
       let zs-is : (runs (opposite d) (s ∷ []) ys store₂).list ≡ numbers (map (λ (t : Coord). home (there t)) (tuples xs)) =
       two.list-after ∙ ap numbers (left (opposite d) ys) ∙ ap numbers (rw (turns-back d, ys-is, tuples-numbers (map there (tuples xs))) (map-map home there (tuples xs))) in
       let own = own_at xs whole i h j a b in
       ap (λ (l : List Float). number_at l i j) zs-is
       ∙ mapped_at xs whole i h (λ (t : Coord). home (there t)) j a b
-      ∙ there_and_back (isBack (directed d s)) (args s) rule u _ j a b (rw own fit)
+      ∙ there_and_back (is_back (directed d s)) (args s) rule u _ j a b (rw own fit)
       ∙ own

@@ -12,10 +12,10 @@ use Rattle.rules.specs.Text.Lists.{all_of, any_of}
 use Rattle.rules.specs.Text.Bytes.{Bytes, same}
 use Rattle.rules.specs.Text.Decimal.{signed, minus}
 use Rattle.rules.specs.Operators.Descriptions.{Operator, Adapt}
-use Rattle.rules.specs.Operators.Arguments.{size, arg, isDistinct, is_order}
-use Rattle.rules.specs.Operators.Adapt.{is_code, isAdapt, Word, ending, word_of, word, position, outputOf, angles, combined, wordGiven, between}
-use Rattle.rules.specs.Operators.Table.{isArgs}
-use Rattle.rules.specs.Pipeline.Record.{nineDigits}
+use Rattle.rules.specs.Operators.Arguments.{size, arg, is_distinct, is_order}
+use Rattle.rules.specs.Operators.Adapt.{is_code, is_adapt, Word, ending, word_of, word, position, output_of, angles, combined, word_given, between}
+use Rattle.rules.specs.Operators.Table.{is_args}
+use Rattle.rules.specs.Pipeline.Record.{nine_digits}
 use Rattle.laws_lists.specs.Lists.{all_so, all_append}
 use Rattle.laws_lists.specs.Tests.{and_left, and_right, never, below, below_at}
 use Rattle.laws_records.specs.Series.{size-signed}
@@ -37,10 +37,10 @@ places4 a b c d e f g h =
 unfoldable pub up_to : ℕ → (ℕ → ℕ → ℕ → ℕ → Bool) → Bool
 up_to m test = below (suc m) (λ a. below (suc m) (λ b. below (suc m) (λ c. below (suc m) (λ d. test a b c d))))
 
-pub upTo-at : (m : ℕ) (test : ℕ → ℕ → ℕ → ℕ → Bool) → up_to m test ≡ true
+pub up_to-at : (m : ℕ) (test : ℕ → ℕ → ℕ → ℕ → Bool) → up_to m test ≡ true
     → (a b c d : ℕ) → a ≤ m → b ≤ m → c ≤ m → d ≤ m → test a b c d ≡ true
 unfolding up_to
-upTo-at m test h a b c d ha hb hc hd =
+up_to-at m test h a b c d ha hb hc hd =
     let n = suc m in
     let r = below_at n (λ a. below n (λ b. below n (λ c. below n (λ d. test a b c d)))) h a (omega arith) in
     below_at n _ (below_at n _ (below_at n _ r b (omega arith)) c (omega arith)) d (omega arith)
@@ -59,7 +59,7 @@ row : (a b c d : ℕ) → Bool
 row a b c d = up_to 4 (λ e f g h. so (order4 e f g h) (places4 a b c d e f g h))
 
 table : up_to 4 (λ a b c d. let r = row a b c d in so (order4 a b c d) r) ≡ true
-unfolding below up_to order4 places4 so row position is_order isDistinct all_of any_of
+unfolding below up_to order4 places4 so row position is_order is_distinct all_of any_of
 table = refl
 
 -- ---- orders
@@ -70,15 +70,15 @@ unfolding is_order
 order-each l h =
     let B = leb (length l) 4 in
     let C = all_of (λ (x : ℤ). leb 1 (size x) && leb (size x) (length l)) l in
-    let r = and_right (leb 1 (length l)) (B && (C && isDistinct l)) h in
-    (leb-true (length l) 4 (and_left B (C && isDistinct l) r), and_left C (isDistinct l) (and_right B (C && isDistinct l) r))
+    let r = and_right (leb 1 (length l)) (B && (C && is_distinct l)) h in
+    (leb-true (length l) 4 (and_left B (C && is_distinct l) r), and_left C (is_distinct l) (and_right B (C && is_distinct l) r))
 
 -- so it has nine digits at most
-pub order-nines : (l : List ℤ) → is_order l ≡ true → all_of nineDigits l ≡ true
-unfolding nineDigits
+pub order-nines : (l : List ℤ) → is_order l ≡ true → all_of nine_digits l ≡ true
+unfolding nine_digits
 order-nines l h =
     let e = order-each l h in
-    all_so (λ (x : ℤ). leb 1 (size x) && leb (size x) (length l)) nineDigits
+    all_so (λ (x : ℤ). leb 1 (size x) && leb (size x) (length l)) nine_digits
     (λ x k. let m = leb-true (size x) (length l) (and_right (leb 1 (size x)) (leb (size x) (length l)) k) in le-leb (size x) 999999999 (omega (arith, e.0)))
     l e.1
 
@@ -97,7 +97,7 @@ sized x k =
 module _ (a b c d : ℤ) (h : is_order (a ∷ b ∷ c ∷ d ∷ []) ≡ true) where
   -- an order is a matter of sizes alone
   pub order-sizes : order4 (size a) (size b) (size c) (size d) ≡ true
-  unfolding order4 is_order isDistinct all_of any_of
+  unfolding order4 is_order is_distinct all_of any_of
   order-sizes = h
 
   -- its four sizes are from 1 to 4
@@ -113,7 +113,7 @@ module _ (a b c d : ℤ) (h : is_order (a ∷ b ∷ c ∷ d ∷ []) ≡ true) wh
 
 -- the sign does not matter
 pub signed-order : (s t u v : Bool) (a b c d : ℕ) → order4 a b c d ≡ true → is_order (signed s a ∷ signed t b ∷ signed u c ∷ signed v d ∷ []) ≡ true
-unfolding order4 is_order isDistinct all_of any_of
+unfolding order4 is_order is_distinct all_of any_of
 signed-order s t u v a b c d h = rw (size-signed s a, size-signed t b, size-signed u c, size-signed v d) h
 
 -- the places of one order in another are an order
@@ -124,14 +124,14 @@ places-order a b c d e f g h p q =
     let s = order-sized a b c d p in
     let t = order-sized e f g h q in
     let r : row (size a) (size b) (size c) (size d) ≡ true =
-    so-at (order4 (size a) (size b) (size c) (size d)) _ (upTo-at 4 _ table (size a) (size b) (size c) (size d) s.0.most s.1.most s.2.most s.3.most) (order-sizes a b c d p) in
-    so-at (order4 (size e) (size f) (size g) (size h)) _ (upTo-at 4 _ r (size e) (size f) (size g) (size h) t.0.most t.1.most t.2.most t.3.most) (order-sizes e f g h q)
+    so-at (order4 (size a) (size b) (size c) (size d)) _ (up_to-at 4 _ table (size a) (size b) (size c) (size d) s.0.most s.1.most s.2.most s.3.most) (order-sizes a b c d p) in
+    so-at (order4 (size e) (size f) (size g) (size h)) _ (up_to-at 4 _ r (size e) (size f) (size g) (size h) t.0.most t.1.most t.2.most t.3.most) (order-sizes e f g h q)
 
 -- ---- two words
 
 -- the outputs of two words
 abbrev pub outs : Word → Word → List ℤ
-outs v w = outputOf v w 1 ∷ outputOf v w 2 ∷ outputOf v w 3 ∷ outputOf v w 4 ∷ []
+outs v w = output_of v w 1 ∷ output_of v w 2 ∷ output_of v w 3 ∷ output_of v w 4 ∷ []
 
 -- a word that is read has four axes in an order, and one of the three angles
 pub record IsWord (w : Word) : Type 0 where
@@ -163,7 +163,7 @@ words-order v w p q =
 
 -- their outputs are an order
 pub outs-order : (v w : Word) → IsWord v → IsWord w → is_order (outs v w) ≡ true
-unfolding outputOf
+unfolding output_of
 outs-order v w p q = signed-order _ _ _ _ _ _ _ _ (words-order v w p q)
 
 -- the code of two angles is one that `made` takes
@@ -179,26 +179,26 @@ nought-code : is_code (pos 0) ≡ true
 unfolding is_code minus
 nought-code = refl
 
-pub code-nine : (x : ℤ) → is_code x ≡ true → nineDigits x ≡ true
-unfolding is_code nineDigits
+pub code-nine : (x : ℤ) → is_code x ≡ true → nine_digits x ≡ true
+unfolding is_code nine_digits
 code-nine x h =
     let few = leb-true (size x) 7 (and_left (leb (size x) 7) (not (eqb (size x) 4)) (and_right (not (minus x)) (leb (size x) 7 && not (eqb (size x) 4)) h)) in
     le-leb (size x) 999999999 (omega arith)
 
 -- with it twice, and two noughts, the outputs keep the rule of `adapt`
 adapt-kept : (a b c d x : ℤ) → is_order (a ∷ b ∷ c ∷ d ∷ []) ≡ true → is_code x ≡ true → Kept Adapt (a ∷ b ∷ c ∷ d ∷ x ∷ x ∷ pos 0 ∷ pos 0 ∷ [])
-unfolding isArgs isAdapt arg all_of
+unfolding is_args is_adapt arg all_of
 adapt-kept a b c d x h k =
     record {
       fit = lit≤ tt;
-      nines = all_append nineDigits (a ∷ b ∷ c ∷ d ∷ []) (x ∷ x ∷ pos 0 ∷ pos 0 ∷ []) (order-nines (a ∷ b ∷ c ∷ d ∷ []) h) (rw (code-nine x k, code-nine (pos 0) nought-code));
+      nines = all_append nine_digits (a ∷ b ∷ c ∷ d ∷ []) (x ∷ x ∷ pos 0 ∷ pos 0 ∷ []) (order-nines (a ∷ b ∷ c ∷ d ∷ []) h) (rw (code-nine x k, code-nine (pos 0) nought-code));
       rule = rw (h, k, nought-code, eq-eqb (size x) (size x) refl);
     }
 
 pub combined-kept : (v w : Word) → IsWord v → IsWord w → Kept Adapt (combined v w)
 unfolding combined
 combined-kept v w p q =
-    adapt-kept (outputOf v w 1) (outputOf v w 2) (outputOf v w 3) (outputOf v w 4) (angles v w) (outs-order v w p q) (angles-code v w p.angle-small q.angle-small)
+    adapt-kept (output_of v w 1) (output_of v w 2) (output_of v w 3) (output_of v w 4) (angles v w) (outs-order v w p q) (angles-code v w p.angle-small q.angle-small)
 
 -- ---- every word that is read
 
@@ -212,10 +212,10 @@ ending-small t k h = go (same t (ascii "_deg")) (same t (ascii "_gon")) (same t 
     go false false true h = let e : 0 ≡ k = cc h in omega arith
     go false false false h = absurd (never (cc h))
 
-wordOf-is : (l : List ℤ) (o : Option ℕ) → ((k : ℕ) → o ≡ some k → k ≤ 2) → (w : Word) → word_of l o ≡ some w → IsWord w
+word_of-is : (l : List ℤ) (o : Option ℕ) → ((k : ℕ) → o ≡ some k → k ≤ 2) → (w : Word) → word_of l o ≡ some w → IsWord w
 unfolding word_of
-wordOf-is l none f w h = absurd (never (cc h))
-wordOf-is l (some k) f w h = go (eqb (length l) 4 && is_order l) refl h
+word_of-is l none f w h = absurd (never (cc h))
+word_of-is l (some k) f w h = go (eqb (length l) 4 && is_order l) refl h
   where
     go : (b : Bool) → (eqb (length l) 4 && is_order l) ≡ b → cond b (some (record { axes = l; angle = k })) none ≡ some w → IsWord w
     go true e h =
@@ -225,18 +225,18 @@ wordOf-is l (some k) f w h = go (eqb (length l) 4 && is_order l) refl h
 
 word-is : (t : Bytes) (w : Word) → word t ≡ some w → IsWord w
 unfolding word
-word-is t w h = wordOf-is _ _ (ending-small _) w h
+word-is t w h = word_of-is _ _ (ending-small _) w h
 
-given_is : (o : Option Bytes) (w : Word) → wordGiven o ≡ some w → IsWord w
-unfolding wordGiven
+given_is : (o : Option Bytes) (w : Word) → word_given o ≡ some w → IsWord w
+unfolding word_given
 given_is none w h = word-is _ w h
 given_is (some v) w h = word-is v w h
 
 -- What two words make keeps a rule, if it does so for every two that are read.
 pub between-kept : (a : Operator) (make : Word → Word → List ℤ) → ((v w : Word) → IsWord v → IsWord w → Kept a (make v w))
-    → (o r : Option Bytes) (l : List ℤ) → between make (wordGiven o) (wordGiven r) ≡ some l → Kept a l
+    → (o r : Option Bytes) (l : List ℤ) → between make (word_given o) (word_given r) ≡ some l → Kept a l
 unfolding between
-between-kept a make kept o r l h = go (wordGiven o) (wordGiven r) (given_is o) (given_is r) h
+between-kept a make kept o r l h = go (word_given o) (word_given r) (given_is o) (given_is r) h
   where
     go : (x y : Option Word) → ((w : Word) → x ≡ some w → IsWord w) → ((w : Word) → y ≡ some w → IsWord w) → between make x y ≡ some l → Kept a l
     go none y p q h = absurd (never (cc h))

@@ -1,7 +1,7 @@
 -- `worked_out`: the bytes of the code are the definition's list as a table, which antt computes (`refl`). The passes are those of `normal`,
 -- and each text on the way has room by its weight.
 use mathlib.Core.Path.{refl, ◌∙◌}
-use Rattle.rules.specs.Text.Normal.{becomes, subscriptBecomes, replacements}
+use Rattle.rules.specs.Text.Normal.{becomes, subscript_becomes, replacements}
 use Rattle.rules.specs.Text.Ascii.{ascii}
 use Rattle.normalise.proofs.Weights.{run_room, squeezed-room, normal-holds}
 use Rattle.normalise.specs.Table.{table}
@@ -14,7 +14,7 @@ cleaned-requires : tie.Need-cleaned-requires
 cleaned-requires c κs = search rules
 
 run-all-requires : tie.Need-run-all-requires
-unfolding ascii becomes subscriptBecomes replacements table
+unfolding ascii becomes subscript_becomes replacements table
 run-all-requires c κs =
     let cleaned = c.before.before.before.before.before.before.before in
     let s = cleaned.before.before.before.before.before.before.before in

@@ -3,7 +3,7 @@ use Prim.Native.Nat.{◌-◌}
 use lib.ListN.{length}
 use lib.IntN.{pos}
 use Rattle.rules.specs.Text.Lists.{any_of}
-use Rattle.numbers.specs.Order.{ofSize}
+use Rattle.numbers.specs.Order.{of_size}
 use Rattle.numbers.proofs.OrderTest.{size-so, size-not}
 use Rattle.numbers.proofs.Rest.{Rest, rest_all, rest-next, rest-here, rest_end, any-so, any-not}
 use borrow.Author.Rules.{rules}
@@ -11,7 +11,7 @@ use Rattle.numbers.proofs.order.is_among.Statement.{statement}
 use Rattle.numbers.proofs.order.is_among.Tie as tie
 
 abbrev invariant-loop : tie.invariant-loop
-invariant-loop m l i₀ i = Rest (any_of (ofSize m)) l i (any_of (ofSize m) l)
+invariant-loop m l i₀ i = Rest (any_of (of_size m)) l i (any_of (of_size m) l)
 
 abbrev decreases-loop : tie.decreases-loop
 decreases-loop m l i₀ i = length l - i
@@ -36,7 +36,7 @@ loop-less c = search rules
 loop-again : tie.Need-loop-preserved invariant-loop decreases-loop
 loop-again c =
     let loop = c.before.before.before.loop in
-    rest-next (any_of (ofSize _)) (pos 0) loop.invariant c.before.before.loop-test.true (any-not _ _ _ (size-not _ _ _ c.before.size-at.ensures c.if1.false))
+    rest-next (any_of (of_size _)) (pos 0) loop.invariant c.before.before.loop-test.true (any-not _ _ _ (size-not _ _ _ c.before.size-at.ensures c.if1.false))
 
 returns-2 : tie.Need-returns-2 invariant-loop decreases-loop
 unfolding any_of

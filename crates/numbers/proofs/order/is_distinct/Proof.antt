@@ -4,7 +4,7 @@ use Prim.Native.Nat.{◌-◌}
 use mathlib.Core.Path.{sym, ◌∙◌}
 use lib.ListN.{length}
 use lib.IntN.{pos}
-use Rattle.rules.specs.Operators.Arguments.{isDistinct}
+use Rattle.rules.specs.Operators.Arguments.{is_distinct}
 use Rattle.numbers.proofs.OrderTest.{distinct-so, distinct-not}
 use Rattle.numbers.proofs.Rest.{Rest, rest_all, rest-next, rest-here, rest_end, rest-behind}
 use borrow.Author.Rules.{rules}
@@ -12,7 +12,7 @@ use Rattle.numbers.proofs.order.is_distinct.Statement.{statement}
 use Rattle.numbers.proofs.order.is_distinct.Tie as tie
 
 abbrev invariant-loop : tie.invariant-loop
-invariant-loop l i₀ i = Rest isDistinct l i (isDistinct l)
+invariant-loop l i₀ i = Rest is_distinct l i (is_distinct l)
 
 abbrev decreases-loop : tie.decreases-loop
 decreases-loop l i₀ i = length l - i
@@ -58,10 +58,10 @@ loop-again c =
     let loop = c.before.before.before.before.before.loop in
     let more = c.before.before.before.before.loop-test.true in
     let size-at = c.before.before.before.size-at.ensures in
-    rest-next isDistinct (pos 0) loop.invariant more (distinct-so _ _ _ _ size-at (rest-behind s.args.l.now loop.i) (sym c.before.is_among.ensures ∙ c.if1.false))
+    rest-next is_distinct (pos 0) loop.invariant more (distinct-so _ _ _ _ size-at (rest-behind s.args.l.now loop.i) (sym c.before.is_among.ensures ∙ c.if1.false))
 
 returns-2 : tie.Need-returns-2 invariant-loop decreases-loop
-unfolding isDistinct
+unfolding is_distinct
 returns-2 c = rest_end c.before.loop.invariant c.loop-test.false
 
 pub is-distinct-spec : {M : Type 1} → statement M

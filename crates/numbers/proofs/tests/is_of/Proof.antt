@@ -6,7 +6,7 @@ use mir.Facts.{to_z-of_z}
 use Rattle.rules.specs.Text.Decimal.{minus}
 use Rattle.rules.specs.Operators.Arguments.{size}
 use Rattle.numbers.proofs.OfKind.{place-minus, place-plain}
-use Rattle.rules.specs.Pipeline.Record.{nineDigits}
+use Rattle.rules.specs.Pipeline.Record.{nine_digits}
 use borrow.Author.Rules.{rules}
 use Rattle.numbers.proofs.tests.is_of.Statement.{statement}
 use Rattle.numbers.proofs.tests.is_of.Tie as tie
@@ -44,7 +44,7 @@ returns-2 c =
     (ap minus (sym (to_z-of_z s.ranges.x)) ∙ sym c.before.before.is-minus.ensures ∙ c.before.if1.false))
 
 returns-3 : tie.Need-returns-3
-unfolding nineDigits
+unfolding nine_digits
 returns-3 c =
     let s = c.before.before.before in
     rw c.enum-told2.given.1 (ap (λ (m : ℕ). leb m 999999999) (c.before.before.type_size.ensures ∙ ap size (to_z-of_z s.ranges.x)))

@@ -4,14 +4,14 @@ use mathlib.Core.Path.{sym}
 use Prim.Native.Nat.{◌-◌}
 use native.Mathlib.Omega.{arith}
 use lib.Seq.{length-take-le}
-use Rattle.parameters.specs.Parts.{tableIn}
+use Rattle.parameters.specs.Parts.{table_in}
 use Rattle.parameters.proofs.EnterAll.{Words-left, in-front, words-all, words-end, words-none, word-ends, words-full, words_more}
 use borrow.Author.Rules.{rules}
 use Rattle.parameters.proofs.elements.enter_words.Statement.{statement}
 use Rattle.parameters.proofs.elements.enter_words.Tie as tie
 
 abbrev invariant-loop : tie.invariant-loop
-invariant-loop s row₀ count from to n first held₀ name₀ k₀ row held name k = Words-left s (tableIn row₀ held₀) from to name₀ (tableIn row held) name k
+invariant-loop s row₀ count from to n first held₀ name₀ k₀ row held name k = Words-left s (table_in row₀ held₀) from to name₀ (table_in row held) name k
 
 abbrev decreases-loop : tie.decreases-loop
 decreases-loop s row₀ count from to n first held₀ name₀ k₀ row held name k = to - k

@@ -2,14 +2,14 @@
 -- measure.
 use mathlib.Core.Path.{sym, ap, ◌∙◌}
 use Prim.Native.Nat.{◌-◌}
-use Rattle.parameters.specs.Parts.{no_part, tableIn, goes_at}
+use Rattle.parameters.specs.Parts.{no_part, table_in, goes_at}
 use Rattle.parameters.proofs.Places.{Seeks, seeks-none, seeks-at, seeks-more, seeks-here, seeks-end}
 use borrow.Author.Rules.{rules}
 use Rattle.parameters.proofs.table.place_of.Statement.{statement}
 use Rattle.parameters.proofs.table.place_of.Tie as tie
 
 abbrev invariant-loop : tie.invariant-loop
-invariant-loop s row n p i₀ i = Seeks s (tableIn row n) p i
+invariant-loop s row n p i₀ i = Seeks s (table_in row n) p i
 
 abbrev decreases-loop : tie.decreases-loop
 decreases-loop s row n p i₀ i = n - i

@@ -1,5 +1,5 @@
 -- What is so of the parameters from i on.
-use Rattle.parameters.specs.Parts.{tableIn}
+use Rattle.parameters.specs.Parts.{table_in}
 use Rattle.parameters.proofs.Tabled.{no_part}
 use Rattle.prepare.proofs.EarliestFault.{Lowering, lowering-none, value-small, lowering-at, lowering-more, lowering-end}
 use borrow.Author.Rules.{rules}
@@ -7,7 +7,7 @@ use Rattle.prepare.proofs.faults.lowest_of.Statement.{statement}
 use Rattle.prepare.proofs.faults.lowest_of.Tie as tie
 
 abbrev invariant-loop : tie.invariant-loop
-invariant-loop s row n name i₀ low₀ i low = Lowering s (tableIn row n) name i low
+invariant-loop s row n name i₀ low₀ i low = Lowering s (table_in row n) name i low
 
 abbrev decreases-loop : tie.decreases-loop
 decreases-loop s row n name i₀ low₀ i low = i

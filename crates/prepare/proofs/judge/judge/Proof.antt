@@ -2,7 +2,7 @@
 use mathlib.Core.Path.{sym, ◌∙◌}
 use borrow.Author.Tests.{not-true, not-false}
 use Rattle.rules.specs.Text.Ascii.{ascii}
-use Rattle.parameters.specs.Parts.{tableIn}
+use Rattle.parameters.specs.Parts.{table_in}
 use Rattle.prepare.proofs.Judged.{in-places, judged-unnamed, judged-other, judged-named}
 use borrow.Author.Rules.{rules}
 use Rattle.prepare.proofs.judge.judge.Statement.{statement}
@@ -22,7 +22,7 @@ unfolding ascii
 returns c =
     let looked = c.before.before.before in
     let start = looked.before.before.before in
-    judged-unnamed _ _ (in-places (tableIn start.args.row.now start.args.n) _ looked.value_of_lem.ensures) (not-true _ c.before.if1.true) c.refused.ensures
+    judged-unnamed _ _ (in-places (table_in start.args.row.now start.args.n) _ looked.value_of_lem.ensures) (not-true _ c.before.if1.true) c.refused.ensures
 
 sub-name-of : tie.Need-overflow-sub-name-of
 sub-name-of c = search rules
@@ -57,7 +57,7 @@ returns-2 c =
     let looked = first.before.before in
     let start = looked.before.before.before in
     let named = known.named in
-    let there = in-places (tableIn start.args.row.now start.args.n) _ looked.value_of_lem.ensures in
+    let there = in-places (table_in start.args.row.now start.args.n) _ looked.value_of_lem.ensures in
     judged-named _ _ there (not-false _ first.if1.false) (sym named-so.name_of.ensures ∙ named.given.1) c.judge-named.ensures
 
 returns-3 : tie.Need-returns-3
@@ -68,7 +68,7 @@ returns-3 c =
     let looked = first.before.before in
     let start = looked.before.before.before in
     let told = c.before.enum_told in
-    let there = in-places (tableIn start.args.row.now start.args.n) _ looked.value_of_lem.ensures in
+    let there = in-places (table_in start.args.row.now start.args.n) _ looked.value_of_lem.ensures in
     judged-other _ _ there (not-false _ first.if1.false) (sym named.name_of.ensures ∙ told.given.1) c.refused2.ensures
 
 pub judge-spec : {M : Type 1} → statement M

@@ -1,6 +1,6 @@
 -- The keys of every operator come first.
 use mathlib.Core.Path.{sym, ◌∙◌}
-use Rattle.prepare.proofs.KeyKind.{withOthers, every-then}
+use Rattle.prepare.proofs.KeyKind.{with_others, every-then}
 use borrow.Author.Rules.{rules}
 use Rattle.prepare.proofs.keys.kind_of.Statement.{statement}
 use Rattle.prepare.proofs.keys.kind_of.Tie as tie
@@ -24,19 +24,19 @@ own-kind-requires : tie.Need-own-kind-requires
 own-kind-requires c κs = search rules
 
 returns : tie.Need-returns
-unfolding withOthers
+unfolding with_others
 returns c = every-then _ _ (sym c.enum_told.given.1 ∙ c.before.before.every-kind.ensures)
 
 returns-2 : tie.Need-returns-2
-unfolding withOthers
+unfolding with_others
 returns-2 c = every-then _ _ (sym c.enum-told2.given.1 ∙ c.before.before.every-kind.ensures)
 
 returns-3 : tie.Need-returns-3
-unfolding withOthers
+unfolding with_others
 returns-3 c = every-then _ _ (sym c.enum-told3.given.1 ∙ c.before.before.every-kind.ensures)
 
 returns-4 : tie.Need-returns-4
-unfolding withOthers
+unfolding with_others
 returns-4 c = c.own-kind.ensures ∙ every-then _ _ (sym c.before.enum-told4.given.1 ∙ c.before.before.before.every-kind.ensures)
 
 pub kind-of-spec : {M : Type 1} → statement M

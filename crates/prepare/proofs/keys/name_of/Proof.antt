@@ -1,7 +1,7 @@
 -- The five names, one after the other.
 use mathlib.Core.Path.{sym, ◌∙◌}
 use Rattle.rules.specs.Text.Ascii.{ascii}
-use Rattle.rules.specs.Operators.Table.{names, nameIn, name_of}
+use Rattle.rules.specs.Operators.Table.{names, name_in, name_of}
 use borrow.Author.Rules.{rules}
 use Rattle.prepare.proofs.keys.name_of.Statement.{statement}
 use Rattle.prepare.proofs.keys.name_of.Tie as tie
@@ -13,7 +13,7 @@ is-same-requires : tie.Need-is-same-requires
 is-same-requires c κs = search rules
 
 returns : tie.Need-returns
-unfolding names nameIn name_of ascii
+unfolding names name_in name_of ascii
 returns c = sym (rw (sym c.before.is_same.ensures ∙ c.if1.true))
 
 slice-aggregate-is-same-2 : tie.Need-slice-aggregate-is-same-2
@@ -23,7 +23,7 @@ is-same-requires-2 : tie.Need-is-same-requires-2
 is-same-requires-2 c κs = search rules
 
 returns-2 : tie.Need-returns-2
-unfolding names nameIn name_of ascii
+unfolding names name_in name_of ascii
 returns-2 c =
     let is_same = c.before.before.before.before.is_same in
     let if1 = c.before.before.before.if1 in
@@ -37,7 +37,7 @@ is-same-requires-3 : tie.Need-is-same-requires-3
 is-same-requires-3 c κs = search rules
 
 returns-3 : tie.Need-returns-3
-unfolding names nameIn name_of ascii
+unfolding names name_in name_of ascii
 returns-3 c =
     let is_same = c.before.before.before.before.before.before.before.is_same in
     let if1 = c.before.before.before.before.before.before.if1 in
@@ -53,7 +53,7 @@ is-same-requires-4 : tie.Need-is-same-requires-4
 is-same-requires-4 c κs = search rules
 
 returns-4 : tie.Need-returns-4
-unfolding names nameIn name_of ascii
+unfolding names name_in name_of ascii
 returns-4 c =
     let is_same = c.before.before.before.before.before.before.before.before.before.before.is_same in
     let if1 = c.before.before.before.before.before.before.before.before.before.if1 in
@@ -71,7 +71,7 @@ is-same-requires-5 : tie.Need-is-same-requires-5
 is-same-requires-5 c κs = search rules
 
 returns-5 : tie.Need-returns-5
-unfolding names nameIn name_of ascii
+unfolding names name_in name_of ascii
 returns-5 c =
     let is_same = c.before.before.before.before.before.before.before.before.before.before.before.before.before.is_same in
     let if1 = c.before.before.before.before.before.before.before.before.before.before.before.before.if1 in
@@ -89,7 +89,7 @@ returns-5 c =
     sym (rw (not_first, not-second, not_third, not-fourth, sym is-same5.ensures ∙ c.if5.true))
 
 returns-6 : tie.Need-returns-6
-unfolding names nameIn name_of ascii
+unfolding names name_in name_of ascii
 returns-6 c =
     let is_same = c.before.before.before.before.before.before.before.before.before.before.before.before.before.is_same in
     let if1 = c.before.before.before.before.before.before.before.before.before.before.before.before.if1 in

@@ -1,6 +1,6 @@
 -- Each operator says what its own keys take.
-use Rattle.rules.specs.Pipeline.Keys.{ownKeys}
-use Rattle.prepare.proofs.KeyKind.{own_keys}
+use Rattle.rules.specs.Pipeline.Keys.{own_keys}
+use Rattle.prepare.proofs.KeyKind.{own-keys}
 use borrow.Author.Rules.{rules}
 use Rattle.prepare.proofs.keys.own_kind.Statement.{statement}
 use Rattle.prepare.proofs.keys.own_kind.Tie as tie
@@ -36,24 +36,24 @@ kind-of-requires-5 : tie.Need-kind-of-requires-5
 kind-of-requires-5 c κs = search rules
 
 returns : tie.Need-returns
-unfolding ownKeys
-returns c = own_keys _ c.before.enum_told.given.1 c.kind-of.ensures
+unfolding own_keys
+returns c = own-keys _ c.before.enum_told.given.1 c.kind-of.ensures
 
 returns-2 : tie.Need-returns-2
-unfolding ownKeys
-returns-2 c = own_keys _ c.before.enum-told2.given.1 c.kind-of2.ensures
+unfolding own_keys
+returns-2 c = own-keys _ c.before.enum-told2.given.1 c.kind-of2.ensures
 
 returns-3 : tie.Need-returns-3
-unfolding ownKeys
-returns-3 c = own_keys _ c.before.enum-told3.given.1 c.kind-of3.ensures
+unfolding own_keys
+returns-3 c = own-keys _ c.before.enum-told3.given.1 c.kind-of3.ensures
 
 returns-4 : tie.Need-returns-4
-unfolding ownKeys
-returns-4 c = own_keys _ c.before.enum-told4.given.1 c.kind-of4.ensures
+unfolding own_keys
+returns-4 c = own-keys _ c.before.enum-told4.given.1 c.kind-of4.ensures
 
 returns-5 : tie.Need-returns-5
-unfolding ownKeys
-returns-5 c = own_keys _ c.before.enum-told5.given.1 c.kind-of5.ensures
+unfolding own_keys
+returns-5 c = own-keys _ c.before.enum-told5.given.1 c.kind-of5.ensures
 
 pub own-kind-spec : {M : Type 1} → statement M
 own-kind-spec =

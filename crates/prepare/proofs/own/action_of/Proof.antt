@@ -3,7 +3,7 @@ use mathlib.Core.Path.{refl}
 use lib.Dec.{lit≤}
 use Rattle.rules.specs.Text.Ascii.{ascii}
 use Rattle.rules.specs.Operators.Stack.{actions}
-use Rattle.prepare.specs.Actions.{actionAt, key_at}
+use Rattle.prepare.specs.Actions.{action_at, key_at}
 use Rattle.prepare.proofs.OneAction.{chosen_none}
 use borrow.Author.Rules.{rules}
 use Rattle.prepare.proofs.own.action_of.Statement.{statement}
@@ -13,35 +13,35 @@ slice-aggregate-with-action : tie.Need-slice-aggregate-with-action
 slice-aggregate-with-action c = search rules
 
 with-action-requires : tie.Need-with-action-requires
-unfolding key_at actionAt actions ascii
+unfolding key_at action_at actions ascii
 with-action-requires c κs = (c.before.before.requires, ((lit≤ tt, lit≤ tt), (refl, chosen_none _)))
 
 slice-aggregate-with-action-2 : tie.Need-slice-aggregate-with-action-2
 slice-aggregate-with-action-2 c = search rules
 
 with-action-requires-2 : tie.Need-with-action-requires-2
-unfolding key_at actionAt actions ascii
+unfolding key_at action_at actions ascii
 with-action-requires-2 c κs = (c.before.before.before.before.requires, ((lit≤ tt, lit≤ tt), (refl, c.before.with-action.ensures)))
 
 slice-aggregate-with-action-3 : tie.Need-slice-aggregate-with-action-3
 slice-aggregate-with-action-3 c = search rules
 
 with-action-requires-3 : tie.Need-with-action-requires-3
-unfolding key_at actionAt actions ascii
+unfolding key_at action_at actions ascii
 with-action-requires-3 c κs = (c.before.before.before.before.before.before.requires, ((lit≤ tt, lit≤ tt), (refl, c.before.with-action2.ensures)))
 
 slice-aggregate-with-action-4 : tie.Need-slice-aggregate-with-action-4
 slice-aggregate-with-action-4 c = search rules
 
 with-action-requires-4 : tie.Need-with-action-requires-4
-unfolding key_at actionAt actions ascii
+unfolding key_at action_at actions ascii
 with-action-requires-4 c κs = (c.before.before.before.before.before.before.before.before.requires, ((lit≤ tt, lit≤ tt), (refl, c.before.with-action3.ensures)))
 
 slice-aggregate-with-action-5 : tie.Need-slice-aggregate-with-action-5
 slice-aggregate-with-action-5 c = search rules
 
 with-action-requires-5 : tie.Need-with-action-requires-5
-unfolding key_at actionAt actions ascii
+unfolding key_at action_at actions ascii
 with-action-requires-5 c κs =
     let start = c.before.before.before.before.before.before.before.before.before.before in
     let with-action4 = c.before.with-action4 in
@@ -51,7 +51,7 @@ slice-aggregate-with-action-6 : tie.Need-slice-aggregate-with-action-6
 slice-aggregate-with-action-6 c = search rules
 
 with-action-requires-6 : tie.Need-with-action-requires-6
-unfolding key_at actionAt actions ascii
+unfolding key_at action_at actions ascii
 with-action-requires-6 c κs =
     let start = c.before.before.before.before.before.before.before.before.before.before.before.before in
     let with-action5 = c.before.with-action5 in
@@ -61,7 +61,7 @@ slice-aggregate-with-action-7 : tie.Need-slice-aggregate-with-action-7
 slice-aggregate-with-action-7 c = search rules
 
 with-action-requires-7 : tie.Need-with-action-requires-7
-unfolding key_at actionAt actions ascii
+unfolding key_at action_at actions ascii
 with-action-requires-7 c κs =
     let start = c.before.before.before.before.before.before.before.before.before.before.before.before.before.before in
     let with-action6 = c.before.with-action6 in

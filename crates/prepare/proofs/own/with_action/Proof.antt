@@ -1,7 +1,7 @@
 -- One action more is looked at: the choice stays, or there is one more.
 use mathlib.Core.Path.{sym, ◌∙◌}
 use Rattle.laws_lists.specs.Tests.{not_so, not_left}
-use Rattle.prepare.proofs.OneAction.{with-same, with-one, with_two, with-more}
+use Rattle.prepare.proofs.OneAction.{with-same, with-one, with-two, with-more}
 use borrow.Author.Rules.{rules}
 use Rattle.prepare.proofs.own.with_action.Statement.{statement}
 use Rattle.prepare.proofs.own.with_action.Tie as tie
@@ -36,7 +36,7 @@ returns-3 c =
     let start = c.before.before.before.before.before.before in
     let is-given = c.before.before.before.is-given in
     let if1 = c.before.before.if1 in
-    with_two _ start.args.c start.requires.1.0.0 start.requires.1.0.1 start.requires.1.1.0 start.requires.1.1.1 (sym is-given.ensures ∙ not_left if1.false) c.enum-told2.given.1
+    with-two _ start.args.c start.requires.1.0.0 start.requires.1.0.1 start.requires.1.1.0 start.requires.1.1.1 (sym is-given.ensures ∙ not_left if1.false) c.enum-told2.given.1
 
 returns-4 : tie.Need-returns-4
 returns-4 c =

@@ -1,7 +1,7 @@
 -- The key is none of those in front: so the first part that has it gives the value, and none does where the walk ends.
 use Prim.Native.Nat.{◌-◌}
 use mathlib.Core.Path.{sym, ◌∙◌}
-use Rattle.parameters.specs.Parts.{tableIn}
+use Rattle.parameters.specs.Parts.{table_in}
 use Rattle.parameters.proofs.Tabled.{no_part}
 use Rattle.prepare.proofs.KeyLookup.{Looking, looking-none, looking-at, looking-found, looking-past, looking-end}
 use borrow.Author.Rules.{rules}
@@ -9,7 +9,7 @@ use Rattle.prepare.proofs.values.value_of.Statement.{statement}
 use Rattle.prepare.proofs.values.value_of.Tie as tie
 
 abbrev invariant-loop : tie.invariant-loop
-invariant-loop s row n key i₀ i = Looking s (tableIn row n) key i
+invariant-loop s row n key i₀ i = Looking s (table_in row n) key i
 
 abbrev decreases-loop : tie.decreases-loop
 decreases-loop s row n key i₀ i = n - i

@@ -1,5 +1,5 @@
 -- `bar_out`: before the first text nothing is put; before another the space that is owed, the space behind a text, and the bar: that is
--- `barText`, put piece by piece.
+-- `bar_text`, put piece by piece.
 use mathlib.Core.Path.{sym}
 use lib.Dec.{ltb}
 use Rattle.proj.proofs.Puts.{puts-as, puts-nothing, bar-first, bar-owed, bar-front, bar-byte, bar-done}

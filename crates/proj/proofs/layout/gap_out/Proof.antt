@@ -1,17 +1,17 @@
--- `gap_out`: the first text is put as it is, and another after a space: the two cases of `gapText`.
+-- `gap_out`: the first text is put as it is, and another after a space: the two cases of `gap_text`.
 use mathlib.Core.List.{[], ◌∷◌}
 use mathlib.Core.Path.{sym}
 use Rattle.rules.specs.Proj.Translate.{step_of}
 use Rattle.rules.specs.Text.Bytes.{words, Bytes}
 use Rattle.proj.proofs.Puts.{gap-first, gap-later, spot-as, puts-as, spot-first, spot-then, puts-both}
-use Rattle.proj_steps.specs.Plans.{pipelineOf}
+use Rattle.proj_steps.specs.Plans.{pipeline_of}
 use borrow.Author.Rules.{rules}
 use Rattle.proj.proofs.layout.gap_out.Statement.{statement}
 use Rattle.proj.proofs.layout.gap_out.Tie as tie
 
 -- the text of the step
 abbrev text : tie.Start → Bytes
-text s = step_of (pipelineOf s.args.g.now s.args.inverted) (words s.args.s.now)
+text s = step_of (pipeline_of s.args.g.now s.args.inverted) (words s.args.s.now)
 
 text_out-requires : tie.Need-text_out-requires
 text_out-requires c κs =

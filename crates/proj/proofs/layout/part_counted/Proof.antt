@@ -3,14 +3,14 @@
 use Rattle.rules.specs.Proj.Translate.{step_of}
 use Rattle.rules.specs.Text.Bytes.{words, Bytes}
 use Rattle.proj.proofs.Puts.{part-bar, part-first-empty, part-later-empty, part-gap, part-some, puts-kept, count_room, count_none, count-is, count-some}
-use Rattle.proj_steps.specs.Plans.{pipelineOf}
+use Rattle.proj_steps.specs.Plans.{pipeline_of}
 use borrow.Author.Rules.{rules}
 use Rattle.proj.proofs.layout.part_counted.Statement.{statement}
 use Rattle.proj.proofs.layout.part_counted.Tie as tie
 
 -- the text of the step
 abbrev text : tie.Start → Bytes
-text s = step_of (pipelineOf s.args.g.now s.args.inverted) (words s.args.s.now)
+text s = step_of (pipeline_of s.args.g.now s.args.inverted) (words s.args.s.now)
 
 bar-out-requires : tie.Need-bar-out-requires
 bar-out-requires c κs =

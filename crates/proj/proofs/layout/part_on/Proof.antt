@@ -7,14 +7,14 @@ use lib.ListN.{length-set}
 use Rattle.rules.specs.Proj.Translate.{step_of}
 use Rattle.rules.specs.Text.Bytes.{words, Bytes}
 use Rattle.proj.proofs.Puts.{part-bar, on-first-room, on-first-done, on-full, on-later-room, on-later-length, on-later-none, on-later-done}
-use Rattle.proj_steps.specs.Plans.{pipelineOf}
+use Rattle.proj_steps.specs.Plans.{pipeline_of}
 use borrow.Author.Rules.{rules}
 use Rattle.proj.proofs.layout.part_on.Statement.{statement}
 use Rattle.proj.proofs.layout.part_on.Tie as tie
 
 -- the text of the step
 abbrev text : tie.Start → Bytes
-text s = step_of (pipelineOf s.args.g.now s.args.inverted) (words s.args.s.now)
+text s = step_of (pipeline_of s.args.g.now s.args.inverted) (words s.args.s.now)
 
 bar-out-requires : tie.Need-bar-out-requires
 bar-out-requires c κs =

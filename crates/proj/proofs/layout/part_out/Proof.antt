@@ -2,14 +2,14 @@
 use Rattle.rules.specs.Proj.Translate.{step_of}
 use Rattle.rules.specs.Text.Bytes.{words, Bytes}
 use Rattle.proj.proofs.Puts.{spot_on, parted-on}
-use Rattle.proj_steps.specs.Plans.{pipelineOf}
+use Rattle.proj_steps.specs.Plans.{pipeline_of}
 use borrow.Author.Rules.{rules}
 use Rattle.proj.proofs.layout.part_out.Statement.{statement}
 use Rattle.proj.proofs.layout.part_out.Tie as tie
 
 -- the text of the step
 abbrev text : tie.Start → Bytes
-text s = step_of (pipelineOf s.args.g.now s.args.inverted) (words s.args.s.now)
+text s = step_of (pipeline_of s.args.g.now s.args.inverted) (words s.args.s.now)
 
 part-counted-requires : tie.Need-part-counted-requires
 part-counted-requires c κs = search rules

@@ -3,14 +3,14 @@ use native.Mathlib.Omega.{arith}
 use Rattle.rules.specs.Proj.Translate.{step_of}
 use Rattle.rules.specs.Text.Bytes.{words, Bytes}
 use Rattle.proj.proofs.Puts.{text-total, text-room, text-written, text-fits, text-counted}
-use Rattle.proj_steps.specs.Plans.{pipelineOf}
+use Rattle.proj_steps.specs.Plans.{pipeline_of}
 use borrow.Author.Rules.{rules}
 use Rattle.proj.proofs.layout.text_out.Statement.{statement}
 use Rattle.proj.proofs.layout.text_out.Tie as tie
 
 -- the text of the step
 abbrev text : tie.Start → Bytes
-text s = step_of (pipelineOf s.args.g.now s.args.inverted) (words s.args.s.now)
+text s = step_of (pipeline_of s.args.g.now s.args.inverted) (words s.args.s.now)
 
 place-requires : tie.Need-place-requires
 place-requires c κs =

@@ -1,7 +1,7 @@
--- `plain`: an empty element adds nothing, and of the omit marks each becomes the other: the cases of `exchangedMark`. Any other is added as
+-- `plain`: an empty element adds nothing, and of the omit marks each becomes the other: the cases of `exchanged_mark`. Any other is added as
 -- it is.
 use mathlib.Core.Path.{refl, sym, ◌∙◌}
-use Rattle.rules.specs.Text.Lists.{nonEmpty}
+use Rattle.rules.specs.Text.Lists.{non_empty}
 use Rattle.rules.specs.Text.Ascii.{ascii}
 use Rattle.laws_proj.specs.Tests.{some_is}
 use Rattle.proj_steps.proofs.Penned.{plain-empty, plain-room, plain_done, mark-fwd, mark-inv, mark-other}
@@ -25,7 +25,7 @@ slice-aggregate-word-2 : tie.Need-slice-aggregate-word-2
 slice-aggregate-word-2 c = search rules
 
 word-requires : tie.Need-word-requires
-unfolding ascii nonEmpty
+unfolding ascii non_empty
 word-requires c κs =
     let branch2 = c.before.before.before in
     let s = branch2.before.before.before.before.before.before in
@@ -35,7 +35,7 @@ same_length : tie.Need-same-length
 same_length c = search rules
 
 returns-2 : tie.Need-returns-2
-unfolding ascii nonEmpty
+unfolding ascii non_empty
 returns-2 c =
     let branch2 = c.before.before.before.before.before.before in
     let s = branch2.before.before.before.before.before.before in
@@ -54,7 +54,7 @@ slice-aggregate-word-4 : tie.Need-slice-aggregate-word-4
 slice-aggregate-word-4 c = search rules
 
 word-requires-2 : tie.Need-word-requires-2
-unfolding ascii nonEmpty
+unfolding ascii non_empty
 word-requires-2 c κs =
     let branch3 = c.before.before.before in
     let branch2 = branch3.before.before.before in
@@ -66,7 +66,7 @@ same-length-2 : tie.Need-same-length-2
 same-length-2 c = search rules
 
 returns-3 : tie.Need-returns-3
-unfolding ascii nonEmpty
+unfolding ascii non_empty
 returns-3 c =
     let branch3 = c.before.before.before.before.before.before in
     let branch2 = branch3.before.before.before in
@@ -79,7 +79,7 @@ slice-aggregate-word-5 : tie.Need-slice-aggregate-word-5
 slice-aggregate-word-5 c = search rules
 
 word-requires-3 : tie.Need-word-requires-3
-unfolding ascii nonEmpty
+unfolding ascii non_empty
 word-requires-3 c κs =
     let tested = c.before.before.before in
     let tested2 = tested.before.before.before in
@@ -92,7 +92,7 @@ same-length-3 : tie.Need-same-length-3
 same-length-3 c = search rules
 
 returns-4 : tie.Need-returns-4
-unfolding ascii nonEmpty
+unfolding ascii non_empty
 returns-4 c =
     let branch3 = c.before.before.before.before.before in
     let branch2 = branch3.before.before.before in

@@ -1,6 +1,6 @@
 -- `word`: a space if words have begun, then both pieces, one behind the other, are the word with its gap (`gapped`); each has room since
 -- all have.
-use Rattle.proj_steps.proofs.Added.{space-room, front-room, back-room, word-spaced, first-front, first_back, word_first}
+use Rattle.proj_steps.proofs.Added.{space-room, front-room, back-room, word-spaced, first-front, first_back, word-first}
 use borrow.Author.Rules.{rules}
 use Rattle.proj_steps.proofs.pen.word.Statement.{statement}
 use Rattle.proj_steps.proofs.pen.word.Tie as tie
@@ -57,7 +57,7 @@ returns-2 : tie.Need-returns-2
 returns-2 c =
     let added4 = c.before.before.before.before.before.before in
     let s = added4.before.before.before.before.before.before in
-    word_first s.args.front.now s.args.x.now s.requires added4.before.before.if1.false added4.add4.ensures c.before.before.add5.ensures
+    word-first s.args.front.now s.args.x.now s.requires added4.before.before.if1.false added4.add4.ensures c.before.before.add5.ensures
 
 pub word-spec : {M : Type 1} → statement M
 word-spec =

@@ -1,5 +1,5 @@
 -- `fate_of`: a word with `a=` or `rf=` is left out where it is the last of its kind, and the first with `k=` is the scale: each return is a
--- case of `tidyRest`.
+-- case of `tidy_rest`.
 use mathlib.Core.Path.{sym, ◌∙◌}
 use native.Mathlib.Omega.{arith}
 use Rattle.rules.specs.Text.Ascii.{ascii}

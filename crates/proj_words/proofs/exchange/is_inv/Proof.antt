@@ -1,6 +1,6 @@
--- `is_inv`: the comparison is the one of `isInv`.
+-- `is_inv`: the comparison is the one of `is_inv`.
 use Rattle.rules.specs.Text.Ascii.{ascii}
-use Rattle.rules.specs.Proj.Translate.{isInv}
+use Rattle.rules.specs.Proj.Translate.{is_inv}
 use borrow.Author.Rules.{rules}
 use Rattle.proj_words.proofs.exchange.is_inv.Statement.{statement}
 use Rattle.proj_words.proofs.exchange.is_inv.Tie as tie
@@ -12,7 +12,7 @@ is-same-requires : tie.Need-is-same-requires
 is-same-requires c κs = search rules
 
 returns : tie.Need-returns
-unfolding isInv ascii
+unfolding is_inv ascii
 returns c = c.is_same.ensures
 
 pub is-inv-spec : {M : Type 1} → statement M

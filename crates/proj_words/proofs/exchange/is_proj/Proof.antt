@@ -1,6 +1,6 @@
--- `is_proj`: the comparison is the one of `isProj`.
+-- `is_proj`: the comparison is the one of `is_proj`.
 use Rattle.rules.specs.Text.Ascii.{ascii}
-use Rattle.rules.specs.Proj.Words.{isProj}
+use Rattle.rules.specs.Proj.Words.{is_proj}
 use borrow.Author.Rules.{rules}
 use Rattle.proj_words.proofs.exchange.is_proj.Statement.{statement}
 use Rattle.proj_words.proofs.exchange.is_proj.Tie as tie
@@ -12,7 +12,7 @@ starts-at-requires : tie.Need-starts-at-requires
 starts-at-requires c κs = search rules
 
 returns : tie.Need-returns
-unfolding isProj ascii
+unfolding is_proj ascii
 returns c = c.starts-at.ensures
 
 pub is-proj-spec : {M : Type 1} → statement M

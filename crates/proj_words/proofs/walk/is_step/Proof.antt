@@ -1,5 +1,5 @@
--- `is_step`: the comparison is the one of `isStep`.
-use Rattle.rules.specs.Proj.Words.{isStep}
+-- `is_step`: the comparison is the one of `is_step`.
+use Rattle.rules.specs.Proj.Words.{is_step}
 use Rattle.rules.specs.Text.Ascii.{ascii}
 use borrow.Author.Rules.{rules}
 use Rattle.proj_words.proofs.walk.is_step.Statement.{statement}
@@ -12,7 +12,7 @@ is-same-requires : tie.Need-is-same-requires
 is-same-requires c κs = search rules
 
 returns : tie.Need-returns
-unfolding isStep ascii
+unfolding is_step ascii
 returns c = c.is_same.ensures
 
 pub is-step-spec : {M : Type 1} → statement M

@@ -2,7 +2,7 @@
 use mathlib.Core.Path.{refl, ap}
 use lib.ListN.{take}
 use Rattle.rules.specs.Operators.Acts.{pops}
-use Rattle.rules.specs.Operators.Arguments.{isPlace}
+use Rattle.rules.specs.Operators.Arguments.{is_place}
 use Rattle.laws_lists.specs.Lists.{all-reverse}
 use Rattle.laws_steps.specs.PlacesOf.{places-reverse}
 use Rattle.laws_records.specs.Operators.PushPop.{rising-places}
@@ -26,7 +26,7 @@ returns-2 c =
     record {
       same = rw (c.before.if1.false, c.reversed.ensures) (ap pops (places-reverse _));
       slots = s.requires.0;
-      rule = rw c.reversed.ensures (all-reverse isPlace (take s.args.n s.args.args) (rising-places 0 (take s.args.n s.args.args) s.requires.1));
+      rule = rw c.reversed.ensures (all-reverse is_place (take s.args.n s.args.args) (rising-places 0 (take s.args.n s.args.args) s.requires.1));
     }
 
 pub act-spec : {M : Type 1} → statement M

@@ -4,7 +4,7 @@ use Prim.Native.Nat.{◌-◌}
 use mathlib.Core.Path.{sym, ◌∙◌}
 use lib.ListN.{length}
 use lib.IntN.{pos}
-use Rattle.rules.specs.Operators.PushPop.{isRising}
+use Rattle.rules.specs.Operators.PushPop.{is_rising}
 use Rattle.laws_lists.specs.Tests.{not_so, not_left}
 use Rattle.pushpop.proofs.RisingPlaces.{rising-stray, rising-low, rising-next}
 use Rattle.numbers.proofs.Rest.{Rest, rest_all, rest-next, rest-here, rest_end}
@@ -13,7 +13,7 @@ use Rattle.pushpop.proofs.arguments.is_rising.Statement.{statement}
 use Rattle.pushpop.proofs.arguments.is_rising.Tie as tie
 
 abbrev invariant-loop : tie.invariant-loop
-invariant-loop l i₀ last₀ i last = Rest (isRising last) l i (isRising 0 l)
+invariant-loop l i₀ last₀ i last = Rest (is_rising last) l i (is_rising 0 l)
 
 abbrev decreases-loop : tie.decreases-loop
 decreases-loop l i₀ last₀ i last = length l - i
@@ -49,10 +49,10 @@ loop-again c =
     let loop = c.before.before.before.before.before.loop in
     let more = c.before.before.before.before.loop-test.true in
     let is_at = c.before.before.before.is_at.ensures in
-    rest-next (isRising _) (pos 0) loop.invariant more (rising-next _ _ _ _ c.before.size-at.ensures (sym is_at ∙ not_left c.before.before.if1.false) c.if2.false)
+    rest-next (is_rising _) (pos 0) loop.invariant more (rising-next _ _ _ _ c.before.size-at.ensures (sym is_at ∙ not_left c.before.before.if1.false) c.if2.false)
 
 returns-3 : tie.Need-returns-3 invariant-loop decreases-loop
-unfolding isRising
+unfolding is_rising
 returns-3 c = rest_end c.before.loop.invariant c.loop-test.false
 
 pub is-rising-spec : {M : Type 1} → statement M

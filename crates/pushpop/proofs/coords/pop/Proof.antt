@@ -1,9 +1,9 @@
 -- `pop`: popping what is left of the places out of what the columns still hold gives what popping all of them gives. A turn pops one more,
 -- or there is no column and the step stops at a NaN. What is left of the places is the measure.
 use Rattle.rules.specs.Operators.Arguments.{places}
-use Rattle.pushpop.proofs.Popped.{popsLeft, pop-none, pop-turn, pop-stops, pop-end, pop-acted}
+use Rattle.pushpop.proofs.Popped.{pops_left, pop-none, pop-turn, pop-stops, pop-end, pop-acted}
 use Rattle.columns.proofs.InStore.{under}
-use Rattle.columns.specs.Stores.{columnsOf}
+use Rattle.columns.specs.Stores.{columns_of}
 use Rattle.rules.specs.Pipeline.Tuples.{State, tuples, drained, stored}
 use native.Mathlib.Omega.{arith}
 use lib.ListN.{length, take, drop}
@@ -14,7 +14,7 @@ use Rattle.pushpop.proofs.coords.pop.Statement.{statement}
 use Rattle.pushpop.proofs.coords.pop.Tie as tie
 
 abbrev invariant-loop : tie.invariant-loop
-invariant-loop xs₀ store depth args n j₀ xs j = (popsLeft n depth args (tuples xs) store j ≡ drained (places args) (tuples xs₀) (columnsOf n depth store)) × (length xs ≡ length xs₀)
+invariant-loop xs₀ store depth args n j₀ xs j = (pops_left n depth args (tuples xs) store j ≡ drained (places args) (tuples xs₀) (columns_of n depth store)) × (length xs ≡ length xs₀)
 
 abbrev decreases-loop : tie.decreases-loop
 decreases-loop xs₀ store depth args n j₀ xs j = length args - j

@@ -1,8 +1,8 @@
--- `kind_of`: the keys are tried in the order of the list `axisKeys`: the first that is the same decides (`kind-here`, `kind-next`).
+-- `kind_of`: the keys are tried in the order of the list `axis_keys`: the first that is the same decides (`kind-here`, `kind-next`).
 use mathlib.Core.Path.{◌∙◌}
 use Rattle.rules.specs.Text.Ascii.{ascii}
 use Rattle.rules.specs.Operators.Keys.{flag}
-use Rattle.rules.specs.Operators.PushPop.{axisKeys}
+use Rattle.rules.specs.Operators.PushPop.{axis_keys}
 use Rattle.laws_records.specs.KeyKinds.{kind-here, kind-next, kind-end}
 use borrow.Author.Rules.{rules}
 use Rattle.pushpop.proofs.keys.kind_of.Statement.{statement}
@@ -15,7 +15,7 @@ is-same-requires : tie.Need-is-same-requires
 is-same-requires c κs = search rules
 
 returns : tie.Need-returns
-unfolding axisKeys flag ascii
+unfolding axis_keys flag ascii
 returns c = kind-here _ _ _ c.before.is_same.ensures c.if1.true
 
 slice-aggregate-is-same-2 : tie.Need-slice-aggregate-is-same-2
@@ -25,7 +25,7 @@ is-same-requires-2 : tie.Need-is-same-requires-2
 is-same-requires-2 c κs = search rules
 
 returns-2 : tie.Need-returns-2
-unfolding axisKeys flag ascii
+unfolding axis_keys flag ascii
 returns-2 c =
     let is_same = c.before.before.before.before.is_same.ensures in
     let left = c.before.before.before.if1.false in
@@ -38,7 +38,7 @@ is-same-requires-3 : tie.Need-is-same-requires-3
 is-same-requires-3 c κs = search rules
 
 returns-3 : tie.Need-returns-3
-unfolding axisKeys flag ascii
+unfolding axis_keys flag ascii
 returns-3 c =
     let is_same = c.before.before.before.before.before.before.before.is_same.ensures in
     let left1 = c.before.before.before.before.before.before.if1.false in
@@ -53,7 +53,7 @@ is-same-requires-4 : tie.Need-is-same-requires-4
 is-same-requires-4 c κs = search rules
 
 returns-4 : tie.Need-returns-4
-unfolding axisKeys flag ascii
+unfolding axis_keys flag ascii
 returns-4 c =
     let is_same = c.before.before.before.before.before.before.before.before.before.before.is_same.ensures in
     let left1 = c.before.before.before.before.before.before.before.before.before.if1.false in
@@ -67,7 +67,7 @@ returns-4 c =
     ∙ kind-next _ _ _ is_same left1
 
 returns-5 : tie.Need-returns-5
-unfolding axisKeys flag ascii
+unfolding axis_keys flag ascii
 returns-5 c =
     let is_same = c.before.before.before.before.before.before.before.before.before.before.is_same.ensures in
     let left1 = c.before.before.before.before.before.before.before.before.before.if1.false in

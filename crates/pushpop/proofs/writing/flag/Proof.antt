@@ -3,7 +3,7 @@ use Rattle.numbers.proofs.Listed.{all-at}
 use Rattle.pushpop.proofs.Words.{place-less, prefix-room, axis-room, flag-written}
 use native.Mathlib.Omega.{arith}
 use lib.IntN.{pos}
-use Rattle.rules.specs.Operators.Arguments.{isPlace}
+use Rattle.rules.specs.Operators.Arguments.{is_place}
 use borrow.Author.Rules.{rules}
 use Rattle.pushpop.proofs.writing.flag.Statement.{statement}
 use Rattle.pushpop.proofs.writing.flag.Tie as tie
@@ -20,12 +20,12 @@ size-at-requires c κs = c.before.before.before.before.before.before.requires.0
 cast-put-byte : tie.Need-overflow-cast-put-byte
 cast-put-byte c =
     let s = c.before.before.before.before.before.before.before in
-    omega (arith, place-less _ c.size-at.ensures (all-at isPlace _ _ (pos 0) s.requires.0 s.requires.1.0))
+    omega (arith, place-less _ c.size-at.ensures (all-at is_place _ _ (pos 0) s.requires.0 s.requires.1.0))
 
 add-put-byte : tie.Need-overflow-add-put-byte
 add-put-byte c =
     let s = c.before.before.before.before.before.before.before in
-    omega (arith, place-less _ c.size-at.ensures (all-at isPlace _ _ (pos 0) s.requires.0 s.requires.1.0))
+    omega (arith, place-less _ c.size-at.ensures (all-at is_place _ _ (pos 0) s.requires.0 s.requires.1.0))
 
 put-byte-requires : tie.Need-put-byte-requires
 put-byte-requires c κs =

@@ -2,8 +2,8 @@
 use Rattle.pushpop.proofs.Words.{flags-rest}
 use Rattle.numbers.proofs.EachInTurn.{Going, going_start, going-room, going-turn, going-length, going_end}
 use Rattle.pushpop.specs.Flags.{flagged}
-use Rattle.rules.specs.Operators.PushPop.{flagOf}
-use Rattle.rules.specs.Text.Bytes.{afterEach}
+use Rattle.rules.specs.Operators.PushPop.{flag_of}
+use Rattle.rules.specs.Text.Bytes.{after_each}
 use mathlib.Core.Bool.{false}
 use mathlib.Core.List.{[], ◌∷◌, map}
 use Prim.Native.Nat.{◌-◌}
@@ -14,7 +14,7 @@ use Rattle.pushpop.proofs.writing.flags.Statement.{statement}
 use Rattle.pushpop.proofs.writing.flags.Tie as tie
 
 abbrev invariant-loop : tie.invariant-loop
-invariant-loop l out₀ o e₀ i₀ out e i = Going flagged (afterEach (32 ∷ []) (map flagOf l)) l out₀ o i e out
+invariant-loop l out₀ o e₀ i₀ out e i = Going flagged (after_each (32 ∷ []) (map flag_of l)) l out₀ o i e out
 
 abbrev decreases-loop : tie.decreases-loop
 decreases-loop l out₀ o e₀ i₀ out e i = length l - i

@@ -2,7 +2,7 @@
 -- own call ensures in the step's own direction is what the rules say.
 use mathlib.Core.Path.{refl}
 use native.Mathlib.Omega.{arith}
-use Rattle.rules.specs.Operators.Documented.{adaptIn}
+use Rattle.rules.specs.Operators.Documented.{adapt_in}
 use Rattle.rules.specs.Pipeline.Record.{args}
 use Rattle.rules.specs.declared.Mode.TheVariants as mode-is
 use Rattle.laws_records.specs.MadeSo.{made_so}
@@ -29,7 +29,7 @@ act-of-requires c κs =
     ((made_so _ start.requires).slots, order-rule _ start.requires c.match.keys1)
 
 act-of-requires-2 : tie.Need-act-of-requires-2
-unfolding args adaptIn
+unfolding args adapt_in
 act-of-requires-2 c κs =
     let start = c.before.before.before.before in
     ((made_so _ start.requires).slots, adapt-rule _ start.requires mode-is.Documented (the-documented c.match.keys2))
@@ -46,7 +46,7 @@ act-of-requires-4 c κs =
     action-rule _ start.requires (omega (arith, c.before.if1.false)) (omega (arith, c.if2.true))
 
 act-of-requires-5 : tie.Need-act-of-requires-5
-unfolding args adaptIn
+unfolding args adapt_in
 act-of-requires-5 c κs =
     let start = c.before.before.before.before.before.before in
     let match = c.before.before.match in
@@ -61,7 +61,7 @@ returns c =
     does-as (does-so s.args.direction s.args.step (the-order c.before.match.keys1) directed.ensures) c.act-of.ensures
 
 returns-2 : tie.Need-returns-2
-unfolding args adaptIn
+unfolding args adapt_in
 returns-2 c =
     let before = c.before.before.before.before.before in
     let directed = c.before.before.directed in
@@ -85,7 +85,7 @@ returns-4 c =
     does-as (does-so s.args.direction s.args.step refl directed.ensures) c.act-of4.ensures
 
 returns-5 : tie.Need-returns-5
-unfolding args adaptIn
+unfolding args adapt_in
 returns-5 c =
     let before = c.before.before.before.before.before.before.before in
     let directed = c.before.before.before.before.directed in

@@ -1,4 +1,4 @@
--- `is_args`: each arm knows which operators it has, and there `isArgs` is the rule that the operator's own call tests.
+-- `is_args`: each arm knows which operators it has, and there `is_args` is the rule that the operator's own call tests.
 use mathlib.Core.Path.{◌∙◌}
 use native.Mathlib.Omega.{arith}
 use Rattle.record.proofs.OperatorRules.{args-flags, args-order, args-documented, args-adapt}

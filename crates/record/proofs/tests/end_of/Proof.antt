@@ -1,6 +1,6 @@
 -- `end_of`: the two numbers of a span have four bytes each, so that their sum has room; and it is where the span ends.
 use mathlib.Core.Path.{refl}
-use Rattle.rules.specs.Pipeline.Record.{spanEnd}
+use Rattle.rules.specs.Pipeline.Record.{span_end}
 use borrow.Author.Rules.{rules}
 use Rattle.record.proofs.tests.end_of.Statement.{statement}
 use Rattle.record.proofs.tests.end_of.Tie as tie
@@ -15,7 +15,7 @@ add-result : tie.Need-overflow-add-result
 add-result c = search rules
 
 returns : tie.Need-returns
-unfolding spanEnd
+unfolding span_end
 returns c = refl
 
 pub end-of-spec : {M : Type 1} → statement M

@@ -1,4 +1,4 @@
--- `is_behind`: the three tests are those of `goodSpan`, in its order; the first that fails decides.
+-- `is_behind`: the three tests are those of `good_span`, in its order; the first that fails decides.
 use native.Mathlib.Omega.{arith}
 use Rattle.record.proofs.Refused18.{span-empty, span-far, span-near}
 use borrow.Author.Rules.{rules}

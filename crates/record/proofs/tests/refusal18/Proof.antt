@@ -1,12 +1,12 @@
 -- `refusal18`: more than 64 records are refused at 0. Else the first i records are good in the reading of the first, so those from i on
 -- decide (`Rest`), and the first that is not is the place. What is left of n is the measure.
 use native.Mathlib.Omega.{arith}
-use Rattle.record.specs.Records.{badOf}
+use Rattle.record.specs.Records.{bad_of}
 use Prim.Native.Nat.{◌+◌, ◌-◌}
 use mathlib.Core.Path.{◌≡◌, sym, ap, ◌∙◌}
 use lib.ListN.{length, take, length-map, length-take}
 use lib.Seq.{get_or-take}
-use Rattle.rules.specs.Pipeline.Record.{spanEnd, goodIn, firstBad}
+use Rattle.rules.specs.Pipeline.Record.{span_end, good_in, first_bad}
 use Rattle.rules.specs.declared.Step.{Step}
 use Rattle.laws_lists.specs.Tests.{not_so, not_left}
 use Rattle.record.proofs.Refused18.{bad-long, bad-few, bad-next, bad-here, bad-none}
@@ -16,7 +16,7 @@ use Rattle.record.proofs.tests.refusal18.Statement.{statement}
 use Rattle.record.proofs.tests.refusal18.Tie as tie
 
 abbrev invariant-loop : tie.invariant-loop
-invariant-loop table n reading end₀ i₀ end i = Rest (firstBad reading end (i + 1)) (take n table.steps) i (firstBad reading 0 1 (take n table.steps))
+invariant-loop table n reading end₀ i₀ end i = Rest (first_bad reading end (i + 1)) (take n table.steps) i (first_bad reading 0 1 (take n table.steps))
 
 abbrev decreases-loop : tie.decreases-loop
 decreases-loop table n reading end₀ i₀ end i = n - i
@@ -47,14 +47,14 @@ good-in-requires : tie.Need-good-in-requires invariant-loop decreases-loop
 good-in-requires c κs = search rules
 
 returns-2 : tie.Need-returns-2 invariant-loop decreases-loop
-unfolding badOf
+unfolding bad_of
 returns-2 c =
     let s = c.before.before.before.before.before.before.before in
     let left = c.before.before.before.before.before.before.if1.false in
     let loop = c.before.before.before.before.loop in
     let more = c.before.before.before.loop-test.true in
-    ap badOf (rest-here _ loop.invariant (rw length-take (omega (arith, more, left, full s)))
-    (bad-here _ _ _ _ _ (ap (goodIn _ _) (get_or-take _ _ _ _ more) ∙ sym c.before.good-in.ensures ∙ not_so c.if2.true))
+    ap bad_of (rest-here _ loop.invariant (rw length-take (omega (arith, more, left, full s)))
+    (bad-here _ _ _ _ _ (ap (good_in _ _) (get_or-take _ _ _ _ more) ∙ sym c.before.good-in.ensures ∙ not_so c.if2.true))
     ∙ sym (bad-few _ _ (full s) left))
 
 loop-less : tie.Need-loop-smaller invariant-loop decreases-loop
@@ -69,17 +69,17 @@ loop-again c =
     let left = c.before.before.before.before.before.before.before.if1.false in
     let loop = c.before.before.before.before.before.loop in
     let more = c.before.before.before.before.loop-test.true in
-    rest-next (firstBad _ _ _) _ loop.invariant
+    rest-next (first_bad _ _ _) _ loop.invariant
     (rw length-take (omega (arith, more, left, full s)))
-    (bad-next _ _ _ _ _ (ap (goodIn _ _) (get_or-take _ _ _ _ more) ∙ sym c.before.before.good-in.ensures ∙ not_left c.before.if2.false)
-    (c.end_of_lem.ensures ∙ ap (λ (t : Step). spanEnd t.span) (sym (get_or-take _ _ _ _ more))))
+    (bad-next _ _ _ _ _ (ap (good_in _ _) (get_or-take _ _ _ _ more) ∙ sym c.before.before.good-in.ensures ∙ not_left c.before.if2.false)
+    (c.end_of_lem.ensures ∙ ap (λ (t : Step). span_end t.span) (sym (get_or-take _ _ _ _ more))))
 
 returns-3 : tie.Need-returns-3 invariant-loop decreases-loop
-unfolding badOf
+unfolding bad_of
 returns-3 c =
     let s = c.before.before.before.before in
     let left = c.before.before.before.if1.false in
-    ap badOf (sym (bad-none _ _ _)
+    ap bad_of (sym (bad-none _ _ _)
     ∙ rest_end c.before.loop.invariant
     (rw length-take (omega (arith, c.loop-test.false, left, full s)))
     ∙ sym (bad-few _ _ (full s) left))

@@ -1,6 +1,6 @@
 -- By the four cases of the verdict.
 use mathlib.Core.Path.{sym, ap}
-use Rattle.rules.specs.Face.Plain.{plainVerdict}
+use Rattle.rules.specs.Face.Plain.{plain_verdict}
 use borrow.Author.Rules.{rules}
 use Rattle.sakondreno.proofs.plain.verdict_of.Statement.{statement}
 use Rattle.sakondreno.proofs.plain.verdict_of.Tie as tie
@@ -18,20 +18,20 @@ enum-known-v-3 : tie.Need-enum-known-v-3
 enum-known-v-3 c = search rules
 
 returns : tie.Need-returns
-unfolding plainVerdict
-returns c = sym (ap plainVerdict c.enum_told.given.1)
+unfolding plain_verdict
+returns c = sym (ap plain_verdict c.enum_told.given.1)
 
 returns-2 : tie.Need-returns-2
-unfolding plainVerdict
-returns-2 c = sym (ap plainVerdict c.before.v.given.1)
+unfolding plain_verdict
+returns-2 c = sym (ap plain_verdict c.before.v.given.1)
 
 returns-3 : tie.Need-returns-3
-unfolding plainVerdict
-returns-3 c = sym (ap plainVerdict c.before.v2.given.1)
+unfolding plain_verdict
+returns-3 c = sym (ap plain_verdict c.before.v2.given.1)
 
 returns-4 : tie.Need-returns-4
-unfolding plainVerdict
-returns-4 c = sym (ap plainVerdict c.before.v3.given.1)
+unfolding plain_verdict
+returns-4 c = sym (ap plain_verdict c.before.v3.given.1)
 
 pub verdict-of-spec : {M : Type 1} → statement M
 verdict-of-spec =

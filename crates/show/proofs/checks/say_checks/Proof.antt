@@ -1,6 +1,6 @@
 -- Two pieces: the check forward, and the check inverse.
 use Rattle.show.proofs.TwoPieces.{first-room, second-room, both-said}
-use Rattle.rules.specs.Face.Shown.{verdictLine, bothChecks}
+use Rattle.rules.specs.Face.Shown.{verdict_line, both_checks}
 use Rattle.rules.specs.Text.Ascii.{ascii}
 use Rattle.rules.specs.Pipeline.Record.{listed}
 use Rattle.rules.specs.Pipeline.Check.{check}
@@ -16,11 +16,11 @@ slice-aggregate-say-check : tie.Need-slice-aggregate-say-check
 slice-aggregate-say-check c = search rules
 
 say-check-requires : tie.Need-say-check-requires
-unfolding bothChecks ascii
+unfolding both_checks ascii
 say-check-requires c κs =
     let t = c.before.before.before.before in
     rw c.before.before.check.ensures.exactly
-    (first-room (verdictLine (ascii "forward: ") (check Forward (listed t.args.table))) (verdictLine (ascii "inverse: ") (check Inverse (listed t.args.table))) t.args.out.now
+    (first-room (verdict_line (ascii "forward: ") (check Forward (listed t.args.table))) (verdict_line (ascii "inverse: ") (check Inverse (listed t.args.table))) t.args.out.now
     t.args.at t.requires)
 
 check-requires-2 : tie.Need-check-requires-2
@@ -30,21 +30,21 @@ slice-aggregate-say-check-2 : tie.Need-slice-aggregate-say-check-2
 slice-aggregate-say-check-2 c = search rules
 
 say-check-requires-2 : tie.Need-say-check-requires-2
-unfolding bothChecks ascii
+unfolding both_checks ascii
 say-check-requires-2 c κs =
     let t = c.before.before.before.before.before.before.before.before.before.before in
     rw c.before.before.check2.ensures.exactly
-    (second-room (verdictLine (ascii "forward: ") (check Forward (listed t.args.table))) (verdictLine (ascii "inverse: ") (check Inverse (listed t.args.table))) t.args.out.now
+    (second-room (verdict_line (ascii "forward: ") (check Forward (listed t.args.table))) (verdict_line (ascii "inverse: ") (check Inverse (listed t.args.table))) t.args.out.now
     t.args.at t.requires (rw c.before.before.before.before.before.before.before.before.check.ensures.exactly at c.before.before.before.before.before.say-check.ensures))
 
 same_length : tie.Need-same-length
 same_length c = search rules
 
 returns : tie.Need-returns
-unfolding bothChecks ascii
+unfolding both_checks ascii
 returns c =
     let t = c.before.before.before.before.before.before.before.before.before.before.before.before.before in
-    both-said (verdictLine (ascii "forward: ") (check Forward (listed t.args.table))) (verdictLine (ascii "inverse: ") (check Inverse (listed t.args.table))) t.args.out.now
+    both-said (verdict_line (ascii "forward: ") (check Forward (listed t.args.table))) (verdict_line (ascii "inverse: ") (check Inverse (listed t.args.table))) t.args.out.now
     t.args.at t.requires
     (rw c.before.before.before.before.before.before.before.before.before.before.before.check.ensures.exactly at
     c.before.before.before.before.before.before.before.before.say-check.ensures)

@@ -1,6 +1,6 @@
 -- By the four cases of the verdict.
 use Rattle.show.proofs.Verdicts.{judged-room, judged-said}
-use Rattle.rules.specs.Face.Shown.{verdictText}
+use Rattle.rules.specs.Face.Shown.{verdict_text}
 use Rattle.rules.specs.Text.Ascii.{ascii}
 use Rattle.rules.specs.declared.Verdict.TheVariants.{Passes, TooFew, TooMany, Refused}
 use borrow.Author.Rules.{rules}
@@ -11,7 +11,7 @@ enum_told : tie.Need-enum-told
 enum_told c = search rules
 
 say-passed-requires : tie.Need-say-passed-requires
-unfolding verdictText ascii
+unfolding verdict_text ascii
 say-passed-requires c κs =
     let t = c.before.before.before.before in judged-room t.args.f.verdict (Passes) t.args.f t.args.out.now t.args.at c.before.enum_told.given.1 t.requires
 
@@ -22,7 +22,7 @@ slice-aggregate-say-step : tie.Need-slice-aggregate-say-step
 slice-aggregate-say-step c = search rules
 
 say-step-requires : tie.Need-say-step-requires
-unfolding verdictText ascii
+unfolding verdict_text ascii
 say-step-requires c κs =
     let t = c.before.before.before.before.before.before in
     judged-room t.args.f.verdict (TooFew c.before.before.before.v.given.0.0) t.args.f t.args.out.now t.args.at c.before.before.before.v.given.1 t.requires
@@ -34,7 +34,7 @@ slice-aggregate-say-step-2 : tie.Need-slice-aggregate-say-step-2
 slice-aggregate-say-step-2 c = search rules
 
 say-step-requires-2 : tie.Need-say-step-requires-2
-unfolding verdictText ascii
+unfolding verdict_text ascii
 say-step-requires-2 c κs =
     let t = c.before.before.before.before.before.before in
     judged-room t.args.f.verdict (TooMany c.before.before.before.v2.given.0.0) t.args.f t.args.out.now t.args.at c.before.before.before.v2.given.1 t.requires
@@ -43,7 +43,7 @@ enum-known-v-3 : tie.Need-enum-known-v-3
 enum-known-v-3 c = search rules
 
 say-refused-requires : tie.Need-say-refused-requires
-unfolding verdictText ascii
+unfolding verdict_text ascii
 say-refused-requires c κs =
     let t = c.before.before.before.before.before in
     judged-room t.args.f.verdict (Refused c.before.before.v3.given.0.0 c.before.before.v3.given.0.1.0) t.args.f t.args.out.now t.args.at
@@ -53,7 +53,7 @@ same_length : tie.Need-same-length
 same_length c = search rules
 
 returns : tie.Need-returns
-unfolding verdictText ascii
+unfolding verdict_text ascii
 returns c =
     let t = c.before.before.before.before.before.before.before in
     judged-said t.args.f.verdict (Passes) t.args.f t.args.out.now t.args.at c.before.before.before.before.enum_told.given.1 c.before.before.say-passed.ensures
@@ -62,7 +62,7 @@ same-length-2 : tie.Need-same-length-2
 same-length-2 c = search rules
 
 returns-2 : tie.Need-returns-2
-unfolding verdictText ascii
+unfolding verdict_text ascii
 returns-2 c =
     let t = c.before.before.before.before.before.before.before.before.before in
     judged-said t.args.f.verdict (TooFew c.before.before.before.before.before.before.v.given.0.0) t.args.f t.args.out.now t.args.at
@@ -72,7 +72,7 @@ same-length-3 : tie.Need-same-length-3
 same-length-3 c = search rules
 
 returns-3 : tie.Need-returns-3
-unfolding verdictText ascii
+unfolding verdict_text ascii
 returns-3 c =
     let t = c.before.before.before.before.before.before.before.before.before in
     judged-said t.args.f.verdict (TooMany c.before.before.before.before.before.before.v2.given.0.0) t.args.f t.args.out.now t.args.at
@@ -82,7 +82,7 @@ same-length-4 : tie.Need-same-length-4
 same-length-4 c = search rules
 
 returns-4 : tie.Need-returns-4
-unfolding verdictText ascii
+unfolding verdict_text ascii
 returns-4 c =
     let t = c.before.before.before.before.before.before.before.before in
     judged-said t.args.f.verdict (Refused c.before.before.before.before.before.v3.given.0.0 c.before.before.before.before.before.v3.given.0.1.0) t.args.f

@@ -1,6 +1,6 @@
 -- Two pieces, each of two places; the array has just these four.
 use Rattle.show.proofs.TwoPieces.{first-room, second-room, both-said}
-use Rattle.rules.specs.Face.Shown.{twoPlaces, fourPlaces}
+use Rattle.rules.specs.Face.Shown.{two_places, four_places}
 use Rattle.rules.specs.Text.Ascii.{ascii}
 use Rattle.rules.specs.Pipeline.Check.{nth}
 use borrow.Author.Rules.{rules}
@@ -23,29 +23,29 @@ slice-aggregate-say-pair : tie.Need-slice-aggregate-say-pair
 slice-aggregate-say-pair c = search rules
 
 say-pair-requires : tie.Need-say-pair-requires
-unfolding fourPlaces ascii
+unfolding four_places ascii
 say-pair-requires c κs =
     let t = c.before.before.before.before.before.before.before in
-    first-room (twoPlaces (ascii " places ") (nth t.args.t1 0) (nth t.args.t1 1)) (twoPlaces (ascii ",") (nth t.args.t1 2) (nth t.args.t1 3)) t.args.out.now t.args.at t.requires
+    first-room (two_places (ascii " places ") (nth t.args.t1 0) (nth t.args.t1 1)) (two_places (ascii ",") (nth t.args.t1 2) (nth t.args.t1 3)) t.args.out.now t.args.at t.requires
 
 slice-aggregate-say-pair-2 : tie.Need-slice-aggregate-say-pair-2
 slice-aggregate-say-pair-2 c = search rules
 
 say-pair-requires-2 : tie.Need-say-pair-requires-2
-unfolding fourPlaces ascii
+unfolding four_places ascii
 say-pair-requires-2 c κs =
     let t = c.before.before.before.before.before.before.before.before.before.before.before.before in
-    second-room (twoPlaces (ascii " places ") (nth t.args.t1 0) (nth t.args.t1 1)) (twoPlaces (ascii ",") (nth t.args.t1 2) (nth t.args.t1 3)) t.args.out.now t.args.at
+    second-room (two_places (ascii " places ") (nth t.args.t1 0) (nth t.args.t1 1)) (two_places (ascii ",") (nth t.args.t1 2) (nth t.args.t1 3)) t.args.out.now t.args.at
     t.requires c.before.before.before.before.say-pair.ensures
 
 same_length : tie.Need-same-length
 same_length c = search rules
 
 returns : tie.Need-returns
-unfolding fourPlaces ascii
+unfolding four_places ascii
 returns c =
     let t = c.before.before.before.before.before.before.before.before.before.before.before.before.before.before.before in
-    both-said (twoPlaces (ascii " places ") (nth t.args.t1 0) (nth t.args.t1 1)) (twoPlaces (ascii ",") (nth t.args.t1 2) (nth t.args.t1 3)) t.args.out.now t.args.at
+    both-said (two_places (ascii " places ") (nth t.args.t1 0) (nth t.args.t1 1)) (two_places (ascii ",") (nth t.args.t1 2) (nth t.args.t1 3)) t.args.out.now t.args.at
     t.requires c.before.before.before.before.before.before.before.say-pair.ensures c.before.before.say-pair2.ensures
 
 pub say-places-spec : {M : Type 1} → statement M

@@ -1,7 +1,7 @@
 -- Two pieces: the word with its minus, and the place's digits.
 use Rattle.show.proofs.TwoPieces.{first-room, second-room, both-said}
 use Rattle.rules.specs.Text.Numerals.{digits}
-use Rattle.rules.specs.Face.Shown.{counted, signedPlace}
+use Rattle.rules.specs.Face.Shown.{counted, signed_place}
 use Rattle.rules.specs.Text.Ascii.{ascii}
 use mathlib.Core.List.{[], ◌++◌}
 use mathlib.Core.Bool.{cond}
@@ -13,12 +13,12 @@ wide-requires : tie.Need-wide-requires
 wide-requires c κs = search rules
 
 say-marked-requires : tie.Need-say-marked-requires
-unfolding signedPlace counted
+unfolding signed_place counted
 say-marked-requires c κs =
     let t = c.before.before.before.before in first-room (t.args.word.now ++ cond t.args.p.minus (ascii "-") []) (digits t.args.p.axis) t.args.out.now t.args.at t.requires
 
 put-digits-requires : tie.Need-put-digits-requires
-unfolding signedPlace counted
+unfolding signed_place counted
 put-digits-requires c κs =
     let t = c.before.before.before.before.before.before.before.before in
     rw c.before.before.before.before.before.wide.ensures
@@ -29,7 +29,7 @@ same_length : tie.Need-same-length
 same_length c = search rules
 
 returns : tie.Need-returns
-unfolding signedPlace counted
+unfolding signed_place counted
 returns c =
     let t = c.before.before.before.before.before.before.before.before.before.before.before in
     both-said (t.args.word.now ++ cond t.args.p.minus (ascii "-") []) (digits t.args.p.axis) t.args.out.now t.args.at t.requires

@@ -1,5 +1,5 @@
 -- `act_of`: each arm knows its direction, and what the action does there is what `forward` or `inverse` ensures.
-use Rattle.rules.specs.Pipeline.Running.{actOf}
+use Rattle.rules.specs.Pipeline.Running.{act_of}
 use borrow.Author.Rules.{rules}
 use Rattle.stack.proofs.acts.act_of.Statement.{statement}
 use Rattle.stack.proofs.acts.act_of.Tie as tie
@@ -17,11 +17,11 @@ inverse-requires : tie.Need-inverse-requires
 inverse-requires c κs = search rules
 
 returns : tie.Need-returns
-unfolding actOf
+unfolding act_of
 returns c = rw c.before.enum_told.given.1 c.forward.ensures
 
 returns-2 : tie.Need-returns-2
-unfolding actOf
+unfolding act_of
 returns-2 c = rw c.before.enum-told2.given.1 c.inverse.ensures
 
 pub act-of-spec : {M : Type 1} → statement M

@@ -1,13 +1,13 @@
 -- `is_places`: no argument at all is refused; else all of them must be places, which one loop tests.
 use Rattle.stack.proofs.SomePlaces.{places-so}
 use mathlib.Core.Path.{refl, ◌∙◌}
-use Rattle.rules.specs.Operators.Stack.{isPlaces}
+use Rattle.rules.specs.Operators.Stack.{is_places}
 use borrow.Author.Rules.{rules}
 use Rattle.stack.proofs.arguments.is_places.Statement.{statement}
 use Rattle.stack.proofs.arguments.is_places.Tie as tie
 
 returns : tie.Need-returns
-unfolding isPlaces
+unfolding is_places
 returns c = rw c.if1.true refl
 
 are-of-requires : tie.Need-are-of-requires

@@ -1,8 +1,8 @@
--- `kind_of`: the keys are tried in the order of the list `actionKeys`: the first that is the same decides (`kind-here`, `kind-next`).
+-- `kind_of`: the keys are tried in the order of the list `action_keys`: the first that is the same decides (`kind-here`, `kind-next`).
 use mathlib.Core.Path.{◌∙◌}
 use Rattle.rules.specs.Text.Ascii.{ascii}
 use Rattle.rules.specs.Operators.Keys.{flag, numbered}
-use Rattle.rules.specs.Operators.Stack.{actionKeys}
+use Rattle.rules.specs.Operators.Stack.{action_keys}
 use Rattle.laws_records.specs.KeyKinds.{kind-here, kind-next, kind-end}
 use borrow.Author.Rules.{rules}
 use Rattle.stack.proofs.keys.kind_of.Statement.{statement}
@@ -15,7 +15,7 @@ is-same-requires : tie.Need-is-same-requires
 is-same-requires c κs = search rules
 
 returns : tie.Need-returns
-unfolding actionKeys flag numbered ascii
+unfolding action_keys flag numbered ascii
 returns c = kind-here _ _ _ c.before.is_same.ensures c.if1.true
 
 slice-aggregate-is-same-2 : tie.Need-slice-aggregate-is-same-2
@@ -25,7 +25,7 @@ is-same-requires-2 : tie.Need-is-same-requires-2
 is-same-requires-2 c κs = search rules
 
 returns-2 : tie.Need-returns-2
-unfolding actionKeys flag numbered ascii
+unfolding action_keys flag numbered ascii
 returns-2 c =
     kind-here _ _ _ c.before.is-same2.ensures c.if2.true
     ∙ kind-next _ _ _ c.before.before.before.before.is_same.ensures c.before.before.before.if1.false
@@ -37,7 +37,7 @@ is-same-requires-3 : tie.Need-is-same-requires-3
 is-same-requires-3 c κs = search rules
 
 returns-3 : tie.Need-returns-3
-unfolding actionKeys flag numbered ascii
+unfolding action_keys flag numbered ascii
 returns-3 c =
     let is_same = c.before.before.before.before.before.before.before.is_same.ensures in
     let left1 = c.before.before.before.before.before.before.if1.false in
@@ -54,7 +54,7 @@ is-same-requires-4 : tie.Need-is-same-requires-4
 is-same-requires-4 c κs = search rules
 
 returns-4 : tie.Need-returns-4
-unfolding actionKeys flag numbered ascii
+unfolding action_keys flag numbered ascii
 returns-4 c =
     let is_same = c.before.before.before.before.before.before.before.before.before.before.is_same.ensures in
     let left1 = c.before.before.before.before.before.before.before.before.before.if1.false in
@@ -74,7 +74,7 @@ is-same-requires-5 : tie.Need-is-same-requires-5
 is-same-requires-5 c κs = search rules
 
 returns-5 : tie.Need-returns-5
-unfolding actionKeys flag numbered ascii
+unfolding action_keys flag numbered ascii
 returns-5 c =
     let is_same = c.before.before.before.before.before.before.before.before.before.before.before.before.before.is_same.ensures in
     let left1 = c.before.before.before.before.before.before.before.before.before.before.before.before.if1.false in
@@ -97,7 +97,7 @@ is-same-requires-6 : tie.Need-is-same-requires-6
 is-same-requires-6 c κs = search rules
 
 returns-6 : tie.Need-returns-6
-unfolding actionKeys flag numbered ascii
+unfolding action_keys flag numbered ascii
 returns-6 c =
     let is_same = c.before.before.before.before.before.before.before.before.before.before.before.before.before.before.before.before.is_same.ensures in
     let left1 = c.before.before.before.before.before.before.before.before.before.before.before.before.before.before.before.if1.false in
@@ -123,7 +123,7 @@ is-same-requires-7 : tie.Need-is-same-requires-7
 is-same-requires-7 c κs = search rules
 
 returns-7 : tie.Need-returns-7
-unfolding actionKeys flag numbered ascii
+unfolding action_keys flag numbered ascii
 returns-7 c =
     let is_same = c.before.before.before.before.before.before.before.before.before.before.before.before.before.before.before.before.before.before.before.is_same.ensures in
     let left1 = c.before.before.before.before.before.before.before.before.before.before.before.before.before.before.before.before.before.before.if1.false in
@@ -146,7 +146,7 @@ returns-7 c =
     ∙ kind-next _ _ _ is_same left1
 
 returns-8 : tie.Need-returns-8
-unfolding actionKeys flag numbered ascii
+unfolding action_keys flag numbered ascii
 returns-8 c =
     let is_same = c.before.before.before.before.before.before.before.before.before.before.before.before.before.before.before.before.before.before.before.is_same.ensures in
     let left1 = c.before.before.before.before.before.before.before.before.before.before.before.before.before.before.before.before.before.before.if1.false in

@@ -1,13 +1,13 @@
 -- `end_of`: the first k bytes trim to what s trims to, since each byte from k on goes (`Ending`). k itself is the measure.
 use mathlib.Core.Path.{sym, ◌∙◌}
 use Rattle.text.proofs.Trimmed.{Ending, ending-none, ending-cut, ending_here, ending-end}
-use Rattle.text.specs.Places.{cutBy}
+use Rattle.text.specs.Places.{cut_by}
 use borrow.Author.Rules.{rules}
 use Rattle.text.proofs.ends.end_of.Statement.{statement}
 use Rattle.text.proofs.ends.end_of.Tie as tie
 
 abbrev invariant-loop : tie.invariant-loop
-invariant-loop e s k₀ k = Ending (cutBy e) s k
+invariant-loop e s k₀ k = Ending (cut_by e) s k
 
 abbrev decreases-loop : tie.decreases-loop
 decreases-loop e s k₀ k = k

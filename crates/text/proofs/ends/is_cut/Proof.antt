@@ -1,4 +1,4 @@
--- `is_cut`: each arm knows which edge it has, and there `cutBy` is just the arm's test.
+-- `is_cut`: each arm knows which edge it has, and there `cut_by` is just the arm's test.
 use borrow.Author.Rules.{rules}
 use Rattle.text.proofs.ends.is_cut.Statement.{statement}
 use Rattle.text.proofs.ends.is_cut.Tie as tie

@@ -3,13 +3,13 @@ use mathlib.Core.Path.{sym, ◌∙◌}
 use Prim.Native.Nat.{◌-◌}
 use lib.ListN.{length}
 use Rattle.text.proofs.Trimmed.{Starting, starting-none, starting-cut, starting-here, starting-end}
-use Rattle.text.specs.Places.{cutBy}
+use Rattle.text.specs.Places.{cut_by}
 use borrow.Author.Rules.{rules}
 use Rattle.text.proofs.ends.start_of.Statement.{statement}
 use Rattle.text.proofs.ends.start_of.Tie as tie
 
 abbrev invariant-loop : tie.invariant-loop
-invariant-loop e s i₀ i = Starting (cutBy e) s i
+invariant-loop e s i₀ i = Starting (cut_by e) s i
 
 abbrev decreases-loop : tie.decreases-loop
 decreases-loop e s i₀ i = length s - i
