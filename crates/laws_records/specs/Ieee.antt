@@ -29,6 +29,10 @@ pattern f s n = cond s (top f) 0 + (size n - prec f) * hid f + n / 2 ^ (size n -
 
 unique : (f : Format) (x y : Float) (s : Bool) (a c : ℕ) → 0 < c → T (fits f x) → T (fits f y) → HasValue x s a c → HasValue y s a c → x ≡ y
 unfolding to_bits pattern
+unique f nan y s a c C p q v w = elim v [ ]
+unique f (inf _) y s a c C p q v w = elim v [ ]
+unique f (fin t m e) nan s a c C p q v w = elim w [ ]
+unique f (fin t m e) (inf _) s a c C p q v w = elim w [ ]
 unique f (fin t m e) (fin u n d) s a c C p q v w =
     let l = 2 ^ low f in
     let z : m * up e * l * down d ≡ n * up d * l * down e =

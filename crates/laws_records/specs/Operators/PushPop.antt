@@ -207,6 +207,15 @@ module _ (s : Step) (m : IsMade s) (ch : Choice (args s)) where
   unfolding is_given
   is-flag w key b h = rw (looked w own (marks_of s) (marks-bare s) (ascii key), h) (given_back b (ascii "true"))
 
+  one-axis : (b : Bool) (x : ℤ) (l : List ℤ) → cond b (x ∷ []) [] ++ l ≡ before b x l
+  unfolding before
+  one-axis true x l = refl
+  one-axis false x l = refl
+
+  all-axes : (a b c d : Bool) → cond a (pos 1 ∷ []) [] ++ (cond b (pos 2 ∷ []) [] ++ (cond c (pos 3 ∷ []) [] ++ cond d (pos 4 ∷ []) [])) ≡ axes_on a b c d
+  unfolding axes_on before
+  all-axes a b c d = one-axis a (pos 1) _ ∙ ap (before a (pos 1)) (one-axis b (pos 2) _ ∙ ap (before b (pos 2)) (one-axis c (pos 3) _))
+
   axes-again : (w : Bytes) → axes (table_from w own (marks_of s)) ≡ args s
   unfolding axes flagged
   axes-again w =
@@ -216,14 +225,7 @@ module _ (s : Step) (m : IsMade s) (ch : Choice (args s)) where
         is-flag w "v_3" ch.c (looks w (ascii "v_3") ∙ unfold picked marks_of axis_flags axis_flag same ascii in refl),
         is-flag w "v_4" ch.d (looks w (ascii "v_4") ∙ unfold picked marks_of axis_flags axis_flag same ascii in refl),
       )
-      (go ch.a ch.b ch.c ch.d ∙ sym ch.are)
-    where
-      one : (b : Bool) (x : ℤ) (l : List ℤ) → cond b (x ∷ []) [] ++ l ≡ before b x l
-      one true x l = unfold before in refl
-      one false x l = unfold before in refl
-
-      go : (a b c d : Bool) → cond a (pos 1 ∷ []) [] ++ (cond b (pos 2 ∷ []) [] ++ (cond c (pos 3 ∷ []) [] ++ cond d (pos 4 ∷ []) [])) ≡ axes_on a b c d
-      go a b c d = unfold axes_on in one a (pos 1) _ ∙ ap (before a (pos 1)) (one b (pos 2) _ ∙ ap (before b (pos 2)) (one c (pos 3) _ ∙ ap (before c (pos 3)) (unfold before in refl)))
+      (all-axes ch.a ch.b ch.c ch.d ∙ sym ch.are)
 
   axes-judged : (mode : Mode) (n : Name) (o : Operator) (w : Bytes) → name_of w ≡ Is n → faulty n (name w) ≡ false → any_of (λ (f : Flag). faulty n (bare f.word)) flags ≡ false
       → any_of (λ (f : Flag). faulty n (bare f.word)) (marks_of s) ≡ false → ((ps : List Parameter) → own_rule mode n ps ≡ some (record_of o ps (axes ps)))
