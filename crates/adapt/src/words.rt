@@ -15,7 +15,7 @@ pub struct Word {
 }
 
 // What a word ends in: an angle, or what is no ending.
-#[derive(Drop)]
+#[derive(Clone, Copy, Drop)]
 enum Ending {
     Angle(u8),
     Other,

@@ -7,14 +7,14 @@ use prepare::Preparing;
 use rules::{Prepared, Table};
 
 // Where the table comes from: a text, and the way in which it is prepared, or records.
-#[derive(Drop)]
+#[derive(Clone, Copy, Drop)]
 pub enum Source {
     Text(Way),
     Rows,
 }
 
 // Whether there is a table; what preparing refused; or nothing, where the line is no request.
-#[derive(Drop)]
+#[derive(Clone, Copy, Drop)]
 pub enum Had {
     Steps,
     Refused {

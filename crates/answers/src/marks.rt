@@ -5,13 +5,13 @@ use rules::{Mode, Reading};
 use text::is_same;
 
 // In which reading and in which mode.
-#[derive(Drop)]
+#[derive(Clone, Copy, Drop)]
 pub struct Way {
     pub reading: Reading,
     pub mode: Mode,
 }
 
-#[derive(Drop)]
+#[derive(Clone, Copy, Drop)]
 pub enum Mark {
     Is(Way),
     Not,

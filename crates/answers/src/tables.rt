@@ -8,7 +8,7 @@ use crate::runs::answer_run;
 use crate::writes::answer_write;
 use text::is_same;
 
-#[derive(Drop)]
+#[derive(Clone, Copy, Drop)]
 pub enum TableCall {
     Check,
     Run,

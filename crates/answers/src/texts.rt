@@ -11,7 +11,7 @@ use rules::{Mode, Reading, Written};
 use split::split;
 
 // The calls that take a text and write a text into lent storage.
-#[derive(Drop)]
+#[derive(Clone, Copy, Drop)]
 pub enum TextCall {
     Normalise,
     Split,

@@ -2,7 +2,7 @@
 use rules::Direction;
 use text::is_same;
 
-#[derive(Drop)]
+#[derive(Clone, Copy, Drop)]
 pub enum Heading {
     Is(Direction),
     Not,

@@ -8,14 +8,14 @@ use text::is_same;
 // The most digits of a number.
 const MOST_DIGITS: usize = 9;
 
-#[derive(Drop)]
+#[derive(Clone, Copy, Drop)]
 pub enum Natural {
     Is(usize),
     Not,
 }
 
 // How many bytes the text has.
-#[derive(Drop)]
+#[derive(Clone, Copy, Drop)]
 pub enum Text {
     Is(usize),
     Not,

@@ -14,7 +14,7 @@ const LEAST: usize = 2147483648;
 // The greatest of the numbers without a sign.
 const WIDEST: usize = 4294967295;
 
-#[derive(Drop)]
+#[derive(Clone, Copy, Drop)]
 pub enum Whole {
     Is(i32),
     Not,

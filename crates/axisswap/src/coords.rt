@@ -11,7 +11,7 @@ use numbers::minus_at;
 use rules::Coord;
 
 // For each of four numbers: is its sign turned?
-#[derive(Drop)]
+#[derive(Clone, Copy, Drop)]
 pub struct Turns {
     pub t1: bool,
     pub t2: bool,

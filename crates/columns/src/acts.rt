@@ -5,7 +5,7 @@ ghost use Rattle.std.specs.Prelude.{◌≡◌, reverse, ◌≤◌, take};
 use rules::Mode;
 
 // The places, the order or the arguments of `adapt` stand beside it, in `Doing`.
-#[derive(Drop)]
+#[derive(Clone, Copy, Drop)]
 pub enum Act {
     // a column for each place, in their order
     Pushes,

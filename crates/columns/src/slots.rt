@@ -6,7 +6,7 @@ use numbers::size_at;
 use rules::Coord;
 
 // A slot for each of four numbers.
-#[derive(Drop)]
+#[derive(Clone, Copy, Drop)]
 pub struct Slots {
     pub s1: usize,
     pub s2: usize,

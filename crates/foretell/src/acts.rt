@@ -11,7 +11,7 @@ use pushpop::{pop_places, push_places};
 use stack::{flip_places, roll_places, swap_places};
 
 // Of an act at a depth: too few columns, too many after it, or so many.
-#[derive(Drop)]
+#[derive(Clone, Copy, Drop)]
 pub enum Judged {
     Few,
     Many,

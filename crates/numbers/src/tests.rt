@@ -16,7 +16,7 @@ fn is_within(low: usize, m: usize, high: usize) -> bool
 }
 
 // What an argument has to be.
-#[derive(Drop)]
+#[derive(Clone, Copy, Drop)]
 pub enum Kind {
     // 1 to 4
     Place,

@@ -8,7 +8,7 @@ ghost use Rattle.parameters.specs.Parts.{key_of, value_at, goes_at, Within, no_p
 use text::is_same;
 
 // A parameter as two parts of a text: its key and its value, each from a place up to another.
-#[derive(Drop)]
+#[derive(Clone, Copy, Drop)]
 pub struct Part {
     pub key: usize,
     pub key_end: usize,
@@ -20,7 +20,7 @@ pub struct Part {
 // in it.
 
 // What entering a parameter gives: how many there are then, or that the table is full.
-#[derive(Drop)]
+#[derive(Clone, Copy, Drop)]
 pub struct Entered {
     pub full: bool,
     pub n: usize,

@@ -44,7 +44,7 @@ fn run_act(tuples: &mut [f64], columns: &mut [f64], depth: usize, d: Doing)
 // ---- one step of the table, which may be omitted
 
 // What is known after a step: the depth, and whether it counts none of the tuples.
-#[derive(Drop)]
+#[derive(Clone, Copy, Drop)]
 pub struct Stood {
     pub depth: usize,
     pub none: bool,

@@ -7,7 +7,7 @@ ghost use Rattle.prepare.specs.SeriesRead.{spelled_to};
 use rules::{Decimal, Number};
 
 // What reading digits answers.
-#[derive(Drop)]
+#[derive(Clone, Copy, Drop)]
 enum Spelled {
     Are(u32),
     Not,

@@ -12,7 +12,7 @@ use text::is_same;
 
 // What parameters may be refused by: the lowest number of 11 to 14, which is 14 where none of the others applies; where that is 12, the
 // byte of the step's text at which the first fault is; and the first series among them, if there is one.
-#[derive(Drop)]
+#[derive(Clone, Copy, Drop)]
 pub struct Lowest {
     pub number: u8,
     pub at: usize,

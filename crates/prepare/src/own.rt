@@ -26,7 +26,7 @@ use rules::{
 
 // What judging a step gives: 0 and its record, or the number that it is refused by, and of 12 the byte of the step's text at which the
 // fault is.
-#[derive(Drop)]
+#[derive(Clone, Copy, Drop)]
 pub struct Judged {
     pub number: u8,
     pub at: usize,
@@ -131,7 +131,7 @@ fn axes_of(s: &[u8], row: &[usize; 128], n: usize) -> Args
 // ---- stack
 
 // Which actions are given: none, the one of an operator, or more than one.
-#[derive(Drop)]
+#[derive(Clone, Copy, Drop)]
 enum Choice {
     None,
     One(u8),

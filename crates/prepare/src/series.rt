@@ -15,7 +15,7 @@ pub struct Args {
 
 // What a series gives: the lowest number of 12, 13 and 14 that it may be refused by; where that is 12, the byte of the step's text
 // at which the first element begins that is no number; and, where it is 14, whether all its numbers are whole, and these.
-#[derive(Drop)]
+#[derive(Clone, Copy, Drop)]
 pub struct Numbers {
     pub number: u8,
     pub at: usize,

@@ -6,7 +6,7 @@ use parameters::part_at;
 use text::is_same;
 
 // The value of a key: whether it is given, and its part of the text.
-#[derive(Drop)]
+#[derive(Clone, Copy, Drop)]
 pub struct Value {
     pub given: bool,
     pub from: usize,

@@ -15,7 +15,7 @@ use proj_words::{head_of, marks_of, next_proj};
 use rules::{Cursor, Found};
 
 // Where the text has come to, and the state: 0 where no step was put yet, 2 where a space is owed behind a bar, else 1.
-#[derive(Drop)]
+#[derive(Clone, Copy, Drop)]
 pub struct Put {
     pub o: usize,
     pub state: usize,

@@ -22,14 +22,14 @@ use text::{find, first_refusal, hand_out};
 const FEW: usize = 409;
 
 // The refusal of the first faulty step, and its place; or 0 where none is at fault.
-#[derive(Drop)]
+#[derive(Clone, Copy, Drop)]
 pub struct Flaw {
     pub number: u8,
     pub place: usize,
 }
 
 // What the pipeline says: how long its globals are, in the buffer that they were written to, and whether it is inverted.
-#[derive(Drop)]
+#[derive(Clone, Copy, Drop)]
 pub struct Pipe {
     pub n: usize,
     pub inverted: bool,

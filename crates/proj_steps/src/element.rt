@@ -10,7 +10,7 @@ use proj_words::is_inv;
 use text::is_same;
 
 // Where the text has come to, whether a word has been written, and whether an `inv` is owed after the first element.
-#[derive(Drop)]
+#[derive(Clone, Copy, Drop)]
 pub struct Pen {
     pub o: usize,
     pub begun: bool,

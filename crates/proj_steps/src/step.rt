@@ -19,7 +19,7 @@ use crate::pen::word;
 use proj_words::{Element, Head, has_key, head_of, is_inv, key_of, marks_of, next_element};
 
 // What comes of a word: it is left out, or is the scale; and what is still to come.
-#[derive(Drop)]
+#[derive(Clone, Copy, Drop)]
 pub struct Fate {
     pub skip: bool,
     pub scale: bool,
@@ -29,7 +29,7 @@ pub struct Fate {
 }
 
 // Whether the ellipsoid is composed; if so, how many words begin with `a=` and with `rf=`, and the last values of both.
-#[derive(Drop)]
+#[derive(Clone, Copy, Drop)]
 pub struct Plan {
     pub composed: bool,
     pub a: usize,

@@ -12,7 +12,7 @@ use crate::walk::{Word, next_word};
 use text::{is_same, starts_at};
 
 // The first `proj=` of a step, if there is one, and whether `init=` stands before it.
-#[derive(Drop)]
+#[derive(Clone, Copy, Drop)]
 pub struct First {
     pub init: bool,
     pub found: bool,
@@ -22,7 +22,7 @@ pub struct First {
 
 // A step's first word, from `start` to `stop`; the value of `proj=` that takes its place, from `value` to `ends`; the
 // stage of the walk after that; whether `init=` stands before `proj=`; and whether it is `proj=pipeline`.
-#[derive(Drop)]
+#[derive(Clone, Copy, Drop)]
 pub struct Head {
     pub start: usize,
     pub stop: usize,
@@ -35,7 +35,7 @@ pub struct Head {
 
 // What the walk over the exchanged words finds: a word, where to go on and in which stage; or the end. In stage 0 the
 // first word is to come, in stage 1 the `proj=` whose place the first word takes, in stage 2 neither.
-#[derive(Drop)]
+#[derive(Clone, Copy, Drop)]
 pub enum Element {
     At {
         from: usize,
@@ -47,7 +47,7 @@ pub enum Element {
 }
 
 // The marks of words: is one of them `inv`, are all, and is one not empty?
-#[derive(Drop)]
+#[derive(Clone, Copy, Drop)]
 pub struct Marks {
     pub inv: bool,
     pub only: bool,
@@ -55,7 +55,7 @@ pub struct Marks {
 }
 
 // How many words begin with a key, and the last that does.
-#[derive(Drop)]
+#[derive(Clone, Copy, Drop)]
 pub struct Key {
     pub n: usize,
     pub from: usize,

@@ -10,14 +10,14 @@ use rules::{Cursor, Found};
 use text::{Kind, is_same, run_end};
 
 // What the walk over the words finds: a word, from its first byte up to the byte after its last; or the end.
-#[derive(Drop)]
+#[derive(Clone, Copy, Drop)]
 pub enum Word {
     At { from: usize, to: usize },
     End,
 }
 
 // The end of a piece between two `step` words, and where the next one begins.
-#[derive(Drop)]
+#[derive(Clone, Copy, Drop)]
 pub struct Piece {
     pub end: usize,
     pub then: usize,

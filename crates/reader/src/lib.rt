@@ -10,7 +10,7 @@ use rules::{Cursor, Found};
 pub use walk::next_step;
 
 // A normalised text, and the place in it from which the walk goes on.
-#[derive(Drop)]
+#[derive(Clone, Copy, Drop)]
 pub struct Reader<'a> {
     pub text: &'a [u8],
     pub at: usize,

@@ -94,7 +94,7 @@ pub fn good_in(s: Step, reading: u8, end: usize) -> bool
 }
 
 // The place of refusal 18.
-#[derive(Drop)]
+#[derive(Clone, Copy, Drop)]
 pub enum Bad {
     At(usize),
     Nowhere,

@@ -31,7 +31,7 @@ pub const DOCUMENTED: u8 = 11;
 pub const GREATEST: u8 = DOCUMENTED;
 
 // The five names of operators; and whether a word is one of them.
-#[derive(Drop)]
+#[derive(Clone, Copy, Drop)]
 pub enum Name {
     Push,
     Pop,
@@ -40,14 +40,14 @@ pub enum Name {
     Adapt,
 }
 
-#[derive(Drop)]
+#[derive(Clone, Copy, Drop)]
 pub enum Named {
     Is(Name),
     Not,
 }
 
 // What a key takes: a flag, a series of numbers, or a word; or the operator lacks it.
-#[derive(Drop)]
+#[derive(Clone, Copy, Drop)]
 pub enum Kind {
     Flag,
     Series,
@@ -57,7 +57,7 @@ pub enum Kind {
 
 // The two readings of a definition: the crate's, in which `inv` turns `axisswap` and `adapt` only, and PROJ's, in which it turns
 // every operator. And their numbers in a record.
-#[derive(Drop)]
+#[derive(Clone, Copy, Drop)]
 pub enum Reading {
     Crate,
     Proj,
@@ -69,7 +69,7 @@ pub const PROJ: u8 = 1;
 
 // The two modes of `adapt`: the crate's, which ties sign and angle to a position, and the documented, which ties them to an axis. Only an
 // `adapt` step knows its mode: by its operator's number.
-#[derive(Drop)]
+#[derive(Clone, Copy, Drop)]
 pub enum Mode {
     Crate,
     Documented,
@@ -77,7 +77,7 @@ pub enum Mode {
 
 // Where a step's text stands in the normalised definition: its first byte, and how many there are.
 #[repr(C)]
-#[derive(Drop)]
+#[derive(Clone, Copy, Drop)]
 pub struct Span {
     pub from: u32,
     pub length: u32,
@@ -88,7 +88,7 @@ pub struct Span {
 // that no preparation makes is refused 18, and so is one whose reading is not that of the table's first, or whose span is empty,
 // ends past byte 40,960 or begins before the last one ends (specs/Pipeline/Record.antt).
 #[repr(C)]
-#[derive(Drop)]
+#[derive(Clone, Copy, Drop)]
 pub struct Step {
     pub operator: u8,
     pub n: u8,
@@ -109,7 +109,7 @@ pub struct Table {
 
 // A coordinate: one record of four numbers.
 #[repr(C)]
-#[derive(Drop)]
+#[derive(Clone, Copy, Drop)]
 pub struct Coord {
     pub a: f64,
     pub b: f64,
@@ -117,7 +117,7 @@ pub struct Coord {
     pub d: f64,
 }
 
-#[derive(Drop)]
+#[derive(Clone, Copy, Drop)]
 pub enum Direction {
     Forward,
     Inverse,
@@ -125,14 +125,14 @@ pub enum Direction {
 
 // A place of a tuple, 1 to 4, and whether its sign is turned.
 #[repr(C)]
-#[derive(Drop)]
+#[derive(Clone, Copy, Drop)]
 pub struct Place {
     pub axis: u8,
     pub minus: bool,
 }
 
 // A number in decimal form: whole and millionths, both without the sign.
-#[derive(Drop)]
+#[derive(Clone, Copy, Drop)]
 pub struct Decimal {
     pub minus: bool,
     pub whole: u32,
@@ -140,20 +140,20 @@ pub struct Decimal {
 }
 
 // What reading a series element answers.
-#[derive(Drop)]
+#[derive(Clone, Copy, Drop)]
 pub enum Number {
     Is(Decimal),
     Not,
 }
 
 // A place in a normalised text, from which the walk over its steps goes on.
-#[derive(Drop)]
+#[derive(Clone, Copy, Drop)]
 pub struct Cursor {
     pub at: usize,
 }
 
 // What the walk finds: a step, from its first byte up to the byte after its last, and where to go on; or the end.
-#[derive(Drop)]
+#[derive(Clone, Copy, Drop)]
 pub enum Found {
     Step {
         from: usize,
@@ -165,7 +165,7 @@ pub enum Found {
 
 // What a text call answers: how many bytes it wrote, from the first of the lent buffer on; or the refusal's number and
 // place.
-#[derive(Drop)]
+#[derive(Clone, Copy, Drop)]
 pub enum Written {
     Wrote(usize),
     Refused { number: u8, place: usize },
@@ -173,7 +173,7 @@ pub enum Written {
 
 // What preparing answers: how many records it wrote, from the first of the lent table on; or the refusal's number and place,
 // and the offset that 12 has: the byte of the step's text at which the fault is. Of any other refusal the offset is 0.
-#[derive(Drop)]
+#[derive(Clone, Copy, Drop)]
 pub enum Prepared {
     Steps(usize),
     Refused {
@@ -184,7 +184,7 @@ pub enum Prepared {
 }
 
 // What the check says of a step table. What a pass foretells stands beside it, in `Foretold`.
-#[derive(Drop)]
+#[derive(Clone, Copy, Drop)]
 pub enum Verdict {
     Passes,
     TooFew(usize),
@@ -194,7 +194,7 @@ pub enum Verdict {
 
 // What the check answers. Of a step that it names: its span. Of a pass: how many steps run and the depth after each, the deepest,
 // the columns left, and the four places, if they are told (no `adapt` step runs). Everything else is zero.
-#[derive(Drop)]
+#[derive(Clone, Copy, Drop)]
 pub struct Foretold {
     pub verdict: Verdict,
     pub span: Span,
@@ -207,7 +207,7 @@ pub struct Foretold {
 }
 
 // What a run answers: the success count and how many columns are left; or the refusal.
-#[derive(Drop)]
+#[derive(Clone, Copy, Drop)]
 pub enum Ran {
     Done { count: usize, left: usize },
     Refused { number: u8, place: usize },
@@ -219,7 +219,7 @@ pub enum Ran {
 // refusal's number and place, and the buffer is as it was. Of preparing: number 0 and how many records there are; and of
 // refusal 12 the offset, which is 0 in every other answer.
 #[repr(C)]
-#[derive(Drop)]
+#[derive(Clone, Copy, Drop)]
 pub struct Answer {
     pub number: u8,
     pub place: usize,
@@ -230,7 +230,7 @@ pub struct Answer {
 // What a reader finds: 1 for a step, from its first byte up to the byte after its last, and the place from which to go on; 0
 // for the end, and all else is zero.
 #[repr(C)]
-#[derive(Drop)]
+#[derive(Clone, Copy, Drop)]
 pub struct Part {
     pub found: u8,
     pub from: usize,
@@ -241,7 +241,7 @@ pub struct Part {
 // What the check says: number 0 for a pass, 1 for a step that finds too few columns, 2 for one after which there are too
 // many, each with the step's place; or 18 and the place of the refusal.
 #[repr(C)]
-#[derive(Drop)]
+#[derive(Clone, Copy, Drop)]
 pub struct Said {
     pub number: u8,
     pub place: usize,
@@ -250,7 +250,7 @@ pub struct Said {
 // What the check answers. Of a step that it names: its span. Of a pass: how many steps run and the depth after each, the deepest,
 // the columns left, and the four places, if they are told. Everything else is zero.
 #[repr(C)]
-#[derive(Drop)]
+#[derive(Clone, Copy, Drop)]
 pub struct Checked {
     pub said: Said,
     pub span: Span,
@@ -264,7 +264,7 @@ pub struct Checked {
 
 // What a run answers: number 0, the success count and the columns left; or the refusal's number and place.
 #[repr(C)]
-#[derive(Drop)]
+#[derive(Clone, Copy, Drop)]
 pub struct Done {
     pub number: u8,
     pub place: usize,

@@ -12,7 +12,7 @@ ghost use Rattle.split.specs.Spaced.{spaced};
 use text::{is_blank, lead_end, squeeze_into};
 
 // What comes of a step: its line, up to a place in the buffer; or none, since it is modifiers alone.
-#[derive(Drop)]
+#[derive(Clone, Copy, Drop)]
 pub enum Line {
     To(usize),
     Modifiers,

@@ -23,7 +23,7 @@ fn print_room() -> [u8; 139264]
 }
 
 // How many bytes were read, and whether a read failed.
-#[derive(Drop)]
+#[derive(Clone, Copy, Drop)]
 struct Input {
     n: usize,
     is_bad: bool,

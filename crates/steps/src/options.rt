@@ -4,7 +4,7 @@ use rules::{Mode, Reading};
 use text::is_same;
 
 // What the command line asks for. An argument is named by its number; 0, the number of the program's own name, is none.
-#[derive(Drop)]
+#[derive(Clone, Copy, Drop)]
 pub struct Options {
     pub help: bool,
     pub version: bool,

@@ -6,7 +6,7 @@ ghost use Rattle.text.specs.Places.{cut_by, LeftFrom, LeftTo};
 use crate::white::is_white;
 
 // What a trim takes away: white space, or one byte.
-#[derive(Drop)]
+#[derive(Clone, Copy, Drop)]
 pub enum Edge {
     White,
     Byte(u8),

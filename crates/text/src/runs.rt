@@ -22,7 +22,7 @@ pub fn is_blank(s: &[u8]) -> bool
 }
 
 // What a run of bytes is made of.
-#[derive(Drop)]
+#[derive(Clone, Copy, Drop)]
 pub enum Kind {
     // anything but `|`
     Piece,
