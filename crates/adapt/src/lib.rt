@@ -1,5 +1,7 @@
 // The operator `adapt`, in its two modes: its keys and words, the test of its arguments, what it does to a coordinate, and its text. On signed
 // places it does nothing: where it runs, no places are told.
+#![tactic(auto)]
+
 mod acts;
 mod arguments;
 mod coords;

@@ -1,6 +1,8 @@
 // The program that the tests speak to: it reads requests from standard input to its end, one a line, and writes exactly one line
 // for each. It holds no rule of its own: it decodes, lends storage, calls the library and prints. A line of over
 // 131,072 bytes is answered as no request.
+#![tactic(auto)]
+
 mod ask;
 mod checks;
 mod given;

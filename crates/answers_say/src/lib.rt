@@ -1,5 +1,7 @@
 // The output of the program `answers`, gathered in a buffer whose first `at` bytes are still to be written. Each function answers the
 // new `at`.
+#![tactic(auto)]
+
 mod fields;
 mod storage;
 

@@ -1,5 +1,7 @@
 // What the program `answers` says of a table's records, of a check and of a run, and the records that a request spells.
 // Nothing here prepares, checks or runs.
+#![tactic(auto)]
+
 mod checks;
 mod records;
 mod runs;

@@ -2,6 +2,8 @@
 // are read and written. Nothing here reads or writes a file. Each function is proved safe and ending; a contract
 // says beyond that what a caller needs: a place within the line, a number within its bound, how many bytes were
 // written.
+#![tactic(auto)]
+
 mod hex;
 mod lent;
 mod line;

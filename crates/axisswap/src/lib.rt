@@ -1,5 +1,7 @@
 // The operator `axisswap`: its key, the test of its arguments, what it does to a coordinate and to signed places, and its
 // text.
+#![tactic(auto)]
+
 mod acts;
 mod coords;
 mod keys;

@@ -1,5 +1,7 @@
 // What the steps of a run move: the numbers of coordinates in a list, and the columns of a lent store; and what those of a
 // check move: signed places. Also the acts that move them, and the depth before and after each.
+#![tactic(auto)]
+
 mod acts;
 mod column;
 mod coordinate;

@@ -1,5 +1,7 @@
 // The calls on step tables, over a row of step records that the caller lends. Each makes the table of 64 that stands for the
 // row, or the row's records of such a table, and leaves the work to the call by value. No call has a `requires`.
+#![tactic(auto)]
+
 ghost use Rattle.std.specs.Prelude.{◌≡◌};
 ghost use Rattle.rules.specs.Pipeline.Prepare.{Prepares, PreparesAs};
 ghost use Rattle.rules.specs.Pipeline.Check.{Checks};

@@ -1,4 +1,6 @@
 // The check: the steps run on signed places instead of numbers.
+#![tactic(auto)]
+
 mod acts;
 
 ghost use Rattle.std.specs.Prelude.{◌≡◌, cond, not, ◌||◌, max, replicate};

@@ -1,1 +1,2 @@
 // Theorems about the definitions of `rules` alone, in specs/. No code stands here.
+#![tactic(auto)]

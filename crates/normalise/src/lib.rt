@@ -1,5 +1,7 @@
 // Reading text: the call that answers a text's normal form, and the passes for the other calls. The Rust is `normalize` of
 // src/token/mod.rs.
+#![tactic(auto)]
+
 mod comments;
 mod defined;
 mod normal;

@@ -1,4 +1,6 @@
 // Whole numbers: the sign and the size of an argument, tests of one and of many, and numbers written in digits.
+#![tactic(auto)]
+
 mod digits;
 mod lists;
 mod order;

@@ -1,4 +1,6 @@
 // Cutting a step into its parameters. The Rust is `split_into_parameters` of src/token/mod.rs.
+#![tactic(auto)]
+
 mod elements;
 mod table;
 

@@ -1,4 +1,6 @@
 // The run of a step table over a list of tuples and a lent store of columns, both ways.
+#![tactic(auto)]
+
 ghost use Rattle.std.specs.Prelude.{◌≡◌, true, cond, ◌*◌, ◌≤◌, ◌/◌, max, length};
 ghost use Rattle.rules.specs.Pipeline.Record.{made, listed};
 ghost use Rattle.rules.specs.Pipeline.Run.{bad_list, Runs};

@@ -1,4 +1,6 @@
 // Preparing: from a text to its step records, in a table of 64 by value.
+#![tactic(auto)]
+
 mod decimal;
 mod faults;
 mod judge;

@@ -1,4 +1,6 @@
 // Translating a PROJ text. The Rust is `parse_proj` of src/token/mod.rs.
+#![tactic(auto)]
+
 mod layout;
 
 ghost use Rattle.std.specs.Prelude.{◌≡◌, true, false, ◌&&◌, ◌||◌, not, ◌*◌, ◌<◌, ◌≤◌, length};

@@ -1,5 +1,7 @@
 // The words of a PROJ text: the text cleaned, cut into steps and words, and the words of a step once `proj=` has changed places with the
 // first. The Rust is the first half of `parse_proj` of src/token/mod.rs.
+#![tactic(auto)]
+
 mod clean;
 mod exchange;
 mod walk;

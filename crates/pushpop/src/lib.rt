@@ -1,5 +1,7 @@
 // The operators `push` and `pop`: their keys, the test of their arguments, what they do to a list of coordinates and to
 // signed places, and their text.
+#![tactic(auto)]
+
 mod acts;
 mod arguments;
 mod coords;

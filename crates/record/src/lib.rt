@@ -1,5 +1,7 @@
 // A step record: made in one place, tested, and what it does; and the order in which the steps of a table run. What the rest of
 // the house knows of an operator is its line in a match.
+#![tactic(auto)]
+
 mod acts;
 mod arguments;
 mod order;

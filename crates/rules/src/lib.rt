@@ -1,5 +1,6 @@
 // The plain types that every crate shares: step records, coordinates, directions, and what the calls answer. What they
 // mean is written down in specs/. No algorithm stands here.
+#![tactic(auto)]
 
 // The operators by their numbers, `stack` by its seven actions.
 pub const PUSH: u8 = 0;

@@ -1,6 +1,8 @@
 // The public calls, and nothing else. For Rattle by their names, each with its contract where it stands; for C and Rust as
 // exports that answer in plain records (src/plain.rt), thin over the others: a `&[u8]` passes as a pointer and then a length,
 // and so does a row of step records. No call has a `requires`. Those over a row are proved by hand.
+#![tactic(auto)]
+
 mod plain;
 
 ghost use Rattle.std.specs.Prelude.{◌≡◌};

@@ -1,5 +1,7 @@
 // What the program `steps` prints, composed into a buffer. Each function writes its piece into out from at, leaves the rest of
 // out as it was, and returns the place behind the piece.
+#![tactic(auto)]
+
 mod checks;
 mod pieces;
 mod places;

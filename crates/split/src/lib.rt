@@ -1,4 +1,6 @@
 // Splitting a definition into its steps. The Rust is `split_into_steps` of src/token/mod.rs.
+#![tactic(auto)]
+
 mod step;
 
 ghost use Rattle.std.specs.Prelude.{◌≡◌, true, ◌*◌, ◌<◌, ◌≤◌, length};

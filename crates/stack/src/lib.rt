@@ -1,5 +1,7 @@
 // The operator `stack`: its seven actions; their keys, the tests of their arguments, what they do to a list of coordinates
 // and to signed places, and their text.
+#![tactic(auto)]
+
 mod acts;
 mod arguments;
 mod coords;

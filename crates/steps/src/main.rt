@@ -1,5 +1,7 @@
 // The program `steps`: reads a definition from standard input or a file and prints its translation, its steps, and what a run will
 // do.
+#![tactic(auto)]
+
 mod options;
 
 ghost use Rattle.std.specs.Prelude.{◌≡◌, ◌≤◌, length};

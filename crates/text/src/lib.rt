@@ -1,6 +1,8 @@
 // Passes over texts, into buffers that the caller lends, and places in a text: what src/token/mod.rs has from Rust's own strings. A pass
 // writes from the first byte of its buffer on (`put`: from a place), leaves the rest of it as it was, and returns the place after what it
 // wrote. What a pass makes of a text is a definition of `rules`.
+#![tactic(auto)]
+
 mod copy;
 mod domain;
 mod ends;

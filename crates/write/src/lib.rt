@@ -1,4 +1,6 @@
 // Writing the text of a step record, and of a whole table: what preparing it gives is the record again.
+#![tactic(auto)]
+
 mod words;
 
 ghost use Rattle.std.specs.Prelude.{◌≡◌, true, [], ◌∷◌, ltb};

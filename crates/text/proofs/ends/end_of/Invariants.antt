@@ -1,0 +1,12 @@
+-- `end_of`: the first k bytes trim to what s trims to, since each byte from k on goes (`Ending`). k itself is the measure.
+use mathlib.Core.Path.{sym, ◌∙◌}
+use Rattle.text.proofs.Trimmed.{Ending, ending-none, ending-cut, ending_here, ending-end}
+use Rattle.text.specs.Places.{cut_by}
+use borrow.Author.Rules.{rules}
+use Rattle.text.proofs.ends.end_of.Given as goal
+
+abbrev pub invariant-loop-k : goal.invariant-loop-k
+invariant-loop-k l = Ending (cut_by l.e) l.s l.k
+
+abbrev pub decreases-loop-k : goal.decreases-loop-k
+decreases-loop-k l = l.k

@@ -1,0 +1,29 @@
+use mathlib.Core.Path.{sym, ◌∙◌}
+use Prim.Native.Nat.{◌-◌}
+use native.Mathlib.Omega.{arith}
+use lib.ListN.{length}
+use Rattle.text.specs.Places.{Passed}
+use Rattle.text.proofs.Finds.{passed-next, passed-other, passed_on, passed_here, passed-end}
+use borrow.Author.Rules.{rules}
+use Rattle.text.proofs.search.find.Goals as goal
+
+pub loop-i-init : goal.loop-i-init
+loop-i-init c = c.skip-i.ensures
+
+pub returns-then-starts_at : goal.returns-then-starts_at
+returns-then-starts_at c =
+    passed_here c.loop-i.invariant c.loop-i-test.true (sym c.starts_at.ensures ∙ c.if-starts_at.true)
+
+pub loop-i-smaller-then-src-i : goal.loop-i-smaller-then-src-i
+loop-i-smaller-then-src-i c = omega (arith, c.skip-i-then-src-i.ensures.onward, c.loop-i-test.true)
+
+pub loop-i-preserved-then-src-i : goal.loop-i-preserved-then-src-i
+loop-i-preserved-then-src-i c =
+    passed_on (passed-next c.loop-i.invariant c.loop-i-test.true (sym c.starts_at.ensures ∙ c.if-starts_at.false)) c.skip-i-then-src-i.ensures
+
+pub loop-i-preserved : goal.loop-i-preserved
+loop-i-preserved c =
+    passed-other c.loop-i.invariant c.loop-i-test.true c.requires.nonzero c.if-src-i.false
+
+pub returns : goal.returns
+returns c = passed-end c.loop-i.invariant c.loop-i-test.false
