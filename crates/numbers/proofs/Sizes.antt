@@ -18,7 +18,7 @@ abbrev pub wide : ℤ → ℤ
 wide x = to_z w64 (of_z w64 (to_z w32 (of_z w32 x)))
 
 pub wide_is : {x : ℤ} → SFits w32 x → wide x ≡ x
-wide_is {x} f = ap (λ (z : ℤ). to_z w64 (of_z w64 z)) (to_z-of_z f) ∙ to_z-of_z (sfits_widen tt f)
+wide_is {x} f = ap (λ (z : ℤ). to_z w64 (of_z w64 z)) (to_z-of_z {w = w32} f) ∙ to_z-of_z {w = w64} (sfits_widen tt f)
 
 pub below : (x : ℤ) → lt_z x (pos 0) ≡ minus x
 unfolding minus
