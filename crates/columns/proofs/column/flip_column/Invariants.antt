@@ -1,0 +1,24 @@
+-- `flip_column`: number i of the first k tuples and the first k numbers of the column are exchanged, and all others are as they were. What
+-- is left of n is the measure.
+use Rattle.rules.specs.declared.Coord.{Coord}
+use lib.Seq.{paste, paste-zero}
+use Rattle.laws_steps.specs.Lengths.{tuples-length}
+use Rattle.columns.proofs.OneNumber.{column-length, copy-turn, store-end, not_yet, flip-tuples, flip-number}
+use Rattle.rules.specs.Operators.Numbers.{number, put}
+use Rattle.rules.specs.Pipeline.Tuples.{tuples, column}
+use Rattle.columns.proofs.Firsts.{firsts_from, firsts-none}
+use lib.Ieee.{nan}
+use native.Mathlib.Omega.{arith}
+use lib.ListN.{length, get_or, set, take, drop, length-set}
+use Prim.Native.Nat.{◌+◌, ◌-◌, ◌/◌, ◌≤◌}
+use mathlib.Core.Path.{◌≡◌, refl, sym, ap, ◌∙◌}
+use borrow.Author.Rules.{rules}
+use Rattle.columns.proofs.column.flip_column.Given as goal
+
+abbrev pub invariant-loop-k : goal.invariant-loop-k
+invariant-loop-k l =
+    (tuples l.xs ≡ firsts_from 0 l.k (λ t c. put l.i (get_or (take l.n (drop l.at l.initial.store)) t nan) c) (tuples l.initial.xs)) × (length l.xs ≡ length l.initial.xs)
+    × (l.store ≡ paste l.initial.store l.at (column l.i (tuples l.initial.xs)) l.k) × (length l.store ≡ length l.initial.store) × (l.k ≤ l.n)
+
+abbrev pub decreases-loop-k : goal.decreases-loop-k
+decreases-loop-k l = l.n - l.k

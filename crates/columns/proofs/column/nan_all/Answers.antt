@@ -1,0 +1,19 @@
+use Rattle.columns.proofs.EachTuple.{Each, each_none, each_turn, each-end}
+use Rattle.columns.specs.Coords.{no_tuple}
+use Prim.Native.Nat.{◌-◌}
+use mathlib.Core.Path.{refl}
+use borrow.Author.Rules.{rules}
+use Rattle.columns.proofs.column.nan_all.Goals as goal
+
+pub loop-k-init : goal.loop-k-init
+loop-k-init c = each_none _ _
+
+pub loop-k-preserved : goal.loop-k-preserved
+loop-k-preserved c =
+    each_turn c.loop-k.invariant c.loop-k-test.true refl c.no_coord.ensures c.set_coord.auto.xs c.set_coord.ensures
+
+pub shape_of-xs : goal.shape_of-xs
+shape_of-xs c = c.loop-k.invariant.same_length
+
+pub returns : goal.returns
+returns c = each-end c.loop-k.invariant c.loop-k-test.false

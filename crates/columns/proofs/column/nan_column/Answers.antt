@@ -1,0 +1,21 @@
+use mathlib.Core.Path.{ap, ◌∙◌}
+use lib.Ieee.{Float, nan}
+use Rattle.columns.proofs.EachTuple.{Each, each_none, each_turn, each-end}
+use Rattle.rules.specs.Operators.Numbers.{put}
+use Prim.Native.Nat.{◌-◌}
+use borrow.Author.Rules.{rules}
+use Rattle.columns.proofs.column.nan_column.Goals as goal
+
+pub loop-k-init : goal.loop-k-init
+loop-k-init c = each_none _ _
+
+pub loop-k-preserved : goal.loop-k-preserved
+loop-k-preserved c =
+    each_turn c.loop-k.invariant c.loop-k-test.true c.get_coord-c.ensures (c.with_number.ensures ∙ ap (λ (x : Float). put c.args.i x c.get_coord-c.result) c.not_a_number.ensures)
+    c.set_coord.auto.xs c.set_coord.ensures
+
+pub shape_of-xs : goal.shape_of-xs
+shape_of-xs c = c.loop-k.invariant.same_length
+
+pub returns : goal.returns
+returns c = each-end c.loop-k.invariant c.loop-k-test.false

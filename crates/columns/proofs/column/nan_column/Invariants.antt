@@ -1,0 +1,14 @@
+-- `nan_column`: number i of the first k tuples is NaN, the others are as they were (`Each`). What is left of n is the measure.
+use mathlib.Core.Path.{ap, ◌∙◌}
+use lib.Ieee.{Float, nan}
+use Rattle.columns.proofs.EachTuple.{Each, each_none, each_turn, each-end}
+use Rattle.rules.specs.Operators.Numbers.{put}
+use Prim.Native.Nat.{◌-◌}
+use borrow.Author.Rules.{rules}
+use Rattle.columns.proofs.column.nan_column.Given as goal
+
+abbrev pub invariant-loop-k : goal.invariant-loop-k
+invariant-loop-k l = Each (put l.i nan) l.initial.xs l.xs l.k
+
+abbrev pub decreases-loop-k : goal.decreases-loop-k
+decreases-loop-k l = l.n - l.k
