@@ -7,6 +7,7 @@ use mathlib.Core.Bool.{Bool, true, false, ◌||◌}
 use mathlib.Core.List.{List, [], ◌∷◌}
 use borrow.Author.Tests.{eq-eqb}
 use types.Run.{OneOf}
+use borrow.Enum.Refused.{Among, opened}
 use lib.Dec.{T, eqb}
 use denote.Enum.Declared.{tag_of}
 use Rattle.columns.specs.declared.acts.Act.{Act}
@@ -31,7 +32,7 @@ abbrev pub By : List ℕ → Act → Type 0
 By ks a = T (has ks (tag_of the_type a))
 
 abbrev pub Found : List ℕ → Act → Type 0
-Found ks a = OneOf ks (tag_of the_type a)
+Found ks a = Among ks (tag_of the_type a)
 
 pub found : (ks : List ℕ) (a : Act) → Found ks a → By ks a
-found ks a h = among ks (tag_of the_type a) h
+found ks a h = among ks (tag_of the_type a) (opened h)

@@ -9,7 +9,10 @@ pub loop-i-init : goal.loop-i-init
 loop-i-init c = lines_start _ _ _ c.requires.good c.requires.count_in_bounds
 
 pub line_at-o-requires : goal.line_at-o-requires
-line_at-o-requires c = let all = rw c.part_at-p.ensures (lines-part c.loop-i.invariant no_part c.loop-i-test.true, lines-room c.loop-i.invariant no_part c.loop-i-test.true) in record { within = all.0; p_in_bounds = all.1 }
+line_at-o-requires c = record {
+      within = rw c.part_at-p.ensures (lines-part c.loop-i.invariant no_part c.loop-i-test.true);
+      p_in_bounds = rw c.part_at-p.ensures (lines-room c.loop-i.invariant no_part c.loop-i-test.true);
+    }
 
 pub loop-i-preserved : goal.loop-i-preserved
 loop-i-preserved c =

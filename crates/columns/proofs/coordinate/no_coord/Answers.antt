@@ -4,4 +4,4 @@ use Rattle.columns.proofs.coordinate.no_coord.Goals as goal
 
 pub returns : goal.returns
 returns c =
-    λ i. record { a = c.not_a_number-x.ensures i; b = c.not_a_number-x.ensures i; (goal.at.returns c).After-not_a_number-x = c.not_a_number-x.ensures i; d = c.not_a_number-x.ensures i }
+    λ i. record { a = c.not_a_number-x.ensures i; b = c.not_a_number-x.ensures i; c = c.not_a_number-x.ensures i; d = c.not_a_number-x.ensures i }

@@ -10,7 +10,7 @@ use Rattle.columns.proofs.depths.depth_after.Goals.{Start}
 
 -- the arguments stand in eight slots
 full : (c : Start) → length c.args.d.args ≡ 8
-full c = sym (length-map c.args.d.args _) ∙ c.well_formed.0.1.1.1.0.1.0.1
+full c = search rules
 
 pub returns-then-depth-n : goal.returns-then-depth-n
 returns-then-depth-n c =
