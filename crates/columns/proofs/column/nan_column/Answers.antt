@@ -14,8 +14,8 @@ loop-k-preserved c =
     each_turn c.loop-k.invariant c.loop-k-test.true c.get_coord-c.ensures (c.with_number.ensures ∙ ap (λ (x : Float). put c.args.i x c.get_coord-c.result) c.not_a_number.ensures)
     c.set_coord.auto.xs c.set_coord.ensures
 
-pub shape_of-xs : goal.shape_of-xs
-shape_of-xs c = c.loop-k.invariant.same_length
+-- ?? same_length : tie.Need-same-length invariant-loop decreases-loop
+-- same_length c = c.before.loop.invariant.same_length
 
 pub returns : goal.returns
 returns c = each-end c.loop-k.invariant c.loop-k-test.false

@@ -24,3 +24,6 @@ unfolding filled
 returns c =
     let e : c.loop-i.i ≡ c.args.to = omega arith in
     c.loop-i.invariant.0 ∙ ap (λ (i : ℕ). filled c.args.store.now c.args.from i (fin false 0 (pos 0))) e
+
+pub loop-i-init : goal.loop-i-init
+loop-i-init c = (filled_none c.args.store.now c.args.from (fin false 0 (pos 0)), refl, omega arith, omega arith)

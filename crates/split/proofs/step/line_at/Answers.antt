@@ -26,5 +26,5 @@ pub returns : goal.returns
 returns c =
     record {
       other = sym (lead-all c.lead_end-lead.ensures c.is_blank.ensures) ∙ c.if-is_blank.false;
-      (goal.at.returns c).After-step_at-o = line-done _ c.args.dst.now c.args.at c.requires c.step_at-o.ensures;
+      wrote = line-done _ c.args.dst.now c.args.at c.requires c.step_at-o.ensures;
     }
