@@ -7,7 +7,7 @@ use numbers::{is_order, minus_at, signed, size_at};
 use text::is_same;
 
 // A word of `adapt`: four axes with their signs, and an angle (0 radians, 1 degrees, 2 gons), if it is one.
-#[derive(Drop)]
+#[derive(Clone, Copy, Drop)]
 pub struct Word {
     pub is: bool,
     pub axes: [i32; 4],

@@ -11,7 +11,7 @@ use answers_say::say_what;
 use answers_wire::{part, parts};
 use text::is_same;
 
-#[derive(Drop)]
+#[derive(Clone, Copy, Drop)]
 enum Request {
     Text(TextCall),
     Table(TableCall, Source),

@@ -26,7 +26,7 @@ pub enum Had {
 }
 
 // With the table to be checked, run or written; and whether what was lent to prepare it was kept.
-#[derive(Drop)]
+#[derive(Clone, Copy, Drop)]
 pub struct Given {
     pub had: Had,
     pub table: Table,

@@ -15,7 +15,7 @@ pub enum TableCall {
     Write,
 }
 
-#[derive(Drop)]
+#[derive(Clone, Copy, Drop)]
 pub enum Called {
     Is(TableCall),
     Not,

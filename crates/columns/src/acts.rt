@@ -25,7 +25,7 @@ pub enum Act {
 }
 
 // An act with its arguments: the first n of eight.
-#[derive(Drop)]
+#[derive(Clone, Copy, Drop)]
 pub struct Doing {
     pub act: Act,
     pub args: [i32; 8],

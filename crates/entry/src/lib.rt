@@ -11,7 +11,7 @@ ghost use Rattle.entry.specs.Plans.{count_of, Plans};
 use rules::{Direction, Foretold, Mode, Prepared, Ran, Reading, Step};
 
 // What preparing is to answer, and what it is to write over the lent row: the first n of the records.
-#[derive(Drop)]
+#[derive(Clone, Copy, Drop)]
 pub struct Plan {
     pub answer: Prepared,
     pub steps: [Step; 64],

@@ -30,7 +30,7 @@ const SOME: usize = 409;
 const MORE: usize = 1638;
 
 // What preparing answers, and the table afterwards. The row that is lent are the first `table.n` records.
-#[derive(Drop)]
+#[derive(Clone, Copy, Drop)]
 pub struct Preparing {
     pub answer: Prepared,
     pub table: Table,

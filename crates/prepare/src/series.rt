@@ -7,7 +7,7 @@ use numbers::signed;
 use rules::Number;
 
 // Arguments: the first n of eight slots, with zeros behind them.
-#[derive(Drop)]
+#[derive(Clone, Copy, Drop)]
 pub struct Args {
     pub list: [i32; 8],
     pub n: usize,

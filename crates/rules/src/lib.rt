@@ -102,7 +102,7 @@ pub struct Step {
 }
 
 // A step table by value: n records, the first of 64. A table that stands for a longer row says so by its n.
-#[derive(Drop)]
+#[derive(Clone, Copy, Drop)]
 pub struct Table {
     pub steps: [Step; 64],
     pub n: usize,

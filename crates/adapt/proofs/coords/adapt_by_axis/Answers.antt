@@ -1,0 +1,18 @@
+-- `adapt_by_axis`: to scale by slots and factors made once is to do what the arguments say.
+use mathlib.Core.Path.{sym, ◌∙◌}
+use native.Mathlib.Omega.{arith}
+use lib.Seq.{length-take-le}
+use Rattle.rules.specs.Pipeline.Tuples.{tuples}
+use Rattle.adapt.proofs.Scaled.{all-by-axis}
+use borrow.Author.Rules.{rules}
+use Rattle.adapt.proofs.coords.adapt_by_axis.Goals as goal
+
+pub slice_bounds-slots_of-end : goal.slice_bounds-slots_of-end
+slice_bounds-slots_of-end c =
+    sym (length-take-le 4 c.args.t3 (omega (arith, c.well_formed.1.1.0.1.0.1)))
+
+pub returns : goal.returns
+returns c =
+    c.scale_all.ensures
+    ∙ all-by-axis c.args.t3 c.requires _ _ (tuples c.args.xs.now) c.slots_of-o.ensures.1 c.mults_of-m.ensures c.args.back _
+    c.factors_by_axis.ensures

@@ -1,0 +1,12 @@
+-- `swapped`: each arm knows which way it goes, and there `ordered_by` is what its call ensures.
+use Rattle.axisswap.specs.Signs.{ordered_by}
+use borrow.Author.Rules.{rules}
+use Rattle.axisswap.proofs.coords.swapped.Goals as goal
+
+pub returns-then-back : goal.returns-then-back
+unfolding ordered_by
+returns-then-back c = rw c.if-back.true c.inverse.ensures
+
+pub returns : goal.returns
+unfolding ordered_by
+returns c = rw c.if-back.false c.forward.ensures

@@ -1,0 +1,7 @@
+-- `order_places`: the four places are reordered as `reordered` ensures, and the columns are not touched.
+use Rattle.axisswap.proofs.OrderedPlaces.{order-so}
+use borrow.Author.Rules.{rules}
+use Rattle.axisswap.proofs.places.order_places.Goals as goal
+
+pub returns : goal.returns
+returns c = order-so c.requires.whole c.reordered-out.ensures

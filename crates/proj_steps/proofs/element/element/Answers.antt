@@ -1,0 +1,19 @@
+-- `element`: `inv` is left out and stays owed as it was; any other element is added, and the `inv` that is owed comes right behind it.
+use mathlib.Core.Path.{sym, ◌∙◌}
+use Rattle.proj_steps.proofs.Penned.{element-inv, element-first, element-then, element-done}
+use borrow.Author.Rules.{rules}
+use Rattle.proj_steps.proofs.element.element.Goals as goal
+
+pub returns-then-is_inv : goal.returns-then-is_inv
+returns-then-is_inv c = element-inv (sym c.is_inv.ensures ∙ c.if-is_inv.true)
+
+pub plain-p-requires : goal.plain-p-requires
+plain-p-requires c = element-first (sym c.is_inv.ensures ∙ c.if-is_inv.false) c.requires
+
+pub settle-requires : goal.settle-requires
+settle-requires c =
+    element-then (sym c.is_inv.ensures ∙ c.if-is_inv.false) c.requires c.plain-p.ensures
+
+pub returns : goal.returns
+returns c =
+    element-done (sym c.is_inv.ensures ∙ c.if-is_inv.false) c.requires c.plain-p.ensures c.settle.ensures

@@ -1,0 +1,20 @@
+-- `scaled`: `k_0=` and the value are one word; the `inv` that is owed comes right behind it.
+use Rattle.rules.specs.Text.Ascii.{ascii}
+use Rattle.proj_steps.proofs.Penned.{scale-own, own_room, own-then, own-done}
+use borrow.Author.Rules.{rules}
+use Rattle.proj_steps.proofs.element.scaled.Goals as goal
+
+pub word-o-requires : goal.word-o-requires
+unfolding ascii
+word-o-requires c =
+    own_room (scale-own c.args.x.now) c.requires
+
+pub settle-requires : goal.settle-requires
+unfolding ascii
+settle-requires c =
+    own-then (scale-own c.args.x.now) c.requires c.word-o.ensures
+
+pub returns : goal.returns
+unfolding ascii
+returns c =
+    own-done (scale-own c.args.x.now) c.requires c.word-o.ensures c.settle.ensures

@@ -1,0 +1,17 @@
+-- `globals_into`: the words so far but `inv` are written, one space apart, and those that are left are to come (`Gathering`). Each turn
+-- takes one word off those that are left, and their number is the measure.
+use mathlib.Core.Path.{sym, ◌∙◌}
+use native.Mathlib.Omega.{arith}
+use lib.ListN.{length}
+use Rattle.proj_steps.proofs.Globals.{Gathering, gathering-start, gathering-kept, gathering-end, gathering-inv, gathering-room, gathering-word}
+use Rattle.proj_words.proofs.Facts.{element-less}
+use Rattle.proj_words.proofs.Heads.{element-at, element-none}
+use Rattle.proj_words.specs.Heads.{elements}
+use borrow.Author.Rules.{rules}
+use Rattle.proj_steps.proofs.step.globals_into.Given as goal
+
+abbrev pub invariant-loop-from : goal.invariant-loop-from
+invariant-loop-from l = Gathering l.s l.head l.initial.dst l.o l.begun l.stage l.k l.dst
+
+abbrev pub decreases-loop-from : goal.decreases-loop-from
+decreases-loop-from l = length (elements l.s l.head l.stage l.k)

@@ -1,0 +1,16 @@
+-- `push`: the columns of the first j places stand above those that were there (`Pushing`). What is left of the places is the measure.
+use Rattle.pushpop.proofs.Pushed.{Pushing, push-none, push-turn, push-end, push-acted}
+use Rattle.laws_steps.specs.Lengths.{tuples-length}
+use Rattle.columns.proofs.InStore.{under}
+use Rattle.rules.specs.Pipeline.Tuples.{tuples}
+use native.Mathlib.Omega.{arith}
+use lib.ListN.{length}
+use Prim.Native.Nat.{◌+◌, ◌-◌, ◌/◌}
+use borrow.Author.Rules.{rules}
+use Rattle.pushpop.proofs.coords.push.Given as goal
+
+abbrev pub invariant-loop-j : goal.invariant-loop-j
+invariant-loop-j l = Pushing l.n l.depth l.args (tuples l.xs) l.initial.store l.store l.j
+
+abbrev pub decreases-loop-j : goal.decreases-loop-j
+decreases-loop-j l = length l.args - l.j
