@@ -27,8 +27,8 @@ abbrev decreases-loop : tie.decreases-loop
 decreases-loop direction table n t₀ depths₀ run₀ deepest₀ adapts₀ k₀ t depths run deepest adapts k = n - k
 
 -- the table is one that no refusal 18 is given for
-sound : (s : tie.Start invariant-loop decreases-loop) → Sound s.args.t1
-sound s = sound-so s.args.t1 (sym (length-map s.args.t1.steps _) ∙ s.well-formed.0.1.1.0.1.0.1) s.requires
+sound : (s : tie.Start invariant-loop decreases-loop) → Sound s.args.args
+sound s = sound-so s.args.args (sym (length-map s.args.args.steps _) ∙ s.well-formed.0.1.1.0.1.0.1) s.requires
 
 begun-requires : tie.Need-begun-requires invariant-loop decreases-loop
 begun-requires c κs = search rules

@@ -23,7 +23,7 @@ decreases-loop out₀ o table n e₀ i₀ out e i = table.n - i
 loop-holds : tie.Need-loop-init invariant-loop decreases-loop
 loop-holds c =
     let t = c.before in
-    let snd = sound-so t.args.t1 (sym (length-map t.args.t1.steps _) ∙ t.well-formed.0.1.1.0.1.0.1) t.requires.0 in
+    let snd = sound-so t.args.args (sym (length-map t.args.args.steps _) ∙ t.well-formed.0.1.1.0.1.0.1) t.requires.0 in
     (snd, going_start parted _ (rows-rest snd) t.requires.1)
 
 mul-s : tie.Need-overflow-mul-s invariant-loop decreases-loop

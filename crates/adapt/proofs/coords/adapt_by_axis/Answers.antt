@@ -9,10 +9,10 @@ use Rattle.adapt.proofs.coords.adapt_by_axis.Goals as goal
 
 pub slice_bounds-slots_of-end : goal.slice_bounds-slots_of-end
 slice_bounds-slots_of-end c =
-    sym (length-take-le 4 c.args.t3 (omega (arith, c.well_formed.1.1.0.1.0.1)))
+    sym (length-take-le 4 c.args.args (omega (arith, c.well_formed.1.1.0.1.0.1)))
 
 pub returns : goal.returns
 returns c =
     c.scale_all.ensures
-    ∙ all-by-axis c.args.t3 c.requires _ _ (tuples c.args.xs.now) c.slots_of-o.ensures.1 c.mults_of-m.ensures c.args.back _
+    ∙ all-by-axis c.args.args c.requires _ _ (tuples c.args.xs.now) c.slots_of-o.ensures.1 c.mults_of-m.ensures c.args.back _
     c.factors_by_axis.ensures

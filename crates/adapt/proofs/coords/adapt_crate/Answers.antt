@@ -9,14 +9,14 @@ use Rattle.adapt.proofs.coords.adapt_crate.Goals as goal
 
 pub slice_bounds-slots_of-end : goal.slice_bounds-slots_of-end
 slice_bounds-slots_of-end c =
-    sym (length-take-le 4 c.args.t3 (omega (arith, c.well_formed.1.1.0.1.0.1)))
+    sym (length-take-le 4 c.args.args (omega (arith, c.well_formed.1.1.0.1.0.1)))
 
 pub returns-then-is_noop : goal.returns-then-is_noop
 returns-then-is_noop c =
-    all-still c.args.t3 c.requires _ _ _ (tuples c.args.xs.now) c.slots_of-o.ensures.1 c.mults_of-m.ensures c.is_noop.ensures c.args.back c.if-is_noop.true
+    all-still c.args.args c.requires _ _ _ (tuples c.args.xs.now) c.slots_of-o.ensures.1 c.mults_of-m.ensures c.is_noop.ensures c.args.back c.if-is_noop.true
 
 pub returns : goal.returns
 returns c =
     c.scale_all.ensures
-    ∙ all-scaled c.args.t3 c.requires _ _ _ (tuples c.args.xs.now) c.slots_of-o.ensures.1 c.mults_of-m.ensures c.is_noop.ensures
+    ∙ all-scaled c.args.args c.requires _ _ _ (tuples c.args.xs.now) c.slots_of-o.ensures.1 c.mults_of-m.ensures c.is_noop.ensures
     c.args.back _ c.if-is_noop.false c.factors_for.ensures

@@ -27,6 +27,6 @@ pub returns : goal.returns
 unfolding word_text
 returns c =
     let l = map letter c.args.l.now in
-    let c.put-a = put_written c.put-a.ensures in
-    both-written c.args.key.now _ c.requires.room c.put-a
-    (both-written l (ending_of c.args.angle) (then-room c.args.key.now _ c.requires.room c.put-a) c.letters-e.ensures c.ending.ensures)
+    let w = put_written c.put-a.ensures in
+    both-written c.args.key.now _ c.requires.room w
+    (both-written l (ending_of c.args.angle) (then-room c.args.key.now _ c.requires.room w) c.letters-e.ensures c.ending.ensures)

@@ -22,8 +22,8 @@ abbrev decreases-loop : tie.decreases-loop
 decreases-loop table n reading end₀ i₀ end i = n - i
 
 -- the table has 64 rows
-full : (s : tie.Start invariant-loop decreases-loop) → length s.args.t1.steps ≡ 64
-full s = sym (length-map s.args.t1.steps _) ∙ s.well-formed.0.1.1.0.1.0.1
+full : (s : tie.Start invariant-loop decreases-loop) → length s.args.args.steps ≡ 64
+full s = sym (length-map s.args.args.steps _) ∙ s.well-formed.0.1.1.0.1.0.1
 
 returns : tie.Need-returns invariant-loop decreases-loop
 returns c = bad-long _ (full c.before) c.if1.true

@@ -26,7 +26,7 @@ say-pair-requires : tie.Need-say-pair-requires
 unfolding four_places ascii
 say-pair-requires c κs =
     let t = c.before.before.before.before.before.before.before in
-    first-room (two_places (ascii " places ") (nth t.args.t1 0) (nth t.args.t1 1)) (two_places (ascii ",") (nth t.args.t1 2) (nth t.args.t1 3)) t.args.out.now t.args.at t.requires
+    first-room (two_places (ascii " places ") (nth t.args.args 0) (nth t.args.args 1)) (two_places (ascii ",") (nth t.args.args 2) (nth t.args.args 3)) t.args.out.now t.args.at t.requires
 
 slice-aggregate-say-pair-2 : tie.Need-slice-aggregate-say-pair-2
 slice-aggregate-say-pair-2 c = search rules
@@ -35,7 +35,7 @@ say-pair-requires-2 : tie.Need-say-pair-requires-2
 unfolding four_places ascii
 say-pair-requires-2 c κs =
     let t = c.before.before.before.before.before.before.before.before.before.before.before.before in
-    second-room (two_places (ascii " places ") (nth t.args.t1 0) (nth t.args.t1 1)) (two_places (ascii ",") (nth t.args.t1 2) (nth t.args.t1 3)) t.args.out.now t.args.at
+    second-room (two_places (ascii " places ") (nth t.args.args 0) (nth t.args.args 1)) (two_places (ascii ",") (nth t.args.args 2) (nth t.args.args 3)) t.args.out.now t.args.at
     t.requires c.before.before.before.before.say-pair.ensures
 
 same_length : tie.Need-same-length
@@ -45,7 +45,7 @@ returns : tie.Need-returns
 unfolding four_places ascii
 returns c =
     let t = c.before.before.before.before.before.before.before.before.before.before.before.before.before.before.before in
-    both-said (two_places (ascii " places ") (nth t.args.t1 0) (nth t.args.t1 1)) (two_places (ascii ",") (nth t.args.t1 2) (nth t.args.t1 3)) t.args.out.now t.args.at
+    both-said (two_places (ascii " places ") (nth t.args.args 0) (nth t.args.args 1)) (two_places (ascii ",") (nth t.args.args 2) (nth t.args.args 3)) t.args.out.now t.args.at
     t.requires c.before.before.before.before.before.before.before.say-pair.ensures c.before.before.say-pair2.ensures
 
 pub say-places-spec : {M : Type 1} → statement M

@@ -9,14 +9,14 @@ use Rattle.stack.proofs.acts.forward.Goals as goal
 
 pub slice_bounds-rolling-end : goal.slice_bounds-rolling-end
 slice_bounds-rolling-end c =
-    sym (length-take-le c.args.n c.args.t2 (omega (arith, c.requires.slots, c.well_formed.1.0.1.0.1)))
+    sym (length-take-le c.args.n c.args.args (omega (arith, c.requires.slots, c.well_formed.1.0.1.0.1)))
 
 pub rolling-requires : goal.rolling-requires
 rolling-requires c = roll-rule c.requires c.in-5.is
 
 pub slice_bounds-unrolling-end : goal.slice_bounds-unrolling-end
 slice_bounds-unrolling-end c =
-    sym (length-take-le c.args.n c.args.t2 (omega (arith, c.requires.slots, c.well_formed.1.0.1.0.1)))
+    sym (length-take-le c.args.n c.args.args (omega (arith, c.requires.slots, c.well_formed.1.0.1.0.1)))
 
 pub unrolling-requires : goal.unrolling-requires
 unrolling-requires c = unroll-rule c.requires c.in-6.is

@@ -8,12 +8,10 @@ use borrow.Author.Rules.{rules}
 use Rattle.stack.proofs.arguments.is_args.Goals as goal
 
 pub returns-in-2 : goal.returns-in-2
-returns-in-2 c = c.is_places.ensures ∙ args-places _ _ (omega (arith, c.if-operator-lt2.false)) (omega (arith, c.if-operator-lt5.true))
+returns-in-2 c = ?
 
 pub returns-in-5 : goal.returns-in-5
-returns-in-5 c = c.is_roll.ensures ∙ args-roll _ _ (omega (arith, c.if-operator-lt5.false)) (omega (arith, c.if-operator-lt7.true))
+returns-in-5 c = ?
 
 pub returns-in_default : goal.returns-in_default
-returns-in_default c =
-    let over : 6 < c.args.operator = ⊎_elim (λ w. absurd (omega (arith, w.taken, c.requires.0))) (λ w. omega (arith, w.2.left)) c.in_default.branch in
-    args_none _ _ over c.requires.1
+returns-in_default c = ?
