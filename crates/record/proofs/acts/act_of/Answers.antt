@@ -28,11 +28,11 @@ unfolding args
 act_of-requires-in-0 c = record { operator_bound = omega arith; n_bound = (made_so _ c.requires).slots; args_value = flags-rule _ c.requires (omega arith) }
 
 pub act_of-requires-in-2-to-8 : goal.act_of-requires-in-2-to-8
-act_of-requires-in-2-to-8 c = let all = action-rule _ c.requires (omega arith) (omega arith) in record { n_bound = all.0; args_value = all.1 }
+act_of-requires-in-2-to-8 c = action-rule _ c.requires (omega arith) (omega arith)
 
 pub act_of-requires-in_default : goal.act_of-requires-in_default
 unfolding args adapt_in
-act_of-requires-in_default c = record { n_bound = (made_so _ c.requires).slots; args_value = adapt-rule _ c.requires mode-is.Crate (the_last _ (omega arith) c.in_default-1.rest.0.1 c.in_default-1.rest.1) }
+act_of-requires-in_default c = record { n_bound = (made_so _ c.requires).slots; args_value = adapt-rule _ c.requires mode-is.Crate (the_last _ (omega arith) c.in_default.in_default-own.rest.0.1 c.in_default.in_default-own.rest.1) }
 
 pub returns-in-9 : goal.returns-in-9
 unfolding args
@@ -57,4 +57,4 @@ returns-in-2-to-8 c =
 pub returns-in_default : goal.returns-in_default
 unfolding args adapt_in
 returns-in_default c =
-    does-as (does-so c.args.direction c.args.step (the_last _ (omega arith) c.in_default-1.rest.0.1 c.in_default-1.rest.1) c.directed-own.ensures) c.act_of-in_default.ensures
+    does-as (does-so c.args.direction c.args.step (the_last _ (omega arith) c.in_default.in_default-own.rest.0.1 c.in_default.in_default-own.rest.1) c.directed-own.ensures) c.act_of-in_default.ensures

@@ -16,4 +16,4 @@ returns-in-0 c = c.is_rising.ensures ∙ args-flags _ _ (omega arith)
 
 pub returns-in_default : goal.returns-in_default
 returns-in_default c =
-    c.is_adapt.ensures ∙ args-adapt _ _ (omega arith) c.in_default-1.rest.0.1 c.in_default-1.rest.1
+    c.is_adapt.ensures ∙ args-adapt _ _ (omega arith) c.in_default.in_default-own.rest.0.1 c.in_default.in_default-own.rest.1

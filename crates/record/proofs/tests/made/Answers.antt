@@ -1,7 +1,8 @@
 -- `made`: the code asks for the number, the slots, the marks and then what is written, and `made` is all of these (`made-tests`).
 use mathlib.Core.Path.{refl, sym, ◌∙◌}
 use native.Mathlib.Omega.{arith}
-use lib.ListN.{length-map}
+use lib.ListN.{length}
+use mathlib.Core.Path.{◌≡◌}
 use borrow.Author.Tests.{le-leb, lt-leb}
 use Rattle.rules.specs.Pipeline.Record.{args, unused}
 use Rattle.laws_lists.specs.Tests.{not_so, not_left}
@@ -21,7 +22,8 @@ returns-then-not-is_marked c =
 
 pub is_written-requires : goal.is_written-requires
 is_written-requires c =
-    omega (arith, c.if-s-gt8.false, sym (length-map c.args.s.args _) ∙ c.well_formed.0.1.1.1.1.1.1.1.1.0.1.0.1)
+    let full : length c.args.s.args ≡ 8 = search rules in
+    omega arith
 
 pub returns : goal.returns
 unfolding args unused

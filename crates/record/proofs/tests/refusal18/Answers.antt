@@ -14,8 +14,8 @@ use Rattle.record.proofs.tests.refusal18.Goals as goal
 use Rattle.record.proofs.tests.refusal18.Goals.{Start}
 
 -- the table has 64 rows
-full : (c : Start) → length c.args.args.steps ≡ 64
-full c = sym (length-map c.args.args.steps _) ∙ c.well_formed.0.1.1.0.1.0.1
+full : (c : Start) → length c.args.table.steps ≡ 64
+full c = search rules
 
 pub returns-then-n-gt64 : goal.returns-then-n-gt64
 returns-then-n-gt64 c = bad-long _ (full (goal.at.returns-then-n-gt64 c).Start) c.if-n-gt64.true
