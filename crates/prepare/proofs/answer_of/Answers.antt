@@ -1,0 +1,17 @@
+-- `answer_of`: each of its ways out is a case of `answered`.
+use mathlib.Core.Path.{sym, ◌∙◌}
+use Rattle.prepare.proofs.LentTable.{answered-many, answered-refused, answered-short, answered-all}
+use borrow.Author.Rules.{rules}
+use Rattle.prepare.proofs.answer_of.Goals as goal
+
+pub returns-then-n-gt64 : goal.returns-then-n-gt64
+returns-then-n-gt64 c = c.refusing.ensures ∙ sym (answered-many _ _ _ _ _ _ c.if-n-gt64.true)
+
+pub returns-then-number-ne0 : goal.returns-then-number-ne0
+returns-then-number-ne0 c = c.refusing-then-number-ne0.ensures ∙ rw c.offset_of.ensures (sym (answered-refused _ _ _ _ _ _ c.if-n-gt64.false c.if-number-ne0.true))
+
+pub returns-then-table-n : goal.returns-then-table-n
+returns-then-table-n c = c.refusing-then-table-n.ensures ∙ sym (answered-short _ _ _ _ _ _ c.if-n-gt64.false c.if-number-ne0.false c.if-table-n.true)
+
+pub returns : goal.returns
+returns c = sym (answered-all _ _ _ _ _ _ c.if-n-gt64.false c.if-number-ne0.false c.if-table-n.false)

@@ -1,0 +1,45 @@
+-- `judge_text`: each test that a text does not pass is one that the table of its parameters makes too; what passes them all is judged by its words as
+-- they are cut, which stand in b with `_nametrue` behind them.
+use mathlib.Core.Path.{sym, ◌∙◌}
+use Rattle.text.proofs.Wrote.{wrote-fits, wrote-counts}
+use Rattle.prepare.proofs.StepByStep.{line-some}
+use Rattle.prepare.proofs.StepText.{text-parted, text-blank, text-modifiers, text-cut, line-room, has-line, no_line, behind-room, cut-spelt, cut_short, cut-words, cut-joined}
+use borrow.Author.Rules.{rules}
+use Rattle.prepare.proofs.judge.judge_text.Goals as goal
+
+pub returns-then-e-s : goal.returns-then-e-s
+returns-then-e-s c = text-parted _ c.run_end-e.ensures c.if-e-s.true c.refused.ensures
+
+pub returns-then-is_blank : goal.returns-then-is_blank
+returns-then-is_blank c =
+    text-blank _ c.run_end-e.ensures c.if-e-s.false (sym c.is_blank.ensures ∙ c.if-is_blank.true) c.refused-then-is_blank.ensures
+
+pub line_at-line-requires : goal.line_at-line-requires
+line_at-line-requires c =
+    line-room c.args.s.now c.requires.s_in_bounds
+
+pub returns-in_default : goal.returns-in_default
+returns-in_default c =
+    text-modifiers _ c.run_end-e.ensures c.if-e-s.false (sym c.is_blank.ensures ∙ c.if-is_blank.false) (no_line _ _ _ _ c.line_at-line.ensures c.in_default.is) c.refused-in_default.ensures
+
+pub overflow_sub-n : goal.overflow_sub-n
+overflow_sub-n c = line-some _ (has-line _ _ _ _ c.line_at-line.ensures c.in-To.is).wrote
+
+pub put-m-requires : goal.put-m-requires
+put-m-requires c =
+    behind-room c.args.s.now (has-line _ _ _ _ c.line_at-line.ensures c.in-To.is) c.requires.s_in_bounds c.line_at-line.auto.dst
+
+pub slice_bounds-judge_cut-end : goal.slice_bounds-judge_cut-end
+slice_bounds-judge_cut-end c = wrote-fits c.put-m.ensures
+
+pub slice_bounds-judge_cut-end-2 : goal.slice_bounds-judge_cut-end-2
+slice_bounds-judge_cut-end-2 c = wrote-counts c.put-m.ensures
+
+pub judge_cut-requires : goal.judge_cut-requires
+judge_cut-requires c = 
+    let has = has-line _ _ _ _ c.line_at-line.ensures c.in-To.is in record { spelt = cut-spelt c.args.s.now has c.put-m.ensures; s_len_bound = cut_short c.args.s.now has c.put-m.ensures c.requires.s_len_bound; s_value = cut-joined c.args.s.now has c.put-m.ensures }
+
+pub returns : goal.returns
+returns c =
+    let has = has-line _ _ _ _ c.line_at-line.ensures c.in-To.is in
+    text-cut _ c.run_end-e.ensures c.if-e-s.false (sym c.is_blank.ensures ∙ c.if-is_blank.false) has.other (cut-words c.args.s.now has c.put-m.ensures) c.judge_cut.ensures

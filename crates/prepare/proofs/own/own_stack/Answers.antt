@@ -1,0 +1,18 @@
+-- Exactly one action: then its series is the one that was read, or there is none. No mode alters that.
+use Rattle.prepare.proofs.FirstSeries.{numbers-good}
+use Rattle.prepare.proofs.OwnRules.{stack-none, stack-one, stack-more}
+use borrow.Author.Rules.{rules}
+use Rattle.prepare.proofs.own.own_stack.Goals as goal
+
+pub own_series-requires : goal.own_series-requires
+own_series-requires c = record { table = c.requires.table; good = numbers-good c.requires.lowers c.requires.number_value }
+
+pub returns-in-None : goal.returns-in-None
+returns-in-None c = stack-none mode _ (rw c.in-None.is at c.action_of-choice.ensures) c.refused.ensures
+
+pub returns-in-One : goal.returns-in-One
+returns-in-One c =
+    stack-one (rw c.in-One.is at c.action_of-choice.ensures) c.requires.lowers c.requires.number_value mode c.own_series.ensures
+
+pub returns-in-More : goal.returns-in-More
+returns-in-More c = stack-more mode _ (rw c.in-More.is at c.action_of-choice.ensures) c.refused-in-More.ensures

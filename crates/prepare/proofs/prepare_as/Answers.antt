@@ -1,0 +1,19 @@
+-- `prepare_as`: what `prepare_in` leaves is the answer in the crate's reading; where it answers, its records are named for the reading, and a
+-- refusal stays (`as-named`).
+use mathlib.Core.Path.{◌∙◌}
+use Rattle.prepare.proofs.InReading.{answers-named, refuses-named, counts-records}
+use borrow.Author.Rules.{rules}
+use Rattle.prepare.proofs.prepare_as.Goals as goal
+
+pub named-requires : goal.named-requires
+named-requires c =
+    counts-records c.args.reading _ _ _ c.prepare_in-p.ensures c.in-Steps.is
+
+pub returns-in-Steps : goal.returns-in-Steps
+returns-in-Steps c =
+    answers-named c.args.reading _ _ _ c.prepare_in-p.ensures
+    c.in-Steps.is c.named.ensures
+
+pub returns-in-Refused : goal.returns-in-Refused
+returns-in-Refused c =
+    c.refusing.ensures ∙ refuses-named c.args.reading _ _ _ c.prepare_in-p.ensures c.in-Refused.is
