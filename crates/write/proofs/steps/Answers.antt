@@ -5,6 +5,7 @@ use Rattle.write.specs.Parts.{parted}
 use Rattle.rules.specs.Pipeline.Write.{table_writing}
 use Rattle.record.proofs.SoundTable.{Sound, sound-so}
 use Rattle.rules.specs.Pipeline.Record.{listed}
+use lib.ListN.{length}
 use lib.ListN.{take, length-map}
 use Prim.Native.Nat.{◌-◌}
 use native.Mathlib.Omega.{arith}
