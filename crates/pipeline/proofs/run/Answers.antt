@@ -61,7 +61,7 @@ bounds-steps-k c =
     omega (arith, c.if-n-gt64.false, c.visited_of-k.ensures.1)
 
 pub run_step-stood-requires : goal.run_step-stood-requires
-run_step-stood-requires c = record { depth_bound = c.loop-i-2.invariant.2.within; s_value = table-made c.args.table (full (goal.at.run_step-stood-requires c).Start) c.loop-i-2.invariant.0 _ _ c.visited_of-k.ensures.1; tuples_in_bounds = no_room _ c.loop-i-2.no-tuples c.loop-i-2.no-columns c.loop-i-2.invariant.3; tuples_in_bounds_2 = no_room _ c.loop-i-2.no-tuples c.loop-i-2.no-columns c.loop-i-2.invariant.3 }
+run_step-stood-requires c = record { depth_bound = c.loop-i-2.invariant.2.within; s_value = table-made c.args.table (full (goal.at.run_step-stood-requires c).Start) c.loop-i-2.invariant.0 _ _ c.visited_of-k.ensures.1; tuples_in_bounds = no_room _ c.loop-i-2.no_tuples c.loop-i-2.no_columns c.loop-i-2.invariant.3; tuples_in_bounds_2 = no_room _ c.loop-i-2.no_tuples c.loop-i-2.no_columns c.loop-i-2.invariant.3 }
 
 pub overflow_add-result : goal.overflow_add-result
 overflow_add-result c =
@@ -122,8 +122,8 @@ bounds-steps-k-in-loop-i-3 c =
     omega (arith, c.if-n-gt64.false, c.visited_of-k-in-loop-i-3.ensures.1)
 
 pub run_step-stood-requires-in-loop-i-3 : goal.run_step-stood-requires-in-loop-i-3
-run_step-stood-requires-in-loop-i-3 c = record { depth_bound = c.loop-i-3.invariant.4.within; s_value = table-made c.args.table (full (goal.at.run_step-stood-requires-in-loop-i-3 c).Start) c.loop-i-3.invariant.0 _ _ c.visited_of-k-in-loop-i-3.ensures.1; tuples_in_bounds = table_before c.args.table (full (goal.at.run_step-stood-requires-in-loop-i-3 c).Start) c.loop-i-3.invariant.0 c.args.direction c.loop-i-2.deepest c.args.tuples.now c.args.columns.now c.loop-i-3.tuples c.loop-i-3.columns c.loop-i-3.count c.loop-i-3.false c.loop-i-3.i _ blank
-              c.loop-i-3.invariant.4 c.loop-i-3-test.true c.visited_of-k-in-loop-i-3.ensures.0 c.visited_of-k-in-loop-i-3.ensures.1 c.if-columns-used.false; tuples_in_bounds_2 = table-after c.args.table (full (goal.at.run_step-stood-requires-in-loop-i-3 c).Start) c.loop-i-3.invariant.0 c.args.direction c.loop-i-2.deepest c.args.tuples.now c.args.columns.now c.loop-i-3.tuples c.loop-i-3.columns c.loop-i-3.count c.loop-i-3.false c.loop-i-3.i _ _ c.loop-i-3.invariant.4
+run_step-stood-requires-in-loop-i-3 c = record { depth_bound = c.loop-i-3.invariant.4.within; s_value = table-made c.args.table (full (goal.at.run_step-stood-requires-in-loop-i-3 c).Start) c.loop-i-3.invariant.0 _ _ c.visited_of-k-in-loop-i-3.ensures.1; tuples_in_bounds = table_before c.args.table (full (goal.at.run_step-stood-requires-in-loop-i-3 c).Start) c.loop-i-3.invariant.0 c.args.direction c.loop-i-2.deepest c.args.tuples.now c.args.columns.now c.loop-i-3.tuples c.loop-i-3.columns c.loop-i-3.count c.loop-i-3.left c.loop-i-3.i _ blank
+              c.loop-i-3.invariant.4 c.loop-i-3-test.true c.visited_of-k-in-loop-i-3.ensures.0 c.visited_of-k-in-loop-i-3.ensures.1 c.if-columns-used.false; tuples_in_bounds_2 = table-after c.args.table (full (goal.at.run_step-stood-requires-in-loop-i-3 c).Start) c.loop-i-3.invariant.0 c.args.direction c.loop-i-2.deepest c.args.tuples.now c.args.columns.now c.loop-i-3.tuples c.loop-i-3.columns c.loop-i-3.count c.loop-i-3.left c.loop-i-3.i _ _ c.loop-i-3.invariant.4
               c.loop-i-3-test.true c.visited_of-k-in-loop-i-3.ensures.0 c.visited_of-k-in-loop-i-3.ensures.1 c.if-columns-used.false }
 
 pub overflow_add-i-in-loop-i-3 : goal.overflow_add-i-in-loop-i-3
@@ -134,12 +134,12 @@ loop-i-3-smaller c = omega arith
 
 pub loop-i-3-preserved : goal.loop-i-3-preserved
 loop-i-3-preserved c =
-    let counts = count-is c.args.direction _ c.loop-i-3.false (length c.args.tuples.now / 4) c.loop-i-3.count c.loop-i-3.invariant.4.few c.run_step-stood-in-loop-i-3.result.none c.run_step-stood-in-loop-i-3.ensures.counts in (
+    let counts = count-is c.args.direction _ c.loop-i-3.left (length c.args.tuples.now / 4) c.loop-i-3.count c.loop-i-3.invariant.4.few c.run_step-stood-in-loop-i-3.result.none c.run_step-stood-in-loop-i-3.ensures.counts in (
       c.loop-i-3.invariant.0,
       c.loop-i-3.invariant.1,
       c.loop-i-3.invariant.2,
       c.loop-i-3.invariant.3,
-      table_step c.args.table (full (goal.at.loop-i-3-preserved c).Start) c.loop-i-3.invariant.0 c.args.direction c.loop-i-2.deepest c.args.tuples.now c.args.columns.now c.loop-i-3.tuples c.loop-i-3.columns c.loop-i-3.count c.loop-i-3.false c.loop-i-3.i _
+      table_step c.args.table (full (goal.at.loop-i-3-preserved c).Start) c.loop-i-3.invariant.0 c.args.direction c.loop-i-2.deepest c.args.tuples.now c.args.columns.now c.loop-i-3.tuples c.loop-i-3.columns c.loop-i-3.count c.loop-i-3.left c.loop-i-3.i _
           _ c.loop-i-3.invariant.4 c.loop-i-3-test.true c.visited_of-k-in-loop-i-3.ensures.0 c.visited_of-k-in-loop-i-3.ensures.1 _ _ _ _ c.run_step-stood-in-loop-i-3.ensures.leaves c.run_step-stood-in-loop-i-3.auto.tuples c.run_step-stood-in-loop-i-3.auto.columns (c.counted-count.ensures ∙ counts)
           (omega (arith, c.counted-count.ensures, count-few (length c.args.tuples.now / 4) c.loop-i-3.count c.loop-i-3.invariant.4.few c.run_step-stood-in-loop-i-3.result.none)) c.run_step-stood-in-loop-i-3.ensures.deep,
     )
@@ -149,14 +149,14 @@ overflow_mul-left c =
     omega (
       arith,
       used-few (running c.args.direction (listed c.args.table)) c.loop-i-2.deepest _ c.loop-i-3.invariant.2 c.loop-i-3.invariant.3 (tuples-few c.args.tuples.now c.loop-i-3.invariant.1),
-      mul-le-mul_right {m = c.loop-i-3.false} {n = c.loop-i-2.deepest} (length c.args.tuples.now / 4)
-          (table-ends c.args.table (full (goal.at.overflow_mul-left c).Start) c.loop-i-3.invariant.0 c.args.direction c.loop-i-2.deepest c.args.tuples.now c.args.columns.now c.loop-i-3.tuples c.loop-i-3.columns c.loop-i-3.count c.loop-i-3.false c.loop-i-3.i c.loop-i-3.invariant.4
+      mul-le-mul_right {m = c.loop-i-3.left} {n = c.loop-i-2.deepest} (length c.args.tuples.now / 4)
+          (table-ends c.args.table (full (goal.at.overflow_mul-left c).Start) c.loop-i-3.invariant.0 c.args.direction c.loop-i-2.deepest c.args.tuples.now c.args.columns.now c.loop-i-3.tuples c.loop-i-3.columns c.loop-i-3.count c.loop-i-3.left c.loop-i-3.i c.loop-i-3.invariant.4
           c.loop-i-3-test.false).low,
     )
 
 pub zero_rest-requires : goal.zero_rest-requires
-zero_rest-requires c = record { from_le_to = mul-le-mul_right {m = c.loop-i-3.false} {n = c.loop-i-2.deepest} (length c.args.tuples.now / 4)
-          (table-ends c.args.table (full (goal.at.zero_rest-requires c).Start) c.loop-i-3.invariant.0 c.args.direction c.loop-i-2.deepest c.args.tuples.now c.args.columns.now c.loop-i-3.tuples c.loop-i-3.columns c.loop-i-3.count c.loop-i-3.false c.loop-i-3.i c.loop-i-3.invariant.4
+zero_rest-requires c = record { from_le_to = mul-le-mul_right {m = c.loop-i-3.left} {n = c.loop-i-2.deepest} (length c.args.tuples.now / 4)
+          (table-ends c.args.table (full (goal.at.zero_rest-requires c).Start) c.loop-i-3.invariant.0 c.args.direction c.loop-i-2.deepest c.args.tuples.now c.args.columns.now c.loop-i-3.tuples c.loop-i-3.columns c.loop-i-3.count c.loop-i-3.left c.loop-i-3.i c.loop-i-3.invariant.4
           c.loop-i-3-test.false).low; to_in_bounds = omega (arith, c.loop-i-3.invariant.4.store_length, c.if-columns-used.false) }
 
 pub shape_of-tuples : goal.shape_of-tuples
@@ -170,7 +170,7 @@ returns c =
     past-18 c.args.direction (listed c.args.table) c.args.tuples.now c.args.columns.now _ _ _ c.loop-i-3.invariant.0
     (past-15 (running c.args.direction (listed c.args.table)) c.args.tuples.now c.args.columns.now _ _ _ c.loop-i-3.invariant.1
     (past-16 (running c.args.direction (listed c.args.table)) c.args.tuples.now c.args.columns.now c.loop-i-2.deepest _ _ _ c.loop-i-3.invariant.2 c.loop-i-3.invariant.3
-    (finishes (running c.args.direction (listed c.args.table)) c.loop-i-2.deepest c.args.tuples.now c.args.columns.now _ _ _ c.loop-i-3.count c.loop-i-3.false c.loop-i-3.invariant.1 c.loop-i-3.invariant.4.list_length
+    (finishes (running c.args.direction (listed c.args.table)) c.loop-i-2.deepest c.args.tuples.now c.args.columns.now _ _ _ c.loop-i-3.count c.loop-i-3.left c.loop-i-3.invariant.1 c.loop-i-3.invariant.4.list_length
     c.loop-i-3.invariant.4.store_length c.if-columns-used.false
-    (table-ends c.args.table (full (goal.at.returns c).Start) c.loop-i-3.invariant.0 c.args.direction c.loop-i-2.deepest c.args.tuples.now c.args.columns.now c.loop-i-3.tuples c.loop-i-3.columns c.loop-i-3.count c.loop-i-3.false c.loop-i-3.i c.loop-i-3.invariant.4
+    (table-ends c.args.table (full (goal.at.returns c).Start) c.loop-i-3.invariant.0 c.args.direction c.loop-i-2.deepest c.args.tuples.now c.args.columns.now c.loop-i-3.tuples c.loop-i-3.columns c.loop-i-3.count c.loop-i-3.left c.loop-i-3.i c.loop-i-3.invariant.4
     c.loop-i-3-test.false) c.zero_rest.ensures)))

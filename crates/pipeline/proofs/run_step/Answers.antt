@@ -33,7 +33,7 @@ pub act_of-d-requires : goal.act_of-d-requires
 act_of-d-requires c = c.requires.s_value
 
 pub depth_after-requires : goal.depth_after-requires
-depth_after-requires c = (c.requires.depth_bound, c.act_of-d.ensures.slots)
+depth_after-requires c = record { depth_bound = c.requires.depth_bound; n_bound = c.act_of-d.ensures.slots }
 
 pub counts_none-requires : goal.counts_none-requires
 counts_none-requires c = c.act_of-d.ensures.slots
