@@ -8,9 +8,9 @@ pub own_series-requires : goal.own_series-requires
 own_series-requires c = record { table = c.requires.table; good = numbers-good c.requires.lowers c.requires.number_value }
 
 pub returns-then-low : goal.returns-then-low
-returns-then-low c =
+returns-then-low c mode =
     order-there c.requires.lowers c.requires.number_value mode c.if-low.true c.own_series.ensures
 
 pub returns : goal.returns
-returns c =
+returns c mode =
     order-default c.requires.lowers c.requires.number_value mode c.if-low.false c.all_axes.ensures c.recorded.ensures

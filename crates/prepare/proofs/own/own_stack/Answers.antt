@@ -8,11 +8,11 @@ pub own_series-requires : goal.own_series-requires
 own_series-requires c = record { table = c.requires.table; good = numbers-good c.requires.lowers c.requires.number_value }
 
 pub returns-in-None : goal.returns-in-None
-returns-in-None c = stack-none mode _ (rw c.in-None.is at c.action_of-choice.ensures) c.refused.ensures
+returns-in-None c mode = stack-none mode _ (rw c.in-None.is at c.action_of-choice.ensures) c.refused.ensures
 
 pub returns-in-One : goal.returns-in-One
-returns-in-One c =
+returns-in-One c mode =
     stack-one (rw c.in-One.is at c.action_of-choice.ensures) c.requires.lowers c.requires.number_value mode c.own_series.ensures
 
 pub returns-in-More : goal.returns-in-More
-returns-in-More c = stack-more mode _ (rw c.in-More.is at c.action_of-choice.ensures) c.refused-in-More.ensures
+returns-in-More c mode = stack-more mode _ (rw c.in-More.is at c.action_of-choice.ensures) c.refused-in-More.ensures

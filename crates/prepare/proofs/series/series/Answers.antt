@@ -7,6 +7,7 @@ use Prim.Native.Nat.{◌+◌, ◌-◌}
 use lib.ListN.{length}
 use borrow.Author.Rules.{rules}
 use Rattle.prepare.proofs.series.series.Goals as goal
+use Rattle.prepare.proofs.series.series.Goals.{then-n-lt8, else-n-lt8, then-d-ne0, else-d-ne0}
 
 pub loop-at-init : goal.loop-at-init
 loop-at-init c = reading-none _
@@ -43,10 +44,10 @@ loop-at-smaller c =
 
 pub loop-at-preserved : goal.loop-at-preserved
 loop-at-preserved c =
-    let list = ⊎_elim (λ w. w.1) (λ w. w.1 ∙ list-room _ _ _ c.loop-at.invariant.size w.0.left) c.if-n-lt8.branch in
-    let whole = ⊎_elim (λ w. w.1 ∙ mark-part c.loop-at.whole c.in-Is.d w.0.taken) (λ w. w.1 ∙ mark-whole c.loop-at.whole c.in-Is.d w.0.left) c.if-d-ne0.branch in
-    let x = given_is c.signed-x.type_inv c.signed-x.ensures in
-    reading-more c.loop-at.invariant c.loop-at-test.true c.byte_end-e.ensures (sym c.decimal-number.ensures ∙ c.in-Is.is) x list whole
+    reading-more c.loop-at.invariant c.loop-at-test.true c.byte_end-e.ensures (sym c.decimal-number.ensures ∙ c.in-Is.is)
+    (given_is c.signed-x.type_inv c.signed-x.ensures)
+    (elim c.if-n-lt8.branch [ then-n-lt8 w ↦ w.list-is | else-n-lt8 w ↦ w.list-is ∙ list-room _ _ _ c.loop-at.invariant.size w.if-n-lt8.false ])
+    (elim c.if-d-ne0.branch [ then-d-ne0 w ↦ w.whole-is ∙ mark-part c.loop-at.whole c.in-Is.d w.if-d-ne0.true | else-d-ne0 w ↦ w.whole-is ∙ mark-whole c.loop-at.whole c.in-Is.d w.if-d-ne0.false ])
 
 pub returns-then-n-gt8 : goal.returns-then-n-gt8
 returns-then-n-gt8 c = reading-many c.loop-at.invariant c.loop-at-test.false c.if-n-gt8.true _
