@@ -1,0 +1,8 @@
+-- The promise of `translate`, its answer told as a plain record.
+use Rattle.laws_text.specs.Entry.{in-other-words}
+use Rattle.rules.specs.Face.Plain.{plain_written}
+use borrow.Author.Rules.{rules}
+use Rattle.sakondreno.proofs.sakondreno_translate.Goals as goal
+
+pub returns : goal.returns
+returns c = rw c.answered.ensures (in-other-words plain_written c.translate.ensures)
