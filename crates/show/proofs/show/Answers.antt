@@ -1,0 +1,58 @@
+-- By what translating answers; no text is longer than out has room for.
+use Rattle.show.proofs.Located.{translate-other}
+use Rattle.show.proofs.CallAnswers.{room-so, said-so, front-so, called-fits, called-counts, called-wrote, called-refused, text-refused, text-wrote}
+use Rattle.show.proofs.Sizes.{shown-room}
+use Rattle.rules.specs.Face.Shown.{refusal_text, shown_steps, translated_line, shown}
+use Rattle.rules.specs.Text.Split.{line}
+use mathlib.Core.List.{◌++◌}
+use lib.ListN.{take}
+use borrow.Author.Rules.{rules}
+use Rattle.show.proofs.show.Goals as goal
+
+pub slice_bounds-show_translation-end : goal.slice_bounds-show_translation-end
+slice_bounds-show_translation-end c =
+    called-fits c.in-Wrote.is c.translate-written.ensures
+
+pub slice_bounds-show_translation-end-in-Wrote : goal.slice_bounds-show_translation-end-in-Wrote
+slice_bounds-show_translation-end-in-Wrote c =
+    called-counts c.in-Wrote.is c.translate-written.ensures
+
+pub show_translation-requires : goal.show_translation-requires
+show_translation-requires c = record { b_len = c.requires.b_len; text_in_bounds = room-so (shown c.args.reading c.args.mode c.args.text.now)
+          (translated_line (take c.in-Wrote.n c.translate-written.new.out) ++ shown_steps
+          c.args.reading c.args.mode
+          (take c.in-Wrote.n c.translate-written.new.out)) c.args.out.now 0
+          (text-wrote c.args.reading c.args.mode c.args.text.now
+          (called-wrote c.in-Wrote.is c.translate-written.ensures c.requires.a_len
+          c.translate-written.auto.out))
+          (shown-room c.args.reading c.args.mode c.args.text.now c.args.out.now c.requires.in_bounds) }
+
+pub say_refusal-requires : goal.say_refusal-requires
+say_refusal-requires c =
+    room-so (shown c.args.reading c.args.mode c.args.text.now)
+    (line (refusal_text c.in-Refused.number c.in-Refused.place)) c.args.out.now 0
+    (text-refused c.args.reading c.args.mode c.args.text.now
+    (called-refused (translate-other c.args.text.now) c.in-Refused.is c.translate-written.ensures c.requires.a_len))
+    (shown-room c.args.reading c.args.mode c.args.text.now c.args.out.now c.requires.in_bounds)
+
+pub returns-in-Wrote : goal.returns-in-Wrote
+returns-in-Wrote c =
+    front-so (said-so (shown c.args.reading c.args.mode c.args.text.now)
+    (translated_line (take c.in-Wrote.n
+    c.translate-written.new.out) ++ shown_steps
+    c.args.reading c.args.mode
+    (take c.in-Wrote.n
+    c.translate-written.new.out)) c.args.out.now 0
+    (text-wrote c.args.reading c.args.mode c.args.text.now
+    (called-wrote c.in-Wrote.is
+    c.translate-written.ensures c.requires.a_len
+    c.translate-written.auto.out)) c.show_translation.ensures)
+
+pub returns-in-Refused : goal.returns-in-Refused
+returns-in-Refused c =
+    front-so (said-so (shown c.args.reading c.args.mode c.args.text.now)
+    (line (refusal_text c.in-Refused.number c.in-Refused.place)) c.args.out.now 0
+    (text-refused c.args.reading c.args.mode c.args.text.now
+    (called-refused (translate-other c.args.text.now) c.in-Refused.is
+    c.translate-written.ensures c.requires.a_len))
+    c.say_refusal.ensures)
