@@ -57,9 +57,12 @@ use Rattle.laws_records.specs.Faithful.{Slots}
 use Rattle.laws_records.specs.Exact.{Texted}
 use Rattle.laws_records.specs.ReadBack.{TextedAlone}
 use Rattle.laws_records.specs.Operators.Adapt.Words.{IsWord}
-use Rattle.sakondreno.proofs as calls
-use Rattle.reader.proofs as reading
-use Rattle.show.proofs as program
+use Rattle.sakondreno.specs.contracts as calls
+use Rattle.reader.specs.contracts as reading
+use Rattle.show.specs.contracts as program
+use Rattle.sakondreno.proofs as calls-code
+use Rattle.reader.proofs as reading-code
+use Rattle.show.proofs as program-code
 use Rattle.rules.specs.Face.Demands.{Ends, text_refusal, RunEnds, CheckEnds, NextEnds, ExportsText, EachWell, Few, Many, FirstAtFault, number_at, Bits, Alike, sign_angle, EachUnit, FirstFault}
 use Rattle.rules.specs.Face.Demands.{bytes_at, Rise, Walk, SameButSpans, SaysTheSame}
 
@@ -68,56 +71,56 @@ use Rattle.rules.specs.Face.Demands.{bytes_at, Rise, Walk, SameButSpans, SaysThe
 -- (`before` are the arguments, the first `.0`, the second `.1 .0` and so on; `after` are the same at exit; `now` is what a reference lends; `r` is the result.)
 
 pub record Calls (w : World) : Type 1 where
-  pub normalise-keeps : Keeps w calls.normalise.ended calls.normalise.Symbol.routine
+  pub normalise-keeps : Keeps w calls.normalise.ended calls-code.normalise.Symbol.code calls-code.normalise.Symbol.name
       (λ l before r after. Writes normalise before.0.now before.1.0.now r after.1.0.now)
-  pub definition-keeps : Keeps w calls.definition.ended calls.definition.Symbol.routine
+  pub definition-keeps : Keeps w calls.definition.ended calls-code.definition.Symbol.code calls-code.definition.Symbol.name
       (λ l before r after. Writes define before.0.now before.1.0.now r after.1.0.now)
-  pub split-keeps : Keeps w calls.split.ended calls.split.Symbol.routine
+  pub split-keeps : Keeps w calls.split.ended calls-code.split.Symbol.code calls-code.split.Symbol.name
       (λ l before r after. Writes split before.0.now before.1.0.now r after.1.0.now)
-  pub parameters-keeps : Keeps w calls.parameters.ended calls.parameters.Symbol.routine
+  pub parameters-keeps : Keeps w calls.parameters.ended calls-code.parameters.Symbol.code calls-code.parameters.Symbol.name
       (λ l before r after. Writes parameters before.0.now before.1.0.now r after.1.0.now)
-  pub translate-keeps : Keeps w calls.translate.ended calls.translate.Symbol.routine
+  pub translate-keeps : Keeps w calls.translate.ended calls-code.translate.Symbol.code calls-code.translate.Symbol.name
       (λ l before r after. Writes translate before.0.now before.1.0.now r after.1.0.now)
-  pub prepare-keeps : Keeps w calls.prepare.ended calls.prepare.Symbol.routine
+  pub prepare-keeps : Keeps w calls.prepare.ended calls-code.prepare.Symbol.code calls-code.prepare.Symbol.name
       (λ l before r after. Prepares before.0.now before.1.0.now r after.1.0.now)
-  pub prepare-as-keeps : Keeps w calls.prepare_as.ended calls.prepare_as.Symbol.routine
+  pub prepare-as-keeps : Keeps w calls.prepare_as.ended calls-code.prepare_as.Symbol.code calls-code.prepare_as.Symbol.name
       (λ l before r after. PreparesAs before.1.0 before.1.1.0 before.0.now before.1.1.1.0.now r after.1.1.1.0.now)
-  pub check-keeps : Keeps w calls.check.ended calls.check.Symbol.routine
+  pub check-keeps : Keeps w calls.check.ended calls-code.check.Symbol.code calls-code.check.Symbol.name
       (λ l before r after. Checks before.1.0 before.0.now r)
-  pub run-keeps : Keeps w calls.run.ended calls.run.Symbol.routine
+  pub run-keeps : Keeps w calls.run.ended calls-code.run.Symbol.code calls-code.run.Symbol.name
       (λ l before r after. Runs before.1.0 before.0.now before.1.1.0.now before.1.1.1.0.now r after.1.1.0.now after.1.1.1.0.now)
-  pub next-keeps : Keeps w reading.Reader.next.ended reading.Reader.next.Symbol.routine
+  pub next-keeps : Keeps w reading.Reader.next.ended reading-code.Reader.next.Symbol.code reading-code.Reader.next.Symbol.name
       (λ l before r after. r ≡ next before.0.text.now before.0.at)
-  pub next-from-keeps : Keeps w calls.next_from.ended calls.next_from.Symbol.routine
+  pub next-from-keeps : Keeps w calls.next_from.ended calls-code.next_from.Symbol.code calls-code.next_from.Symbol.name
       (λ l before r after. r ≡ next before.0.now before.1.0)
-  pub write_keeps : Keeps w calls.write.ended calls.write.Symbol.routine
+  pub write_keeps : Keeps w calls.write.ended calls-code.write.Symbol.code calls-code.write.Symbol.name
       (λ l before r after. Lends (write (listed before.0)) before.1.0.now r after.1.0.now)
-  pub write-step-keeps : Keeps w calls.write_step.ended calls.write_step.Symbol.routine
+  pub write-step-keeps : Keeps w calls.write_step.ended calls-code.write_step.Symbol.code calls-code.write_step.Symbol.name
       (λ l before r after. Lends (write (before.0 ∷ [])) before.1.0.now r after.1.0.now)
   -- the same for C and Rust, in the words of plain records
-  pub sakondreno-normalise-keeps : Keeps w calls.sakondreno_normalise.ended calls.sakondreno_normalise.Symbol.routine
+  pub sakondreno-normalise-keeps : Keeps w calls.sakondreno_normalise.ended calls-code.sakondreno_normalise.Symbol.code calls-code.sakondreno_normalise.Symbol.name
       (λ l before r after. Promised replied normalise before.0.now before.1.0.now r after.1.0.now)
-  pub sakondreno-definition-keeps : Keeps w calls.sakondreno_definition.ended calls.sakondreno_definition.Symbol.routine
+  pub sakondreno-definition-keeps : Keeps w calls.sakondreno_definition.ended calls-code.sakondreno_definition.Symbol.code calls-code.sakondreno_definition.Symbol.name
       (λ l before r after. Promised replied define before.0.now before.1.0.now r after.1.0.now)
-  pub sakondreno-split-keeps : Keeps w calls.sakondreno_split.ended calls.sakondreno_split.Symbol.routine
+  pub sakondreno-split-keeps : Keeps w calls.sakondreno_split.ended calls-code.sakondreno_split.Symbol.code calls-code.sakondreno_split.Symbol.name
       (λ l before r after. Promised replied split before.0.now before.1.0.now r after.1.0.now)
-  pub sakondreno-parameters-keeps : Keeps w calls.sakondreno_parameters.ended calls.sakondreno_parameters.Symbol.routine
+  pub sakondreno-parameters-keeps : Keeps w calls.sakondreno_parameters.ended calls-code.sakondreno_parameters.Symbol.code calls-code.sakondreno_parameters.Symbol.name
       (λ l before r after. Promised replied parameters before.0.now before.1.0.now r after.1.0.now)
-  pub sakondreno-translate-keeps : Keeps w calls.sakondreno_translate.ended calls.sakondreno_translate.Symbol.routine
+  pub sakondreno-translate-keeps : Keeps w calls.sakondreno_translate.ended calls-code.sakondreno_translate.Symbol.code calls-code.sakondreno_translate.Symbol.name
       (λ l before r after. Promised replied translate before.0.now before.1.0.now r after.1.0.now)
-  pub sakondreno-next-keeps : Keeps w calls.sakondreno_next.ended calls.sakondreno_next.Symbol.routine
+  pub sakondreno-next-keeps : Keeps w calls.sakondreno_next.ended calls-code.sakondreno_next.Symbol.code calls-code.sakondreno_next.Symbol.name
       (λ l before r after. r ≡ plain_found (next before.0.now before.1.0))
-  pub sakondreno-prepare-keeps : Keeps w calls.sakondreno_prepare.ended calls.sakondreno_prepare.Symbol.routine
+  pub sakondreno-prepare-keeps : Keeps w calls.sakondreno_prepare.ended calls-code.sakondreno_prepare.Symbol.code calls-code.sakondreno_prepare.Symbol.name
       (λ l before r after. Promised record_count prepare before.0.now before.1.0.now r after.1.0.now)
-  pub sakondreno-prepare-as-keeps : Keeps w calls.sakondreno_prepare_as.ended calls.sakondreno_prepare_as.Symbol.routine
+  pub sakondreno-prepare-as-keeps : Keeps w calls.sakondreno_prepare_as.ended calls-code.sakondreno_prepare_as.Symbol.code calls-code.sakondreno_prepare_as.Symbol.name
       (λ l before r after. Promised record_count (prepare_as (reading_of before.1.0) (mode_of before.1.1.0)) before.0.now before.1.1.1.0.now r after.1.1.1.0.now)
-  pub sakondreno-check-keeps : Keeps w calls.sakondreno_check.ended calls.sakondreno_check.Symbol.routine
+  pub sakondreno-check-keeps : Keeps w calls.sakondreno_check.ended calls-code.sakondreno_check.Symbol.code calls-code.sakondreno_check.Symbol.name
       (λ l before r after. PlainChecks before.1.0 before.0.now r)
-  pub sakondreno-run-keeps : Keeps w calls.sakondreno_run.ended calls.sakondreno_run.Symbol.routine
+  pub sakondreno-run-keeps : Keeps w calls.sakondreno_run.ended calls-code.sakondreno_run.Symbol.code calls-code.sakondreno_run.Symbol.name
       (λ l before r after. PlainRuns before.1.0 before.0.now before.1.1.0.now before.1.1.1.0.now r after.1.1.0.now after.1.1.1.0.now)
   -- The program `steps` prints `shown reading mode text` of what it reads, in the reading and mode that it is asked for: this is the function that it
   -- prints by, lent buffers of these lengths.
-  pub steps-prints : KeepsIf w program.show.ended program.show.Symbol.routine
+  pub steps-prints : KeepsIf w program.show.ended program-code.show.Symbol.code program-code.show.Symbol.name
       (λ l before. (length before.1.1.1.0.now ≡ 65536) ∷ (length before.1.1.1.1.0.now ≡ 65536) ∷ (139264 ≤ length before.1.1.1.1.1.0.now) ∷ [])
       (λ l before r after. Wrote (shown before.1.0 before.1.1.0 before.0.now) before.1.1.1.1.1.0.now r after.1.1.1.1.1.0.now)
 

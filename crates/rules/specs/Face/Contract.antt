@@ -2,7 +2,8 @@
 use Rattle.std.specs.Prelude.{List, [], ◌∷◌}
 use seplogic.Ra.Ura.{Ura}
 use base.Logic.{SProp, emp, sep}
-use prog.Routine.{Routine}
+use mir.Syntax.{Callee}
+use prog.Wired.{Code, Wired}
 use contract.Monad.{fact}
 use contract.Lifetimes.{Lfts}
 use borrow.Fn.World.{World}
@@ -31,12 +32,12 @@ agreed w call asked said = λ lifetimes before. record {
   ensures = λ g result after. fact w.𝓤 (said lifetimes before result after);
 }
 
--- The code meets it: called with arguments of its types of which the asked facts hold, it does nothing undefined and returns, and then the
--- fact holds.
-abbrev pub KeepsIf : World → (call : Ended) → Routine → Asked call → Said call → Type 1
-KeepsIf w call code asked said =
-    Meets w.𝓛 call.signature (w.𝓡.run code) (closing w.𝓛 call (agreed w call asked said))
+-- The code meets it: wherever the name of the call stands for this code, and the names in it for theirs (`Wired`), what is called by that name with
+-- arguments of its types of which the asked facts hold does nothing undefined and returns, and then the fact holds.
+abbrev pub KeepsIf : World → (call : Ended) → Code → Callee → Asked call → Said call → Type 1
+KeepsIf w call code name asked said =
+    Wired w.𝓡.env code → Meets w.𝓛 call.signature (w.𝓡.run (w.𝓡.env name)) (closing w.𝓛 call (agreed w call asked said))
 
 -- The same where nothing is asked.
-abbrev pub Keeps : World → (call : Ended) → Routine → Said call → Type 1
-Keeps w call code said = KeepsIf w call code (λ lifetimes before. []) said
+abbrev pub Keeps : World → (call : Ended) → Code → Callee → Said call → Type 1
+Keeps w call code name said = KeepsIf w call code name (λ lifetimes before. []) said
