@@ -1,6 +1,6 @@
-// The public calls, and nothing else. For Rattle by their names, each with its contract where it stands; for C and Rust as
-// exports that answer in plain records (src/plain.rt), thin over the others: a `&[u8]` passes as a pointer and then a length,
-// and so does a row of step records. No call has a `requires`. Those over a row are proved by hand.
+// The public calls, and nothing else. For Rattle by their names, each with its contract where it stands; for C and Rust by names
+// that begin with `sakondreno_`, which answer in plain records (src/plain.rt), thin over the others. Crate sakondreno_c exports
+// these. No call has a `requires`.
 #![tactic(auto)]
 
 mod plain;
@@ -29,40 +29,35 @@ pub use split::split;
 pub use write::{write, write_step};
 
 // Brings a definition into its normal form.
-#[unsafe(no_mangle)]
-pub extern "C" fn sakondreno_normalise(text: &[u8], out: &mut [u8]) -> Answer
+pub fn sakondreno_normalise(text: &[u8], out: &mut [u8]) -> Answer
     ensures { Promised replied normalise text.now out.old result out.new }
 {
     plain::answered(normalise::normalise(text, out))
 }
 
 // Brings a definition without its comments into its normal form: the text in which spans are counted.
-#[unsafe(no_mangle)]
-pub extern "C" fn sakondreno_definition(text: &[u8], out: &mut [u8]) -> Answer
+pub fn sakondreno_definition(text: &[u8], out: &mut [u8]) -> Answer
     ensures { Promised replied define text.now out.old result out.new }
 {
     plain::answered(normalise::definition(text, out))
 }
 
 // Cuts a definition into its steps, each with a newline after it.
-#[unsafe(no_mangle)]
-pub extern "C" fn sakondreno_split(text: &[u8], out: &mut [u8]) -> Answer
+pub fn sakondreno_split(text: &[u8], out: &mut [u8]) -> Answer
     ensures { Promised replied split text.now out.old result out.new }
 {
     plain::answered(split::split(text, out))
 }
 
 // Cuts a step into its parameters, each as `key=value` with a newline after it.
-#[unsafe(no_mangle)]
-pub extern "C" fn sakondreno_parameters(text: &[u8], out: &mut [u8]) -> Answer
+pub fn sakondreno_parameters(text: &[u8], out: &mut [u8]) -> Answer
     ensures { Promised replied parameters text.now out.old result out.new }
 {
     plain::answered(parameters::parameters(text, out))
 }
 
 // Turns a PROJ text into a definition.
-#[unsafe(no_mangle)]
-pub extern "C" fn sakondreno_translate(text: &[u8], out: &mut [u8]) -> Answer
+pub fn sakondreno_translate(text: &[u8], out: &mut [u8]) -> Answer
     ensures { Promised replied translate text.now out.old result out.new }
 {
     plain::answered(proj::translate(text, out))
@@ -71,8 +66,7 @@ pub extern "C" fn sakondreno_translate(text: &[u8], out: &mut [u8]) -> Answer
 // ---- the walk over the steps
 
 // The next step of a normalised text from the place `at` on.
-#[unsafe(no_mangle)]
-pub extern "C" fn sakondreno_next(text: &[u8], at: usize) -> Part
+pub fn sakondreno_next(text: &[u8], at: usize) -> Part
     ensures { result ≡ plain_found (next text.now at) }
 {
     plain::part_of(reader::next_from(text, at))
@@ -82,8 +76,7 @@ pub extern "C" fn sakondreno_next(text: &[u8], at: usize) -> Part
 
 // Makes step records of a definition: number 0 and how many they are, and they stand at the front of the lent row; or the
 // refusal's number and place, and the row is as it was.
-#[unsafe(no_mangle)]
-pub extern "C" fn sakondreno_prepare(text: &[u8], table: &mut [Step]) -> Answer
+pub fn sakondreno_prepare(text: &[u8], table: &mut [Step]) -> Answer
     ensures { Promised record_count prepare text.now table.old result table.new }
 {
     let p = entry::prepare(text, table);
@@ -91,13 +84,7 @@ pub extern "C" fn sakondreno_prepare(text: &[u8], table: &mut [Step]) -> Answer
 }
 
 // The same in a reading and a mode: 0 is the crate's, any other number PROJ's reading or the documented mode.
-#[unsafe(no_mangle)]
-pub extern "C" fn sakondreno_prepare_as(
-    text: &[u8],
-    reading: u8,
-    mode: u8,
-    table: &mut [Step],
-) -> Answer
+pub fn sakondreno_prepare_as(text: &[u8], reading: u8, mode: u8, table: &mut [Step]) -> Answer
     ensures { Promised record_count (prepare_as (reading_of reading) (mode_of mode)) text.now table.old result table.new }
 {
     let how = plain::reading_of(reading);
@@ -107,8 +94,7 @@ pub extern "C" fn sakondreno_prepare_as(
 }
 
 // Says of a step table and a direction, without any data, what a run will do.
-#[unsafe(no_mangle)]
-pub extern "C" fn sakondreno_check(table: &[Step], inverse: u8) -> Checked
+pub fn sakondreno_check(table: &[Step], inverse: u8) -> Checked
     ensures { PlainChecks inverse table.now result }
 {
     let d = plain::direction_of(inverse);
@@ -117,13 +103,7 @@ pub extern "C" fn sakondreno_check(table: &[Step], inverse: u8) -> Checked
 }
 
 // Runs a step table over a list of tuples, four numbers each, and a store for columns.
-#[unsafe(no_mangle)]
-pub extern "C" fn sakondreno_run(
-    table: &[Step],
-    inverse: u8,
-    tuples: &mut [f64],
-    columns: &mut [f64],
-) -> Done
+pub fn sakondreno_run(table: &[Step], inverse: u8, tuples: &mut [f64], columns: &mut [f64]) -> Done
     ensures { PlainRuns inverse table.now tuples.old columns.old result tuples.new columns.new }
 {
     let d = plain::direction_of(inverse);
