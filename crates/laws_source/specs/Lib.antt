@@ -1,13 +1,7 @@
--- The source's readers as they stand (Strings, Readers, Descriptor), and theorems about them: what they never do, and that the definitions of `rules` read
--- every text as they do.
+-- The source's readers as they stand (Strings, Readers, Descriptor), and what of words and blanks is said of no reader (Words, Spaced). The theorems about
+-- the readers are in proofs/.
 pub mod Strings
 pub mod Readers
 pub mod Descriptor
-pub mod Branch
 pub mod Words
-pub mod LineWords
-pub mod Normalised
-pub mod Stripped
 pub mod Spaced
-pub mod Steps
-pub mod Letters

@@ -18,7 +18,7 @@ use Rattle.laws_text.specs.Plain.{blankless, plain, plain-blankless, words-plain
 use Rattle.laws_proj.specs.Cutting.{cut-plain, steps-plain}
 use Rattle.laws_source.specs.Strings.{is_empty, split_from, split_at, trim_from, trim_start_matches}
 use Rattle.laws_source.specs.Readers.{collect_proj, spaced, without_step, steps_in, parse_proj_steps}
-use Rattle.laws_source.specs.Stripped.{proj-lined}
+use Rattle.laws_source.proofs.Stripped.{proj-lined}
 use Rattle.laws_source.specs.Spaced.{starts-word, starts-alone, split-word, trim-stays, end-behind, trim-behind, trim-word}
 
 -- ---- of the words of a step only the first can be `step`

@@ -15,7 +15,7 @@ use Rattle.laws_text.specs.Passes.{words-nil}
 use Rattle.laws_text.specs.Plain.{cut-lacks}
 use Rattle.laws_source.specs.Strings.{is_empty, first, without_return, lines_of, lines}
 use Rattle.laws_source.specs.Readers.{first_part, collected, loop, comments_turn, proj_turn}
-use Rattle.laws_source.specs.Branch.{first-cut, never-full}
+use Rattle.laws_source.proofs.Branch.{first-cut, never-full}
 use Rattle.laws_source.specs.Words.{dark-byte, words-gap, words-before, words-before-return, words-trimmed}
 
 -- ---- the words of lines

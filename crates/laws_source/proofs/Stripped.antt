@@ -9,8 +9,8 @@ use Rattle.rules.specs.Text.Reader.{definition}
 use Rattle.rules.specs.Proj.Words.{unplussed}
 use Rattle.laws_source.specs.Strings.{lines}
 use Rattle.laws_source.specs.Readers.{loop, continue, all_comments, comments_turn, remove_comments_by, remove_comments, all_proj, proj_turn, collect_proj_by, collect_proj}
-use Rattle.laws_source.specs.LineWords.{Adds, Keeps, proj-adds, comments-adds, same-words, lined-line, proj-keeps, comments-keeps, collected-lines}
-use Rattle.laws_source.specs.Normalised.{normal-words}
+use Rattle.laws_source.proofs.LineWords.{Adds, Keeps, proj-adds, comments-adds, same-words, lined-line, proj-keeps, comments-keeps, collected-lines}
+use Rattle.laws_source.proofs.Normalised.{normal-words}
 
 -- what a reader collects of a text's lines, and `lined`
 normal-lines : (turn : Bytes → Bytes → Bytes) → Adds turn → Keeps turn → (t : Bytes) → normal (loop turn [] (lines t)) ≡ normal (lined t)

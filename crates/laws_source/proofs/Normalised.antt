@@ -12,7 +12,7 @@ use Rattle.rules.specs.Text.Normal.{squeezed, continued, normal}
 use Rattle.laws_lists.specs.Tests.{never, and_left, and_right, not_so}
 use Rattle.laws_text.specs.Passes.{in_word, grow, words-cons, keep, trim_end-cons, words-nil, in_word-words}
 use Rattle.laws_source.specs.Words.{dark-byte, words-trimmed}
-use Rattle.laws_source.specs.LineWords.{in_line, trimmed-all}
+use Rattle.laws_source.proofs.LineWords.{in_line, trimmed-all}
 
 -- ---- the ends of a text and of its words
 
