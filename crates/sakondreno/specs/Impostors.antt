@@ -1,7 +1,7 @@
 -- The five impostors of document 01, by their names: no program of that kind meets a public call's promise, whatever else it makes up. A
 -- program is seen from outside: what it returns, and what it leaves in the storage that it is lent, for each thing that it is given.
 -- One input, or two, tell each of them.
-use Rattle.std.specs.Prelude.{◌≡◌, refl, Bool, true, false, List, [], ◌∷◌, ℕ, suc, length, take, replicate, pos, Float}
+use Rattle.std.specs.Prelude.{◌≡◌, refl, Bool, false, List, [], ◌∷◌, ℕ, suc, length, take, replicate, pos, Float}
 use Rattle.std.proofs.Common.{sym, ap, ◌∙◌, arith}
 use Rattle.std.proofs.lemmas.Bool.{false≢true}
 use Rattle.std.specs.Float.{binary64}

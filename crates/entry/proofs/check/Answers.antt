@@ -10,5 +10,5 @@ pub returns : goal.returns
 returns c =
     record {
       exactly =
-        c.check.ensures.exactly ∙ ap (λ (t : Table). check c.args.direction (listed t)) c.load-t.ensures ∙ check-stands c.args.table.now c.args.direction;
+          c.check.ensures.exactly ∙ ap (λ (t : Table). check c.args.direction (listed t)) c.load-t.ensures ∙ check-stands c.args.table.now c.args.direction;
     }

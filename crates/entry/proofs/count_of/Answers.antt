@@ -1,7 +1,6 @@
 -- By the two cases of the answer.
 use mathlib.Core.Path.{sym, ap}
 use Rattle.entry.specs.Plans.{count_of}
-use borrow.Author.Rules.{rules}
 use Rattle.entry.proofs.count_of.Goals as goal
 
 pub returns-in-Steps : goal.returns-in-Steps

@@ -1,5 +1,4 @@
 -- The plan is what the call by value leaves of a table of blank records.
-use borrow.Author.Rules.{rules}
 use Rattle.entry.specs.PlanOfTable.{planned-by}
 use Rattle.entry.proofs.planned.Goals as goal
 

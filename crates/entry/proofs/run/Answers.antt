@@ -12,7 +12,7 @@ returns c =
     let store = c.args.columns.now in
     record {
       exactly =
-        c.run.ensures.exactly
-        ∙ ap (λ (t : Table). runs c.args.direction (listed t) xs store) c.load-t.ensures
-        ∙ runs-stands c.args.table.now c.args.direction xs store;
+          c.run.ensures.exactly
+          ∙ ap (λ (t : Table). runs c.args.direction (listed t) xs store) c.load-t.ensures
+          ∙ runs-stands c.args.table.now c.args.direction xs store;
     }

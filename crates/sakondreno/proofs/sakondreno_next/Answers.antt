@@ -1,7 +1,6 @@
 -- What the reader finds, told as a plain record.
 use mathlib.Core.Path.{ap, ◌∙◌}
 use Rattle.rules.specs.Face.Plain.{plain_found}
-use borrow.Author.Rules.{rules}
 use Rattle.sakondreno.proofs.sakondreno_next.Goals as goal
 
 pub returns : goal.returns

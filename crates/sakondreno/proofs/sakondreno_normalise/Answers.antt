@@ -1,7 +1,6 @@
 -- The promise of `normalise`, its answer told as a plain record.
 use Rattle.laws_text.specs.Entry.{in-other-words}
 use Rattle.rules.specs.Face.Plain.{plain_written}
-use borrow.Author.Rules.{rules}
 use Rattle.sakondreno.proofs.sakondreno_normalise.Goals as goal
 
 pub returns : goal.returns

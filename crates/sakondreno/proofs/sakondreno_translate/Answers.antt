@@ -1,7 +1,6 @@
 -- The promise of `translate`, its answer told as a plain record.
 use Rattle.laws_text.specs.Entry.{in-other-words}
 use Rattle.rules.specs.Face.Plain.{plain_written}
-use borrow.Author.Rules.{rules}
 use Rattle.sakondreno.proofs.sakondreno_translate.Goals as goal
 
 pub returns : goal.returns

@@ -1,6 +1,5 @@
 -- Two pieces: the word, and the text behind it.
 use Rattle.show.proofs.TwoPieces.{put_written, first-room, second-room, both-said}
-use borrow.Author.Rules.{rules}
 use Rattle.show.proofs.say_words.Goals as goal
 
 pub put-o-requires : goal.put-o-requires

@@ -6,7 +6,6 @@ use Rattle.rules.specs.Face.Shown.{refusal_text, shown_steps, translated_line, s
 use Rattle.rules.specs.Text.Split.{line}
 use mathlib.Core.List.{◌++◌}
 use lib.ListN.{take}
-use borrow.Author.Rules.{rules}
 use Rattle.show.proofs.show.Goals as goal
 
 pub slice_bounds-show_translation-end : goal.slice_bounds-show_translation-end
@@ -18,14 +17,17 @@ slice_bounds-show_translation-end-in-Wrote c =
     called-counts c.in-Wrote.is c.translate-written.ensures
 
 pub show_translation-requires : goal.show_translation-requires
-show_translation-requires c = record { b_len = c.requires.b_len; text_in_bounds = room-so (shown c.args.reading c.args.mode c.args.text.now)
-          (translated_line (take c.in-Wrote.n c.translate-written.new.out) ++ shown_steps
-          c.args.reading c.args.mode
-          (take c.in-Wrote.n c.translate-written.new.out)) c.args.out.now 0
-          (text-wrote c.args.reading c.args.mode c.args.text.now
-          (called-wrote c.in-Wrote.is c.translate-written.ensures c.requires.a_len
-          c.translate-written.auto.out))
-          (shown-room c.args.reading c.args.mode c.args.text.now c.args.out.now c.requires.in_bounds) }
+show_translation-requires c = record {
+  b_len = c.requires.b_len;
+  text_in_bounds = room-so (shown c.args.reading c.args.mode c.args.text.now)
+      (translated_line (take c.in-Wrote.n c.translate-written.new.out) ++ shown_steps
+      c.args.reading c.args.mode
+      (take c.in-Wrote.n c.translate-written.new.out)) c.args.out.now 0
+      (text-wrote c.args.reading c.args.mode c.args.text.now
+      (called-wrote c.in-Wrote.is c.translate-written.ensures c.requires.a_len
+      c.translate-written.auto.out))
+      (shown-room c.args.reading c.args.mode c.args.text.now c.args.out.now c.requires.in_bounds);
+}
 
 pub say_refusal-requires : goal.say_refusal-requires
 say_refusal-requires c =

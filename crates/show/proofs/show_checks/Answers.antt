@@ -4,7 +4,6 @@ use Rattle.show.proofs.PreparedTable.{prepare-refused, prepare-faulty, prepare-s
 use Rattle.rules.specs.Face.Shown.{refusal_text, offset_text, shown_checks, both_checks}
 use Rattle.rules.specs.Pipeline.Record.{listed}
 use Rattle.rules.specs.Text.Split.{line}
-use borrow.Author.Rules.{rules}
 use Rattle.show.proofs.show_checks.Goals as goal
 
 pub say_checks-requires : goal.say_checks-requires

@@ -2,7 +2,6 @@
 use Rattle.show.proofs.TwoPieces.{first-room, second-room, both-said}
 use Rattle.rules.specs.Face.Shown.{headed, shown_checks}
 use mathlib.Core.Bool.{false}
-use borrow.Author.Rules.{rules}
 use Rattle.show.proofs.show_lines.Goals as goal
 
 pub say_steps-o-requires : goal.say_steps-o-requires

@@ -6,7 +6,6 @@ use Rattle.rules.specs.Text.Split.{line}
 use mathlib.Core.Bool.{false}
 use mathlib.Core.List.{◌++◌}
 use lib.ListN.{take}
-use borrow.Author.Rules.{rules}
 use Rattle.show.proofs.show_steps.Goals as goal
 
 pub slice_bounds-show_lines-end : goal.slice_bounds-show_lines-end

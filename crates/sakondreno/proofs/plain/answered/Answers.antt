@@ -1,7 +1,6 @@
 -- By the two cases of what was written.
 use mathlib.Core.Path.{sym, ap}
 use Rattle.rules.specs.Face.Plain.{plain_written}
-use borrow.Author.Rules.{rules}
 use Rattle.sakondreno.proofs.plain.answered.Goals as goal
 
 pub returns-in-Wrote : goal.returns-in-Wrote

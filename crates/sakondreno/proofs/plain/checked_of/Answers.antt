@@ -1,6 +1,5 @@
 -- Field by field; the verdict by `verdict_of`.
 use Rattle.sakondreno.proofs.PlainPromises.{check-plain}
-use borrow.Author.Rules.{rules}
 use Rattle.sakondreno.proofs.plain.checked_of.Goals as goal
 
 pub returns : goal.returns

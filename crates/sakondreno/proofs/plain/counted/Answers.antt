@@ -1,7 +1,6 @@
 -- By the two cases of what was prepared.
 use mathlib.Core.Path.{sym, ap}
 use Rattle.rules.specs.Face.Plain.{plain_prepared}
-use borrow.Author.Rules.{rules}
 use Rattle.sakondreno.proofs.plain.counted.Goals as goal
 
 pub returns-in-Steps : goal.returns-in-Steps

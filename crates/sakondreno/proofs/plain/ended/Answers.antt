@@ -1,7 +1,6 @@
 -- By the two cases of what was run.
 use mathlib.Core.Path.{sym, ap}
 use Rattle.rules.specs.Face.Plain.{plain_ran}
-use borrow.Author.Rules.{rules}
 use Rattle.sakondreno.proofs.plain.ended.Goals as goal
 
 pub returns-in-Done : goal.returns-in-Done

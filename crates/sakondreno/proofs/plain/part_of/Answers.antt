@@ -1,7 +1,6 @@
 -- By the two cases of what was found.
 use mathlib.Core.Path.{sym, ap}
 use Rattle.rules.specs.Face.Plain.{plain_found}
-use borrow.Author.Rules.{rules}
 use Rattle.sakondreno.proofs.plain.part_of.Goals as goal
 
 pub returns-in-Step : goal.returns-in-Step

@@ -1,7 +1,6 @@
 -- By the four cases of the verdict.
 use mathlib.Core.Path.{sym, ap}
 use Rattle.rules.specs.Face.Plain.{plain_verdict}
-use borrow.Author.Rules.{rules}
 use Rattle.sakondreno.proofs.plain.verdict_of.Goals as goal
 
 pub returns-in-Passes : goal.returns-in-Passes

@@ -5,7 +5,6 @@ use Rattle.rules.specs.Text.Ascii.{ascii}
 use Rattle.rules.specs.Pipeline.Record.{listed}
 use Rattle.rules.specs.Pipeline.Check.{check}
 use Rattle.rules.specs.declared.Direction.TheVariants.{Forward, Inverse}
-use borrow.Author.Rules.{rules}
 use Rattle.show.proofs.checks.say_checks.Goals as goal
 
 pub say_check-o-requires : goal.say_check-o-requires

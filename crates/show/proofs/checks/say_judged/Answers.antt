@@ -3,7 +3,6 @@ use Rattle.show.proofs.Verdicts.{judged-room, judged-said}
 use Rattle.rules.specs.Face.Shown.{verdict_text}
 use Rattle.rules.specs.Text.Ascii.{ascii}
 use Rattle.rules.specs.declared.Verdict.TheVariants.{Passes, TooFew, TooMany, Refused}
-use borrow.Author.Rules.{rules}
 use Rattle.show.proofs.checks.say_judged.Goals as goal
 
 pub say_passed-requires : goal.say_passed-requires

@@ -4,7 +4,6 @@ use Rattle.rules.specs.Face.Shown.{counted, four_places, pass_text}
 use Rattle.rules.specs.Text.Ascii.{ascii}
 use mathlib.Core.List.{[], ◌++◌}
 use mathlib.Core.Bool.{cond}
-use borrow.Author.Rules.{rules}
 use Rattle.show.proofs.checks.say_passed.Goals as goal
 
 pub say_depths-o-requires : goal.say_depths-o-requires

@@ -1,7 +1,6 @@
 -- Two pieces: the direction, and the verdict.
 use Rattle.show.proofs.TwoPieces.{put_written, first-room, second-room, both-said}
 use Rattle.rules.specs.Face.Shown.{verdict_text}
-use borrow.Author.Rules.{rules}
 use Rattle.show.proofs.checks.say_verdict.Goals as goal
 
 pub put-o-requires : goal.put-o-requires

@@ -2,7 +2,6 @@
 use Rattle.show.proofs.TwoPieces.{put_written, first-room, second-room, both-said}
 use Rattle.rules.specs.Text.Numerals.{digits}
 use Rattle.rules.specs.Face.Shown.{counted}
-use borrow.Author.Rules.{rules}
 use Rattle.show.proofs.pieces.say_counted.Goals as goal
 
 pub put-o-requires : goal.put-o-requires

@@ -2,7 +2,6 @@
 use Rattle.show.proofs.TwoPieces.{first-room, second-room, both-said}
 use Rattle.rules.specs.Face.Shown.{counted, refusal_text, offset_text}
 use Rattle.rules.specs.Text.Ascii.{ascii}
-use borrow.Author.Rules.{rules}
 use Rattle.show.proofs.pieces.say_faulty.Goals as goal
 
 pub say_refused-o-requires : goal.say_refused-o-requires

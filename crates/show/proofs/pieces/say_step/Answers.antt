@@ -2,7 +2,6 @@
 use Rattle.show.proofs.TwoPieces.{put_written, first-room, second-room, both-said}
 use Rattle.rules.specs.Face.Shown.{counted}
 use Rattle.rules.specs.Text.Ascii.{ascii}
-use borrow.Author.Rules.{rules}
 use Rattle.show.proofs.pieces.say_step.Goals as goal
 
 pub say_counted-o-requires : goal.say_counted-o-requires

@@ -1,10 +1,7 @@
-use mathlib.Core.Bool.{cond}
-use Prim.Native.Nat.{◌+◌, ◌*◌, ◌-◌}
 use native.Mathlib.Omega.{arith}
-use lib.ListN.{length}
 use Rattle.rules.specs.Text.Ascii.{ascii}
 use Rattle.rules.specs.Face.Shown.{heading}
-use Rattle.show.proofs.HeadedLines.{Heading, heading-start, heading-kept, heading-done, heading-room, heading-said, heading-place, heading-next, heading-byte, less-heading}
+use Rattle.show.proofs.HeadedLines.{heading-start, heading-kept, heading-done, heading-room, heading-said, heading-place, heading-next, heading-byte, less-heading}
 use borrow.Author.Rules.{rules}
 use Rattle.show.proofs.pieces.say_steps.Goals as goal
 

@@ -2,12 +2,8 @@
 -- so twice the bytes that are left, and one where no line has begun, is the measure.
 use mathlib.Core.Bool.{cond}
 use Prim.Native.Nat.{◌+◌, ◌*◌, ◌-◌}
-use native.Mathlib.Omega.{arith}
 use lib.ListN.{length}
-use Rattle.rules.specs.Text.Ascii.{ascii}
-use Rattle.rules.specs.Face.Shown.{heading}
-use Rattle.show.proofs.HeadedLines.{Heading, heading-start, heading-kept, heading-done, heading-room, heading-said, heading-place, heading-next, heading-byte, less-heading}
-use borrow.Author.Rules.{rules}
+use Rattle.show.proofs.HeadedLines.{Heading}
 use Rattle.show.proofs.pieces.say_steps.Given as goal
 
 abbrev pub invariant-loop-i : goal.invariant-loop-i

@@ -2,7 +2,6 @@
 use Rattle.show.proofs.TwoPieces.{first-room, second-room, both-said}
 use Rattle.rules.specs.Face.Shown.{signed_place, two_places}
 use Rattle.rules.specs.Text.Ascii.{ascii}
-use borrow.Author.Rules.{rules}
 use Rattle.show.proofs.places.say_pair.Goals as goal
 
 pub say_signed-o-requires : goal.say_signed-o-requires

@@ -3,7 +3,6 @@ use Rattle.show.proofs.TwoPieces.{first-room, second-room, both-said}
 use Rattle.rules.specs.Face.Shown.{two_places, four_places}
 use Rattle.rules.specs.Text.Ascii.{ascii}
 use Rattle.rules.specs.Pipeline.Check.{nth}
-use borrow.Author.Rules.{rules}
 use Rattle.show.proofs.places.say_places.Goals as goal
 
 pub say_pair-o-requires : goal.say_pair-o-requires

@@ -5,7 +5,6 @@ use Rattle.rules.specs.Face.Shown.{counted, signed_place}
 use Rattle.rules.specs.Text.Ascii.{ascii}
 use mathlib.Core.List.{[], ◌++◌}
 use mathlib.Core.Bool.{cond}
-use borrow.Author.Rules.{rules}
 use Rattle.show.proofs.places.say_signed.Goals as goal
 
 pub say_marked-o-requires : goal.say_marked-o-requires

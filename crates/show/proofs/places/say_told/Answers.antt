@@ -1,7 +1,6 @@
 -- By whether the places are told.
 use Rattle.show.proofs.OptionalPieces.{told-room, told-said, untold-said}
 use Rattle.rules.specs.Face.Shown.{four_places}
-use borrow.Author.Rules.{rules}
 use Rattle.show.proofs.places.say_told.Goals as goal
 
 pub say_places-requires : goal.say_places-requires
