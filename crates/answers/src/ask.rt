@@ -74,6 +74,7 @@ fn asked_text(word: &[u8]) -> Request {
 
 // Answers a line, which stands here without its newline.
 pub fn answer(
+    rt: &impl Print,
     line: &[u8],
     text: &mut [u8; 65536],
     lent: &mut [u8; 131088],
@@ -86,12 +87,12 @@ pub fn answer(
     ensures { result ≤ 65536 }
 {
     match asked(answers_wire::field(line, 0)) {
-        Request::Text(which) => answer_text(which, line, text, lent, out, at),
+        Request::Text(which) => answer_text(rt, which, line, text, lent, out, at),
         Request::Table(which, source) => {
-            answer_table(which, source, line, text, lent, list, store, out, at)
+            answer_table(rt, which, source, line, text, lent, list, store, out, at)
         }
-        Request::Prepare(way) => answer_prepare(way, line, text, out, at),
-        Request::Steps => answer_steps(line, text, out, at),
-        Request::Nothing => say_what(out, at),
+        Request::Prepare(way) => answer_prepare(rt, way, line, text, out, at),
+        Request::Steps => answer_steps(rt, line, text, out, at),
+        Request::Nothing => say_what(rt, out, at),
     }
 }

@@ -9,6 +9,7 @@ use rules::Direction;
 
 // `check DIR TEXT`, `rows-check DIR ROWS`.
 pub fn answer_check(
+    rt: &impl Print,
     source: Source,
     line: &[u8],
     text: &mut [u8; 65536],
@@ -19,24 +20,30 @@ pub fn answer_check(
     ensures { result ≤ 65536 }
 {
     let Heading::Is(direction) = read_direction(answers_wire::field(line, 1)) else {
-        return say_what(out, at);
+        return say_what(rt, out, at);
     };
-    check_given(read_given(source, line, 3, 2, text), direction, out, at)
+    check_given(rt, read_given(source, line, 3, 2, text), direction, out, at)
 }
 
-fn check_given(g: Given, direction: Direction, out: &mut [u8; 65536], at: usize) -> usize
+fn check_given(
+    rt: &impl Print,
+    g: Given,
+    direction: Direction,
+    out: &mut [u8; 65536],
+    at: usize,
+) -> usize
     requires { at ≤ 65536 }
     ensures { result ≤ 65536 }
 {
     let had = g.had;
     let table = g.table;
     match had {
-        Had::Steps => say_foretold(check(table, direction), g.kept, out, at),
+        Had::Steps => say_foretold(rt, check(table, direction), g.kept, out, at),
         Had::Refused {
             number,
             place,
             offset,
-        } => say_unprepared(number, place, offset, g.kept, out, at),
-        Had::Nothing => say_what(out, at),
+        } => say_unprepared(rt, number, place, offset, g.kept, out, at),
+        Had::Nothing => say_what(rt, out, at),
     }
 }

@@ -16,7 +16,7 @@ mod writes;
 ghost use Rattle.std.specs.Prelude.{◌≤◌, ◌<◌, ◌≡◌, length};
 
 use answers_say::{UNTOUCHED, flush};
-use libc::STDIN_FILENO;
+use std::io::Read;
 
 // A byte that no request begins with: it stands for the front of a line that is too long.
 const NO_REQUEST: u8 = b'?';
@@ -35,13 +35,16 @@ fn lent_room() -> [u8; 131088]
     [UNTOUCHED; 131088]
 }
 
-// Reads once, behind the first `have` bytes, and answers how many there are then: no more where the input has ended.
-fn read_more(input: &mut [u8], have: usize) -> usize
+// Reads once, behind the first `have` bytes, and answers how many there are then: no more where the input has ended or the
+// read fails.
+fn read_more(from: &mut impl Read, input: &mut [u8], have: usize) -> usize
     requires { have ≤ length input.old }
     ensures { (have ≤ result) × (result ≤ length input.old) }
 {
-    let got = libc::read(STDIN_FILENO, &mut input[have..]);
-    have + io::count(got, &input[have..])
+    match from.read(&mut input[have..]) {
+        Ok(got) => have + got,
+        Err(_) => have,
+    }
 }
 
 // Moves the line that has begun to the front, and answers how many bytes of it there are. Where it fills the whole
@@ -62,6 +65,7 @@ fn keep(input: &mut [u8], start: usize, end: usize) -> usize
 // Answers each whole line of the input, whose first `seen` bytes have no newline, and answers where the line that has
 // begun starts.
 fn answer_lines(
+    rt: &impl Print,
     input: &[u8],
     seen: usize,
     text: &mut [u8; 65536],
@@ -77,16 +81,17 @@ fn answer_lines(
     let mut at = 0;
     let mut newline = answers_wire::find(input, seen, b'\n');
     while newline < input.len() {
-        at = ask::answer(&input[start..newline], text, lent, list, store, out, at);
+        at = ask::answer(rt, &input[start..newline], text, lent, list, store, out, at);
         start = newline + 1;
         newline = answers_wire::find(input, start, b'\n');
     }
-    flush(out, at);
+    flush(rt, out, at);
     start
 }
 
 // Answers the last line, where it has no newline.
 fn answer_last(
+    rt: &impl Print,
     line: &[u8],
     text: &mut [u8; 65536],
     lent: &mut [u8; 131088],
@@ -95,28 +100,38 @@ fn answer_last(
     out: &mut [u8; 65536],
 ) {
     if 0 < line.len() {
-        let at = ask::answer(line, text, lent, list, store, out, 0);
-        flush(out, at);
+        let at = ask::answer(rt, line, text, lent, list, store, out, 0);
+        flush(rt, out, at);
     }
 }
 
 // A proved loop has to end, and nothing says that the input does: the loop counts its turns down, from a number that no
 // run uses up.
-fn serve_with(list: &mut [f64; 262164], store: &mut [f64; 262164]) {
+fn serve_with(rt: &HostRuntime, list: &mut [f64; 262164], store: &mut [f64; 262164]) {
+    let mut stdin = rt.stdin();
     let mut input = input_room();
     // Room for the longest text that a line can spell.
-    let mut text = io::large_buffer();
+    let mut text = streams::large_buffer();
     let mut lent = lent_room();
-    let mut out = io::large_buffer();
+    let mut out = streams::large_buffer();
     let mut have = 0;
     let mut turns = u64::MAX;
     while 0 < turns {
-        let end = read_more(&mut input, have);
+        let end = read_more(&mut stdin, &mut input, have);
         if end == have {
-            answer_last(&input[0..have], &mut text, &mut lent, list, store, &mut out);
+            answer_last(
+                rt,
+                &input[0..have],
+                &mut text,
+                &mut lent,
+                list,
+                store,
+                &mut out,
+            );
             return;
         }
         let start = answer_lines(
+            rt,
             &input[0..end],
             have,
             &mut text,
@@ -131,8 +146,8 @@ fn serve_with(list: &mut [f64; 262164], store: &mut [f64; 262164]) {
 }
 
 // Makes room for a list and a store, each of the most numbers, and the guard behind them.
-fn main() {
+fn main(rt: HostRuntime) {
     let mut list = [0.0; 262164];
     let mut store = [0.0; 262164];
-    serve_with(&mut list, &mut store);
+    serve_with(&rt, &mut list, &mut store);
 }

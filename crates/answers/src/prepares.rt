@@ -19,6 +19,7 @@ pub fn prepared(text: &[u8], n: usize, way: Way, room: usize) -> Preparing
 
 // `prepare ROOM TEXT`.
 pub fn answer_prepare(
+    rt: &impl Print,
     way: Way,
     line: &[u8],
     text: &mut [u8; 65536],
@@ -30,15 +31,21 @@ pub fn answer_prepare(
 {
     let Natural::Is(room) = answers_wire::read_natural(answers_wire::field(line, 1), MOST_STEPS)
     else {
-        return say_what(out, at);
+        return say_what(rt, out, at);
     };
     let Text::Is(n) = answers_wire::read_text_of(line, 3, 2, text) else {
-        return say_what(out, at);
+        return say_what(rt, out, at);
     };
-    say_prepared(prepared(text, n, way, room), room, out, at)
+    say_prepared(rt, prepared(text, n, way, room), room, out, at)
 }
 
-fn say_prepared(made: Preparing, room: usize, out: &mut [u8; 65536], at: usize) -> usize
+fn say_prepared(
+    rt: &impl Print,
+    made: Preparing,
+    room: usize,
+    out: &mut [u8; 65536],
+    at: usize,
+) -> usize
     requires at_bound { at ≤ 65536 }
     requires room_bound { room ≤ 64 }
     ensures { result ≤ 65536 }
@@ -46,14 +53,14 @@ fn say_prepared(made: Preparing, room: usize, out: &mut [u8; 65536], at: usize) 
     let answer = made.answer;
     let table = made.table;
     match answer {
-        Prepared::Steps(count) => say_table(table, count, room, out, at),
+        Prepared::Steps(count) => say_table(rt, table, count, room, out, at),
         Prepared::Refused {
             number,
             place,
             offset,
         } => {
             let kept = is_untouched(table, 0, room);
-            say_unprepared(number, place, offset, kept, out, at)
+            say_unprepared(rt, number, place, offset, kept, out, at)
         }
     }
 }

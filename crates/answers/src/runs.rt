@@ -13,6 +13,7 @@ const MOST_NUMBERS: usize = 262148;
 
 // `run DIR STORE TEXT NUMBERS`, `rows_run DIR STORE ROWS NUMBERS`.
 pub fn answer_run(
+    rt: &impl Print,
     source: Source,
     line: &[u8],
     text: &mut [u8; 65536],
@@ -25,13 +26,14 @@ pub fn answer_run(
     ensures { result ≤ 65536 }
 {
     let Heading::Is(direction) = read_direction(answers_wire::field(line, 1)) else {
-        return say_what(out, at);
+        return say_what(rt, out, at);
     };
     let g = read_given(source, line, 5, 3, text);
-    run_given(g, direction, line, list, store, out, at)
+    run_given(rt, g, direction, line, list, store, out, at)
 }
 
 fn run_given(
+    rt: &impl Print,
     g: Given,
     direction: Direction,
     line: &[u8],
@@ -45,12 +47,13 @@ fn run_given(
 {
     let Natural::Is(room) = answers_wire::read_natural(answers_wire::field(line, 2), MOST_NUMBERS)
     else {
-        return say_what(out, at);
+        return say_what(rt, out, at);
     };
     let Natural::Is(k) = answers_wire::numbers(answers_wire::field(line, 4), MOST_NUMBERS) else {
-        return say_what(out, at);
+        return say_what(rt, out, at);
     };
     run_sized(
+        rt,
         g,
         direction,
         answers_wire::field(line, 4),
@@ -65,6 +68,7 @@ fn run_given(
 
 // The same, with the sizes of list and store read.
 fn run_sized(
+    rt: &impl Print,
     g: Given,
     direction: Direction,
     field: &[u8],
@@ -83,19 +87,20 @@ fn run_sized(
     let table = g.table;
     match had {
         Had::Steps => run_table(
-            table, direction, g.kept, field, k, room, list, store, out, at,
+            rt, table, direction, g.kept, field, k, room, list, store, out, at,
         ),
         Had::Refused {
             number,
             place,
             offset,
-        } => say_unprepared(number, place, offset, g.kept, out, at),
-        Had::Nothing => say_what(out, at),
+        } => say_unprepared(rt, number, place, offset, g.kept, out, at),
+        Had::Nothing => say_what(rt, out, at),
     }
 }
 
 // Lays out list and store, runs, and says what was answered.
 fn run_table(
+    rt: &impl Print,
     table: Table,
     direction: Direction,
     kept: bool,
@@ -114,7 +119,7 @@ fn run_table(
     lay(field, k, list);
     clear(room, store);
     let ran = lend(table, direction, k, room, list, store);
-    say_ran(ran, kept, field, k, room, list, store, out, at)
+    say_ran(rt, ran, kept, field, k, room, list, store, out, at)
 }
 
 // The k numbers that `field` spells, and the guard behind them.

@@ -37,6 +37,7 @@ pub fn table_call(word: &[u8]) -> Called {
 
 // The answer to a request on a table.
 pub fn answer_table(
+    rt: &impl Print,
     which: TableCall,
     source: Source,
     line: &[u8],
@@ -51,8 +52,8 @@ pub fn answer_table(
     ensures { result ≤ 65536 }
 {
     match which {
-        TableCall::Check => answer_check(source, line, text, out, at),
-        TableCall::Run => answer_run(source, line, text, list, store, out, at),
-        TableCall::Write => answer_write(source, line, text, lent, out, at),
+        TableCall::Check => answer_check(rt, source, line, text, out, at),
+        TableCall::Run => answer_run(rt, source, line, text, list, store, out, at),
+        TableCall::Write => answer_write(rt, source, line, text, lent, out, at),
     }
 }

@@ -41,6 +41,7 @@ fn lend(which: TextCall, text: &[u8], n: usize, lent: &mut [u8], room: usize) ->
 
 // `CALL ROOM TEXT`.
 pub fn answer_text(
+    rt: &impl Print,
     which: TextCall,
     line: &[u8],
     text: &mut [u8; 65536],
@@ -53,12 +54,12 @@ pub fn answer_text(
 {
     let Natural::Is(room) = answers_wire::read_natural(answers_wire::field(line, 1), MOST_ROOM)
     else {
-        return say_what(out, at);
+        return say_what(rt, out, at);
     };
     let Text::Is(n) = answers_wire::read_text_of(line, 3, 2, text) else {
-        return say_what(out, at);
+        return say_what(rt, out, at);
     };
-    say_lent(lend(which, text, n, lent, room), room, lent, out, at)
+    say_lent(rt, lend(which, text, n, lent, room), room, lent, out, at)
 }
 
 // Room for all that can be printed.
@@ -69,24 +70,30 @@ fn print_room() -> [u8; 139264]
 }
 
 // `steps TEXT`.
-pub fn answer_steps(line: &[u8], text: &mut [u8; 65536], out: &mut [u8; 65536], at: usize) -> usize
+pub fn answer_steps(
+    rt: &impl Print,
+    line: &[u8],
+    text: &mut [u8; 65536],
+    out: &mut [u8; 65536],
+    at: usize,
+) -> usize
     requires { at ≤ 65536 }
     ensures { result ≤ 65536 }
 {
     let Text::Is(n) = answers_wire::read_text_of(line, 2, 1, text) else {
-        return say_what(out, at);
+        return say_what(rt, out, at);
     };
-    say_shown(text, n, out, at)
+    say_shown(rt, text, n, out, at)
 }
 
 // `ok TEXT`, of the first n bytes.
-fn say_shown(text: &[u8], n: usize, out: &mut [u8; 65536], at: usize) -> usize
+fn say_shown(rt: &impl Print, text: &[u8], n: usize, out: &mut [u8; 65536], at: usize) -> usize
     requires at_bound { at ≤ 65536 }
     requires n_in_bounds { n ≤ length text.now }
     ensures { result ≤ 65536 }
 {
-    let mut a = io::large_buffer();
-    let mut b = io::large_buffer();
+    let mut a = streams::large_buffer();
+    let mut b = streams::large_buffer();
     let mut room = print_room();
     let long = show::show(
         &text[0..n],
@@ -96,6 +103,6 @@ fn say_shown(text: &[u8], n: usize, out: &mut [u8; 65536], at: usize) -> usize
         &mut b,
         &mut room,
     );
-    let told = say_ok(&room, long, out, at);
-    say_byte(b'\n', out, told)
+    let told = say_ok(rt, &room, long, out, at);
+    say_byte(rt, b'\n', out, told)
 }

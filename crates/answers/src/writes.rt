@@ -7,6 +7,7 @@ use rules::{Table, Written};
 
 // `write TEXT`, `rows_write ROWS`.
 pub fn answer_write(
+    rt: &impl Print,
     source: Source,
     line: &[u8],
     text: &mut [u8; 65536],
@@ -17,23 +18,29 @@ pub fn answer_write(
     requires { at ≤ 65536 }
     ensures { result ≤ 65536 }
 {
-    write_given(read_given(source, line, 2, 1, text), lent, out, at)
+    write_given(rt, read_given(source, line, 2, 1, text), lent, out, at)
 }
 
-fn write_given(g: Given, lent: &mut [u8; 131088], out: &mut [u8; 65536], at: usize) -> usize
+fn write_given(
+    rt: &impl Print,
+    g: Given,
+    lent: &mut [u8; 131088],
+    out: &mut [u8; 65536],
+    at: usize,
+) -> usize
     requires { at ≤ 65536 }
     ensures { result ≤ 65536 }
 {
     let had = g.had;
     let table = g.table;
     match had {
-        Had::Steps => say_lent(lend(table, lent), MOST_ROOM, lent, out, at),
+        Had::Steps => say_lent(rt, lend(table, lent), MOST_ROOM, lent, out, at),
         Had::Refused {
             number,
             place,
             offset,
-        } => say_unprepared(number, place, offset, g.kept, out, at),
-        Had::Nothing => say_what(out, at),
+        } => say_unprepared(rt, number, place, offset, g.kept, out, at),
+        Had::Nothing => say_what(rt, out, at),
     }
 }
 

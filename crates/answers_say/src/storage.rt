@@ -15,6 +15,7 @@ const GUARD: usize = 16;
 
 // Looks at what was lent, `room` bytes, and says what was answered.
 pub fn say_lent(
+    rt: &impl Print,
     written: Written,
     room: usize,
     lent: &mut [u8; 131088],
@@ -26,15 +27,16 @@ pub fn say_lent(
     ensures { result ≤ 65536 }
 {
     match written {
-        Written::Wrote(n) => say_written(n, room, lent, out, at),
+        Written::Wrote(n) => say_written(rt, n, room, lent, out, at),
         Written::Refused { number, place } => {
-            say_refusal(number, place, is_kept(lent, 0, room), out, at)
+            say_refusal(rt, number, place, is_kept(lent, 0, room), out, at)
         }
     }
 }
 
 // `ok TEXT`.
 fn say_written(
+    rt: &impl Print,
     n: usize,
     room: usize,
     lent: &mut [u8; 131088],
@@ -47,20 +49,20 @@ fn say_written(
 {
     if room < n {
         answers_wire::fill(lent, UNTOUCHED);
-        return say(b"ok - spoilt\n", out, at);
+        return say(rt, b"ok - spoilt\n", out, at);
     }
-    let told = say_ok(lent, n, out, at);
-    end_line(is_kept(lent, n, room), out, told)
+    let told = say_ok(rt, lent, n, out, at);
+    end_line(rt, is_kept(lent, n, room), out, told)
 }
 
 // `ok` and the first n bytes.
-pub fn say_ok(text: &[u8], n: usize, out: &mut [u8; 65536], at: usize) -> usize
+pub fn say_ok(rt: &impl Print, text: &[u8], n: usize, out: &mut [u8; 65536], at: usize) -> usize
     requires at_bound { at ≤ 65536 }
     requires n_in_bounds { n ≤ length text.now }
     ensures { result ≤ 65536 }
 {
-    let begun = say(b"ok ", out, at);
-    say_text(&text[0..n], out, begun)
+    let begun = say(rt, b"ok ", out, at);
+    say_text(rt, &text[0..n], out, begun)
 }
 
 // Is each lent byte behind the first n as it was, and the guard? Leaves all of the storage as it was before it was

@@ -97,52 +97,53 @@ pub fn first(table: Table, n: usize) -> Table {
 // ---- a record
 
 // NAME, or `?` where the number is no operator's.
-fn say_name(operator: u8, out: &mut [u8; 65536], at: usize) -> usize
+fn say_name(rt: &impl Print, operator: u8, out: &mut [u8; 65536], at: usize) -> usize
     requires { at ≤ 65536 }
     ensures { result ≤ 65536 }
 {
     match operator {
-        PUSH => say(b"push", out, at),
-        POP => say(b"pop", out, at),
-        STACK_PUSH => say(b"stack.push", out, at),
-        STACK_POP => say(b"stack.pop", out, at),
-        STACK_FLIP => say(b"stack.flip", out, at),
-        STACK_ROLL => say(b"stack.roll", out, at),
-        STACK_UNROLL => say(b"stack.unroll", out, at),
-        STACK_SWAP => say(b"stack.swap", out, at),
-        STACK_DROP => say(b"stack.drop", out, at),
-        AXISSWAP => say(b"axisswap", out, at),
-        ADAPT => say(b"adapt", out, at),
-        DOCUMENTED => say(b"documented", out, at),
-        _ => say_byte(b'?', out, at),
+        PUSH => say(rt, b"push", out, at),
+        POP => say(rt, b"pop", out, at),
+        STACK_PUSH => say(rt, b"stack.push", out, at),
+        STACK_POP => say(rt, b"stack.pop", out, at),
+        STACK_FLIP => say(rt, b"stack.flip", out, at),
+        STACK_ROLL => say(rt, b"stack.roll", out, at),
+        STACK_UNROLL => say(rt, b"stack.unroll", out, at),
+        STACK_SWAP => say(rt, b"stack.swap", out, at),
+        STACK_DROP => say(rt, b"stack.drop", out, at),
+        AXISSWAP => say(rt, b"axisswap", out, at),
+        ADAPT => say(rt, b"adapt", out, at),
+        DOCUMENTED => say(rt, b"documented", out, at),
+        _ => say_byte(rt, b'?', out, at),
     }
 }
 
 // A mark's letter, where it is set.
-fn say_mark(mark: u8, letter: u8, out: &mut [u8; 65536], at: usize) -> usize
+fn say_mark(rt: &impl Print, mark: u8, letter: u8, out: &mut [u8; 65536], at: usize) -> usize
     requires { at ≤ 65536 }
     ensures { result ≤ 65536 }
 {
     if mark == 0 {
         return at;
     }
-    say_byte(letter, out, at)
+    say_byte(rt, letter, out, at)
 }
 
 // The letter of PROJ's reading; none of the crate's; `?` where the number is no reading's.
-fn say_reading(reading: u8, out: &mut [u8; 65536], at: usize) -> usize
+fn say_reading(rt: &impl Print, reading: u8, out: &mut [u8; 65536], at: usize) -> usize
     requires { at ≤ 65536 }
     ensures { result ≤ 65536 }
 {
     match reading {
         CRATE => at,
-        PROJ => say_byte(b'p', out, at),
-        _ => say_byte(b'?', out, at),
+        PROJ => say_byte(rt, b'p', out, at),
+        _ => say_byte(rt, b'?', out, at),
     }
 }
 
 // MARKS: a letter for each that is set, and the reading's; or `-`.
 fn say_marks(
+    rt: &impl Print,
     inv: u8,
     omit_fwd: u8,
     omit_inv: u8,
@@ -154,35 +155,35 @@ fn say_marks(
     ensures { result ≤ 65536 }
 {
     if inv | omit_fwd | omit_inv | (reading ^ CRATE) == 0 {
-        return say_byte(b'-', out, at);
+        return say_byte(rt, b'-', out, at);
     }
-    let first = say_mark(inv, b'i', out, at);
-    let second = say_mark(omit_fwd, b'f', out, first);
-    let third = say_mark(omit_inv, b'o', out, second);
-    say_reading(reading, out, third)
+    let first = say_mark(rt, inv, b'i', out, at);
+    let second = say_mark(rt, omit_fwd, b'f', out, first);
+    let third = say_mark(rt, omit_inv, b'o', out, second);
+    say_reading(rt, reading, out, third)
 }
 
 // Whole numbers joined by commas, `-` where there are none.
-fn say_list(l: &[i32], out: &mut [u8; 65536], at: usize) -> usize
+fn say_list(rt: &impl Print, l: &[i32], out: &mut [u8; 65536], at: usize) -> usize
     requires { at ≤ 65536 }
     ensures { result ≤ 65536 }
 {
     if l.len() == 0 {
-        return say_byte(b'-', out, at);
+        return say_byte(rt, b'-', out, at);
     }
     let mut o = at;
     let mut i = 0;
     while i < l.len() {
         let x = l[i];
-        let parted = say_comma(i, out, o);
-        o = say_signed(is_minus(x), size_of(x), out, parted);
+        let parted = say_comma(rt, i, out, o);
+        o = say_signed(rt, is_minus(x), size_of(x), out, parted);
         i += 1;
     }
     o
 }
 
 // The arguments of an `adapt` step, in either mode: `noop`, or the four places and the four factors.
-fn say_adapt(args: [i32; 8], out: &mut [u8; 65536], at: usize) -> usize
+fn say_adapt(rt: &impl Print, args: [i32; 8], out: &mut [u8; 65536], at: usize) -> usize
     requires { at ≤ 65536 }
     ensures { result ≤ 65536 }
 {
@@ -192,63 +193,76 @@ fn say_adapt(args: [i32; 8], out: &mut [u8; 65536], at: usize) -> usize
     let p4 = size_of(args[3]);
     let m = adapt::mults_of(args);
     if adapt::is_noop(p1, p2, p3, p4, m) {
-        return say(b"noop", out, at);
+        return say(rt, b"noop", out, at);
     }
-    say_adapted([p1, p2, p3, p4], [m.a, m.b, m.c, m.d], out, at)
+    say_adapted(rt, [p1, p2, p3, p4], [m.a, m.b, m.c, m.d], out, at)
 }
 
 // The four places and the four factors.
-fn say_adapted(post: [usize; 4], mult: [f64; 4], out: &mut [u8; 65536], at: usize) -> usize
+fn say_adapted(
+    rt: &impl Print,
+    post: [usize; 4],
+    mult: [f64; 4],
+    out: &mut [u8; 65536],
+    at: usize,
+) -> usize
     requires { at ≤ 65536 }
     ensures { result ≤ 65536 }
 {
-    let placed = say_sizes(&post, out, at);
-    let parted = say_byte(b',', out, placed);
-    say_numbers(&mult, out, parted)
+    let placed = say_sizes(rt, &post, out, at);
+    let parted = say_byte(rt, b',', out, placed);
+    say_numbers(rt, &mult, out, parted)
 }
 
 // ARGS: of all but `adapt`, the arguments as they stand in the record.
-fn say_args(operator: u8, args: [i32; 8], n: usize, out: &mut [u8; 65536], at: usize) -> usize
+fn say_args(
+    rt: &impl Print,
+    operator: u8,
+    args: [i32; 8],
+    n: usize,
+    out: &mut [u8; 65536],
+    at: usize,
+) -> usize
     requires { at ≤ 65536 }
     ensures { result ≤ 65536 }
 {
     if operator == ADAPT || operator == DOCUMENTED {
-        return say_adapt(args, out, at);
+        return say_adapt(rt, args, out, at);
     }
     if 8 < n {
-        return say_byte(b'?', out, at);
+        return say_byte(rt, b'?', out, at);
     }
-    say_list(&args[0..n], out, at)
+    say_list(rt, &args[0..n], out, at)
 }
 
 // `FROM+LENGTH`: where a step's text stands.
-pub fn say_span(p: Span, out: &mut [u8; 65536], at: usize) -> usize
+pub fn say_span(rt: &impl Print, p: Span, out: &mut [u8; 65536], at: usize) -> usize
     requires { at ≤ 65536 }
     ensures { result ≤ 65536 }
 {
-    let begun = say_number(p.from as usize, out, at);
-    let parted = say_byte(b'+', out, begun);
-    say_number(p.length as usize, out, parted)
+    let begun = say_number(rt, p.from as usize, out, at);
+    let parted = say_byte(rt, b'+', out, begun);
+    say_number(rt, p.length as usize, out, parted)
 }
 
 // RECORD: the name, the marks and the arguments, with colons between, and the span behind an `@`.
-fn say_record(s: Step, out: &mut [u8; 65536], at: usize) -> usize
+fn say_record(rt: &impl Print, s: Step, out: &mut [u8; 65536], at: usize) -> usize
     requires { at ≤ 65536 }
     ensures { result ≤ 65536 }
 {
-    let named = say_name(s.operator, out, at);
-    let parted = say_byte(b':', out, named);
-    let marked = say_marks(s.inv, s.omit_fwd, s.omit_inv, s.reading, out, parted);
-    let again = say_byte(b':', out, marked);
+    let named = say_name(rt, s.operator, out, at);
+    let parted = say_byte(rt, b':', out, named);
+    let marked = say_marks(rt, s.inv, s.omit_fwd, s.omit_inv, s.reading, out, parted);
+    let again = say_byte(rt, b':', out, marked);
     let args = s.args;
-    let given = say_args(s.operator, args, s.n as usize, out, again);
+    let given = say_args(rt, s.operator, args, s.n as usize, out, again);
     let span = s.span;
-    let placed = say_byte(b'@', out, given);
-    say_span(span, out, placed)
+    let placed = say_byte(rt, b'@', out, given);
+    say_span(rt, span, out, placed)
 }
 
 // The first n records, each behind a space.
-fn say_records(table: Table, n: usize, out: &mut [u8; 65536], at: usize) -> usize
+fn say_records(rt: &impl Print, table: Table, n: usize, out: &mut [u8; 65536], at: usize) -> usize
     requires at_bound { at ≤ 65536 }
     requires n_bound { n ≤ 64 }
     ensures { result ≤ 65536 }
@@ -257,23 +271,30 @@ fn say_records(table: Table, n: usize, out: &mut [u8; 65536], at: usize) -> usiz
     let mut i = 0;
     while i < n {
         let s = table.steps[i];
-        let parted = say_byte(b' ', out, o);
-        o = say_record(s, out, parted);
+        let parted = say_byte(rt, b' ', out, o);
+        o = say_record(rt, s, out, parted);
         i += 1;
     }
     o
 }
 
 // `ok COUNT` and the records.
-pub fn say_table(table: Table, count: usize, room: usize, out: &mut [u8; 65536], at: usize) -> usize
+pub fn say_table(
+    rt: &impl Print,
+    table: Table,
+    count: usize,
+    room: usize,
+    out: &mut [u8; 65536],
+    at: usize,
+) -> usize
     requires at_bound { at ≤ 65536 }
     requires room_bound { room ≤ 64 }
     ensures { result ≤ 65536 }
 {
-    let counted = say_counted(b"ok ", count, out, at);
+    let counted = say_counted(rt, b"ok ", count, out, at);
     if room < count {
-        return end_line(false, out, counted);
+        return end_line(rt, false, out, counted);
     }
-    let told = say_records(table, count, out, counted);
-    end_line(is_untouched(table, count, room), out, told)
+    let told = say_records(rt, table, count, out, counted);
+    end_line(rt, is_untouched(table, count, room), out, told)
 }

@@ -15,6 +15,7 @@ pub const GUARD: usize = 16;
 
 // The line of a run of the k numbers that `field` spells, with a store of `room` numbers.
 pub fn say_ran(
+    rt: &impl Print,
     ran: Ran,
     kept: bool,
     field: &[u8],
@@ -31,18 +32,19 @@ pub fn say_ran(
 {
     match ran {
         Ran::Done { count, left } => {
-            let begun = say_two(b"ok ", count, left, out, at);
-            say_done(kept, k, room, list, store, out, begun)
+            let begun = say_two(rt, b"ok ", count, left, out, at);
+            say_done(rt, kept, k, room, list, store, out, begun)
         }
         Ran::Refused { number, place } => {
             let same = are_kept(field, k, room, list, store);
-            say_refusal(number, place, kept & same, out, at)
+            say_refusal(rt, number, place, kept & same, out, at)
         }
     }
 }
 
 // The rest of the line of a run that was done.
 fn say_done(
+    rt: &impl Print,
     kept: bool,
     k: usize,
     room: usize,
@@ -55,12 +57,13 @@ fn say_done(
     requires k_in_bounds { (k + 16 ≤ length list.now) × (room + 16 ≤ length store.now) }
     ensures { result ≤ 65536 }
 {
-    let told = say_rows(k, room, list, store, out, at);
-    end_line(kept & are_guarded(k, room, list, store), out, told)
+    let told = say_rows(rt, k, room, list, store, out, at);
+    end_line(rt, kept & are_guarded(k, room, list, store), out, told)
 }
 
 // NUMBERS and COLUMNS, or two `-`, each behind a space.
 fn say_rows(
+    rt: &impl Print,
     k: usize,
     room: usize,
     list: &[f64],
@@ -73,20 +76,20 @@ fn say_rows(
     ensures { result ≤ 65536 }
 {
     if MOST_SHOWN < k {
-        return say(b" - -", out, at);
+        return say(rt, b" - -", out, at);
     }
-    let listed = say_row(k, list, out, at);
-    say_row(room, store, out, listed)
+    let listed = say_row(rt, k, list, out, at);
+    say_row(rt, room, store, out, listed)
 }
 
 // The first n numbers, behind a space.
-fn say_row(n: usize, row: &[f64], out: &mut [u8; 65536], at: usize) -> usize
+fn say_row(rt: &impl Print, n: usize, row: &[f64], out: &mut [u8; 65536], at: usize) -> usize
     requires at_bound { at ≤ 65536 }
     requires n_in_bounds { n ≤ length row.now }
     ensures { result ≤ 65536 }
 {
-    let begun = say_byte(b' ', out, at);
-    say_numbers(&row[0..n], out, begun)
+    let begun = say_byte(rt, b' ', out, at);
+    say_numbers(rt, &row[0..n], out, begun)
 }
 
 // Is the guard behind the first n numbers as it was?

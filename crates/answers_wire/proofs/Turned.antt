@@ -2,7 +2,7 @@
 -- greatest one can be.
 use Prim.Native.Nat.{ℕ, zero, suc, ◌≤◌}
 use native.Mathlib.Omega.{arith}
-use lib.IntN.{pos, negsuc, ◌-ℤ◌, +ℤ_idl}
+use lib.IntN.{pos, ◌-ℤ◌, +ℤ_idl}
 use mir.Syntax.{w32, w64}
 use mir.Val.{SFits, to_z, of_z}
 use mir.Facts.{to_z-of_z, to_z_pos, sfits_widen}

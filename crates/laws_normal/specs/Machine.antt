@@ -1,5 +1,5 @@
 -- The normal form of a text in one pass: a machine over its bytes.
-use Rattle.std.specs.Prelude.{ℕ, ◌+◌, ◌-◌, Bool, cond, ◌&&◌, ◌||◌, not, [], ◌∷◌, ◌++◌, eqb, ltb}
+use Rattle.std.specs.Prelude.{ℕ, ◌-◌, Bool, cond, ◌&&◌, ◌||◌, not, [], ◌∷◌, ◌++◌, eqb, ltb}
 use Rattle.rules.specs.Text.Ascii.{is}
 use Rattle.rules.specs.Text.Bytes.{Bytes, white, trimmed}
 use Rattle.laws_normal.specs.Whole.{shut₇, bars₆, due, word, digits₉}

@@ -1,5 +1,5 @@
 -- How long a step of the answer can be: roughly, but so that every number fits.
-use Rattle.std.specs.Prelude.{◌≡◌, Bool, cond, not, ◌&&◌, [], ◌∷◌, ◌++◌, map, suc, ◌+◌, ◌-◌, ◌*◌, ◌≤◌, drop}
+use Rattle.std.specs.Prelude.{◌≡◌, Bool, cond, not, ◌&&◌, [], ◌∷◌, ◌++◌, map, suc, ◌+◌, ◌*◌, ◌≤◌, drop}
 use Rattle.std.proofs.Math.Path.{refl, sym}
 use Rattle.std.proofs.Common.{ap, length-append}
 use Rattle.std.proofs.Math.Bool.{true, false}

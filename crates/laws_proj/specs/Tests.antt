@@ -5,7 +5,7 @@ use Rattle.std.proofs.Common.{◌∙◌, arith, eqb-true}
 use Rattle.std.proofs.Math.Bool.{true, false, or_assoc, and_assoc}
 use Rattle.std.proofs.lemmas.Bool.{false≢true}
 use mathlib.Core.List.{List, [], ◌∷◌, ◌++◌}
-use Prim.Native.Nat.{ℕ, zero, suc, ◌+◌, ◌≤◌}
+use Prim.Native.Nat.{ℕ, zero, suc, ◌≤◌}
 use Rattle.rules.specs.Text.Lists.{any_of, all_of, kept, non_empty}
 use Rattle.rules.specs.Text.Bytes.{Bytes, starts}
 use Rattle.laws_lists.specs.Tests.{and_left, and_right}

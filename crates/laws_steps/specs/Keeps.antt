@@ -8,7 +8,6 @@ use Rattle.rules.specs.Operators.Acts.{Act, pushes, pops, pops_all, flips, rolls
 use Rattle.rules.specs.Pipeline.Running.{Numbered}
 use Rattle.rules.specs.declared.Mode.{Mode}
 use Rattle.rules.specs.Pipeline.Columns.{Machine, Kit, rolled_once, rolled, swapped_top, pushed, popped, topped, flipped, moved, after}
-use Rattle.rules.specs.Pipeline.Tuples.{tuples, column}
 use Rattle.laws_lists.specs.Lists.{Every, every_append}
 
 -- ---- columns alone

@@ -15,7 +15,7 @@ use lib.Ieee.{Float, fin}
 use Rattle.rules.specs.Pipeline.Record.{refusal18}
 use Rattle.rules.specs.Pipeline.Running.{Numbered, running}
 use Rattle.rules.specs.Pipeline.Columns.{after, deepest}
-use Rattle.rules.specs.Pipeline.Tuples.{State, tuples, numbers, acted}
+use Rattle.rules.specs.Pipeline.Tuples.{State, numbers, acted}
 use Rattle.rules.specs.Pipeline.Run.{start, bad_list, store_after, refused, finished, unless16, unless15, unless18, runs, Runs}
 use Rattle.rules.specs.declared.Step.{Step}
 use Rattle.rules.specs.declared.Direction.{Direction}

@@ -1,3 +1,2 @@
--- What is signed: Promises, statements alone; Kept proves each of them.
+-- What is signed: Promises, statements alone; Kept in proofs/ proves each of them.
 pub mod Promises
-pub mod Kept

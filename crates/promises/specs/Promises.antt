@@ -1,4 +1,4 @@
--- What is signed: the release's three demands, each sentence above what is proved of it. Statements, and nothing else; specs/Kept.antt proves every one. They
+-- What is signed: the release's three demands, each sentence above what is proved of it. Statements, and nothing else; proofs/Kept.antt proves every one. They
 -- speak of what a caller holds, results and lent storage before and after, through the calls' contracts, in the words of crates/rules.
 use Rattle.std.specs.Prelude.{◌≡◌, ◌↔◌, ℕ, ◌-◌, ◌*◌, ◌/◌, ◌%◌, ◌≤◌, ◌<◌, Bool, true, false, not, List, [], ◌∷◌, ◌++◌, map, T, length, get_or, take, drop, ℤ, Float}
 use Rattle.std.proofs.Math.Option.{none, some}

@@ -1,3 +1,3 @@
-// The page that is signed: specs/Promises.antt states the release's demands of the public calls, specs/Kept.antt proves each. No code
+// The page that is signed: specs/Promises.antt states the release's demands of the public calls, proofs/Kept.antt proves each. No code
 // stands here.
 #![tactic(auto)]

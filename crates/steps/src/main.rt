@@ -6,8 +6,11 @@ mod options;
 
 ghost use Rattle.std.specs.Prelude.{◌≡◌, ◌≤◌, length};
 
-use libc::{STDIN_FILENO, STDOUT_FILENO};
 use options::Options;
+use std::fs::File;
+use std::io;
+use std::io::{Error, Read, Stdin};
+use std::rt::Env;
 use text::is_same;
 
 // Room for a definition. One that fills it is too long, as is any over 4,096 bytes.
@@ -24,97 +27,120 @@ fn print_room() -> [u8; 139264]
     [0; 139264]
 }
 
-// How many bytes were read, and whether a read failed.
+// How many bytes were read, and why a read failed.
 #[derive(Clone, Copy, Drop)]
 struct Input {
     n: usize,
-    is_bad: bool,
+    error: Option<Error>,
 }
 
 // Reads until the room is full, the input ends or a read fails.
-fn read_input(fd: i32, room: &mut [u8]) -> Input
+fn read_input(from: &mut impl Read, room: &mut [u8]) -> Input
     ensures { result.n ≤ length room.new }
 {
     let mut n = 0;
     while n < room.len() {
-        let got = libc::read(fd, &mut room[n..]);
-        let more = io::count(got, &room[n..]);
-        if more == 0 {
-            return Input { n, is_bad: got < 0 };
+        match from.read(&mut room[n..]) {
+            Ok(0) => return Input { n, error: None },
+            Ok(more) => n += more,
+            Err(error) => {
+                return Input {
+                    n,
+                    error: Some(error),
+                };
+            }
         }
-        n += more;
     }
-    Input { n, is_bad: false }
+    Input { n, error: None }
 }
 
 // Prints what becomes of a definition.
-fn show_text(text: &[u8], options: Options) {
+fn show_text(to: &impl Print, text: &[u8], options: Options) {
     let reading = options.reading();
     let mode = options.mode();
-    let mut a = io::large_buffer();
-    let mut b = io::large_buffer();
+    let mut a = streams::large_buffer();
+    let mut b = streams::large_buffer();
     let mut out = print_room();
     let n = show::show(text, reading, mode, &mut a, &mut b, &mut out);
-    io::write_all(STDOUT_FILENO, &out[..n]);
+    streams::write_all(to, &out[..n]);
 }
 
-// Opens the input of this name and answers its descriptor, or -1.
-fn open_input(name: &[u8]) -> i32 {
-    if is_same(name, b"-") {
-        return STDIN_FILENO;
+// Where a definition is read from.
+#[derive(Drop)]
+enum Source {
+    Standard(Stdin),
+    Named(File),
+}
+
+impl Read for Source {
+    fn read(&mut self, buf: &mut [u8]) -> io::Result<usize> {
+        match self {
+            Source::Standard(stdin) => stdin.read(buf),
+            Source::Named(file) => file.read(buf),
+        }
     }
-    os::open_read(name)
 }
 
-// Says why the input of this name cannot be read, as errno has it.
-fn complain(name: &mut [u8]) {
+// Opens the input of this name.
+fn open_input(rt: &HostRuntime, name: &[u8]) -> io::Result<Source> {
     if is_same(name, b"-") {
-        os::fail(b"steps: standard input");
+        return Ok(Source::Standard(rt.stdin()));
+    }
+    Ok(Source::Named(streams::open_read(rt, name)?))
+}
+
+// Says why the input of this name cannot be read.
+fn complain(to: &impl Print, name: &mut [u8], error: Error) {
+    if is_same(name, b"-") {
+        streams::fail(to, b"steps: standard input", error);
         return;
     }
-    options::blame(name);
-    os::fail(b"'");
+    options::blame(to, name);
+    streams::fail(to, b"'", error);
 }
 
 // Prints what becomes of the definition in the input of this name.
-fn show_input(name: &mut [u8], options: Options) {
-    let fd = open_input(name);
-    if fd < 0 {
-        complain(name);
-        return;
+fn show_input(rt: &HostRuntime, name: &mut [u8], options: Options) {
+    match open_input(rt, name) {
+        Ok(source) => show_source(rt, source, name, options),
+        Err(error) => complain(&rt.stderr(), name, error),
     }
+}
+
+// The same, where the input is open.
+fn show_source(rt: &HostRuntime, mut source: Source, name: &mut [u8], options: Options) {
     let mut room = input_room();
-    let input = read_input(fd, &mut room);
-    if input.is_bad {
-        complain(name);
+    let input = read_input(&mut source, &mut room);
+    if let Some(error) = input.error {
+        complain(&rt.stderr(), name, error);
         return;
     }
     let n = input.n;
-    show_text(&room[0..n], options);
+    show_text(rt, &room[0..n], options);
 }
 
 // Prints what becomes of the definition in the file that the options name, or in standard input.
-fn show_asked(options: Options) {
+fn show_asked(rt: &HostRuntime, options: Options) {
     let file = options.file;
     if file == 0 {
         let mut none = [b'-'];
-        show_input(&mut none, options);
+        show_input(rt, &mut none, options);
         return;
     }
-    let mut name = io::buffer();
-    let n = os::arg(file, &mut name);
-    show_input(&mut name[..n], options);
+    let mut name = streams::buffer();
+    let n = rt.arg(file, &mut name).unwrap_or(0);
+    show_input(rt, &mut name[..n], options);
 }
 
-fn main() {
-    let options = options::asked();
+fn main(rt: HostRuntime) {
+    let options = options::asked(&rt);
     if options.wrong != 0 {
-        options::refuse(options.wrong);
+        options::refuse(&rt, &rt.stderr(), options.wrong);
     } else if options.help {
-        options::print_help();
+        options::print_help(&rt);
     } else if options.version {
-        options::print_version();
+        options::print_version(&rt);
     } else {
-        show_asked(options);
+        show_asked(&rt, options);
     }
 }

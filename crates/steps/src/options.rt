@@ -1,6 +1,7 @@
 // The command line of the program `steps`. A new option is a field of `Options`, its word in `with`, and its line in `print_help`.
-use libc::{STDERR_FILENO, STDOUT_FILENO};
 use rules::{Mode, Reading};
+use std::rt::Env;
+use streams::write_all;
 use text::is_same;
 
 // What the command line asks for. An argument is named by its number; 0, the number of the program's own name, is none.
@@ -88,13 +89,12 @@ impl Options {
     }
 
     // With argument i, whatever it is.
-    fn with_argument(self, i: usize) -> Self {
-        let mut word = io::buffer();
-        let n = os::arg(i, &mut word);
-        if os::errno() != 0 {
-            return self.without(i);
+    fn with_argument(self, env: &impl Env, i: usize) -> Self {
+        let mut word = streams::buffer();
+        match env.arg(i, &mut word) {
+            Ok(n) => self.with(&word[..n], i),
+            Err(_) => self.without(i),
         }
-        self.with(&word[..n], i)
     }
 }
 
@@ -107,12 +107,12 @@ fn is_option(word: &[u8]) -> bool {
 }
 
 // What the command line asks for.
-pub fn asked() -> Options {
+pub fn asked(env: &impl Env) -> Options {
     let mut options = Options::new();
-    let n = os::arg_count();
+    let n = streams::arg_count(env);
     let mut i = 1;
     while i < n {
-        options = options.with_argument(i);
+        options = options.with_argument(env, i);
         i += 1;
     }
     options
@@ -133,48 +133,46 @@ fn mask(word: &mut [u8]) {
 }
 
 // The beginning of a complaint: the program's name, and the word at fault with its first quote.
-pub fn blame(word: &mut [u8]) {
+pub fn blame(to: &impl Print, word: &mut [u8]) {
     mask(word);
-    io::write_all(STDERR_FILENO, b"steps: '");
-    io::write_all(STDERR_FILENO, word);
+    write_all(to, b"steps: '");
+    write_all(to, word);
 }
 
 // Says that an argument is too long to be taken.
-fn refuse_long(i: usize) {
-    io::write_all(STDERR_FILENO, b"steps: argument ");
-    io::print_decimal(STDERR_FILENO, i as u64);
-    io::write_all(STDERR_FILENO, b" is too long\n");
+fn refuse_long(to: &impl Print, i: usize) {
+    write_all(to, b"steps: argument ");
+    let _ = to.print(i);
+    write_all(to, b" is too long\n");
 }
 
 // Says why a word cannot be taken.
-fn refuse_word(word: &mut [u8]) {
-    blame(word);
+fn refuse_word(to: &impl Print, word: &mut [u8]) {
+    blame(to, word);
     if is_option(word) {
-        io::write_all(STDERR_FILENO, b"': there is no such option (see --help)\n");
+        write_all(to, b"': there is no such option (see --help)\n");
         return;
     }
-    io::write_all(STDERR_FILENO, b"': a second file, and only one is read\n");
+    write_all(to, b"': a second file, and only one is read\n");
 }
 
 // Says why argument i cannot be taken.
-pub fn refuse(i: usize) {
-    let mut word = io::buffer();
-    let n = os::arg(i, &mut word);
-    if os::errno() != 0 {
-        refuse_long(i);
-        return;
+pub fn refuse(env: &impl Env, to: &impl Print, i: usize) {
+    let mut word = streams::buffer();
+    match env.arg(i, &mut word) {
+        Ok(n) => refuse_word(to, &mut word[..n]),
+        Err(_) => refuse_long(to, i),
     }
-    refuse_word(&mut word[..n]);
 }
 
-pub fn print_version() {
-    io::write_all(STDOUT_FILENO, b"steps (sakondreno) 0.1.0\n");
+pub fn print_version(to: &impl Print) {
+    write_all(to, b"steps (sakondreno) 0.1.0\n");
 }
 
 // The help ends with the version: the script knows both by that line.
-pub fn print_help() {
-    io::write_all(
-        STDOUT_FILENO,
+pub fn print_help(to: &impl Print) {
+    write_all(
+        to,
         b"usage: steps [--proj] [--documented] [FILE]
 
 Says what becomes of a pipeline's definition: its translation, if it is
@@ -203,5 +201,5 @@ written.
 
 ",
     );
-    print_version();
+    print_version(to);
 }

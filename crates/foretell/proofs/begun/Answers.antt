@@ -1,6 +1,5 @@
 -- `begun`: each place is the one that its call of `place` gave: 1 to 4 in the tuple, none in the columns.
 use mathlib.Core.Path.{refl}
-use borrow.Author.Rules.{rules}
 use Rattle.foretell.proofs.begun.Goals as goal
 
 pub returns : goal.returns

@@ -1,7 +1,6 @@
 -- `check`: where `refusal18` finds a bad record the verdict is 18 at its place; where it finds none the table is one that `checked`
 -- requires.
 use Rattle.foretell.proofs.CheckSoFar.{checks-refused, nowhere-bad, checks-so}
-use borrow.Author.Rules.{rules}
 use Rattle.foretell.proofs.check.Goals as goal
 
 pub checked-requires : goal.checked-requires

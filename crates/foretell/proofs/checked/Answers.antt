@@ -1,19 +1,17 @@
 use lib.ListN.{length}
 use mathlib.Core.Path.{◌≡◌}
-use Prim.Native.Nat.{◌-◌}
 use mathlib.Core.Path.{refl, sym, ap, ◌∙◌}
 use mathlib.Core.Bool.{Bool, ◌||◌}
 use mathlib.Core.Option.{none}
 use mathlib.Core.List.{List}
 use native.Mathlib.Omega.{arith}
-use lib.ListN.{take, length-map}
 use Rattle.rules.specs.Pipeline.Running.{running}
 use Rattle.rules.specs.Pipeline.Check.{verdict, begin, checked}
 use Rattle.rules.specs.declared.Step.{Step}
 use Rattle.laws_lists.specs.Tests.{not_so, not_left}
 use Rattle.record.proofs.SoundTable.{Sound, sound-so, turn-so}
 use Rattle.foretell.specs.Steps.{sofar}
-use Rattle.foretell.proofs.CheckSoFar.{Checking, begun, checking-none, checking-few, checking-many, checking-goes, checking-omitted, answers-few, answers-many, told-so, answers-told, ready-so}
+use Rattle.foretell.proofs.CheckSoFar.{begun, checking-none, checking-few, checking-many, checking-goes, checking-omitted, answers-few, answers-many, told-so, answers-told, ready-so}
 use Rattle.foretell.proofs.SpanNamed.{span-named}
 use borrow.Author.Rules.{Fits-under, rules}
 use Rattle.foretell.proofs.checked.Goals as goal

@@ -1,6 +1,5 @@
 -- `told_places`: after an `adapt` step no place is told, and else the four places of the tuple are.
 use mathlib.Core.Path.{refl}
-use borrow.Author.Rules.{rules}
 use Rattle.foretell.proofs.told_places.Goals as goal
 
 pub returns-then-adapts : goal.returns-then-adapts

@@ -2,7 +2,6 @@
 use Rattle.normalise.proofs.Laws.{normalise-so}
 use Rattle.normalise.proofs.Weights.{text-weight}
 use Rattle.text.proofs.Wrote.{wrote-fits, wrote-counts}
-use borrow.Author.Rules.{rules}
 use Rattle.normalise.proofs.answer.Goals as goal
 
 pub normal_of-n-requires : goal.normal_of-n-requires

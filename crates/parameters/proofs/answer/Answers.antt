@@ -5,7 +5,6 @@ use Rattle.normalise.proofs.Weights.{text-weight}
 use Rattle.text.proofs.Wrote.{wrote-fits, wrote-counts}
 use Rattle.parameters.proofs.Spelt.{front-spelt}
 use Rattle.parameters.proofs.Laws.{words-room, front-small, parameters-so}
-use borrow.Author.Rules.{rules}
 use Rattle.parameters.proofs.answer.Goals as goal
 
 pub normal_of-n-requires : goal.normal_of-n-requires

@@ -1,10 +1,7 @@
-use Prim.Native.Nat.{◌-◌}
 use native.Mathlib.Omega.{arith}
-use Rattle.parameters.specs.Parts.{table_in}
 use Rattle.parameters.proofs.Tabled.{no_part}
-use Rattle.parameters.proofs.Lines.{Total, total-none, total-part, total-more, total-small, total-end}
+use Rattle.parameters.proofs.Lines.{total-none, total-part, total-more, total-small, total-end}
 use borrow.Author.Rules.{Fits-under}
-use borrow.Author.Rules.{rules}
 use Rattle.parameters.proofs.length_of.Goals as goal
 
 pub loop-i-init : goal.loop-i-init

@@ -1,11 +1,7 @@
 -- `length_of`: n is the length of the lines of the first i parts (`Total`), and small enough that no sum wraps. `count - i` is the measure.
 use Prim.Native.Nat.{◌-◌}
-use native.Mathlib.Omega.{arith}
 use Rattle.parameters.specs.Parts.{table_in}
-use Rattle.parameters.proofs.Tabled.{no_part}
-use Rattle.parameters.proofs.Lines.{Total, total-none, total-part, total-more, total-small, total-end}
-use borrow.Author.Rules.{Fits-under}
-use borrow.Author.Rules.{rules}
+use Rattle.parameters.proofs.Lines.{Total}
 use Rattle.parameters.proofs.length_of.Given as goal
 
 abbrev pub invariant-loop-i : goal.invariant-loop-i

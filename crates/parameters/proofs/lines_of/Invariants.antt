@@ -1,9 +1,7 @@
 -- `lines_of`: the lines of the first i parts are written, and those of the others are to come (`Lines`). `count - i` is the measure.
 use Prim.Native.Nat.{◌-◌}
 use Rattle.parameters.specs.Parts.{table_in}
-use Rattle.parameters.proofs.Tabled.{no_part}
-use Rattle.parameters.proofs.Lines.{Lines, lines_start, lines-part, lines-room, lines-turn, lines-kept, lines-done}
-use borrow.Author.Rules.{rules}
+use Rattle.parameters.proofs.Lines.{Lines}
 use Rattle.parameters.proofs.lines_of.Given as goal
 
 abbrev pub invariant-loop-i : goal.invariant-loop-i

@@ -1,7 +1,6 @@
 -- `lines_out`: `length_of` says how long the lines are: longer than out is 7, and else `lines_of` has room for them.
 use Rattle.parameters.specs.Parts.{table_in}
 use Rattle.parameters.proofs.Replies.{out-no-room, out-wrote}
-use borrow.Author.Rules.{rules}
 use Rattle.parameters.proofs.lines_out.Goals as goal
 
 pub returns-then-out-m : goal.returns-then-out-m

@@ -6,10 +6,9 @@ use native.Mathlib.Omega.{arith}
 use lib.ListN.{length-replicate}
 use Rattle.laws_text.specs.Sizes.{tenfold}
 use Rattle.parameters.proofs.Laws.{nine-room}
-use borrow.Author.Rules.{rules}
 use Rattle.parameters.proofs.long.Goals as goal
 
 pub answer-requires : goal.answer-requires
-answer-requires c = 
+answer-requires c =
     let nine = nine-room c.args.text.now 4096 c.requires.text_len_bound (omega arith) (sym (length-replicate {A = ℕ} 40969 0)) in
     let room = tenfold c.args.text.now 4096 c.requires.text_len_bound (omega arith) (sym (length-replicate {A = ℕ} 40960 0)) in record { text_len_bound = omega (arith, c.requires.text_len_bound); text_value = c.requires.text_value; text_in_bounds = nine; text_in_bounds_2 = room }

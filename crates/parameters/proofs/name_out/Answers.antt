@@ -5,7 +5,6 @@ use lib.ListN.{replicate}
 use Rattle.parameters.proofs.Rows.{empty-row}
 use Rattle.parameters.proofs.Tabled.{empty-good}
 use Rattle.parameters.proofs.Replies.{whole-within, name-good, name-so}
-use borrow.Author.Rules.{rules}
 use Rattle.parameters.proofs.name_out.Goals as goal
 
 pub enter-e-requires : goal.enter-e-requires

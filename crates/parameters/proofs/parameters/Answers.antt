@@ -1,6 +1,5 @@
 -- `parameters`: 1 and 2 are refused as every text call refuses them; any other text is as `short` and `long` promise, by its length.
 use Rattle.laws_text.specs.Entry.{passed-short, passed-domain, writes-first}
-use borrow.Author.Rules.{rules}
 use Rattle.parameters.proofs.parameters.Goals as goal
 
 pub returns-then-number-ne0 : goal.returns-then-number-ne0

@@ -4,7 +4,6 @@ use mathlib.Core.Path.{refl, sym, ◌∙◌}
 use lib.ListN.{take}
 use Rattle.parameters.proofs.Tabled.{spelt-front}
 use Rattle.parameters.proofs.Replies.{step-blank, step-modifiers, step-full, step_lines}
-use borrow.Author.Rules.{rules}
 use Rattle.parameters.proofs.step_out.Goals as goal
 
 pub slice_bounds-is_blank-end : goal.slice_bounds-is_blank-end

@@ -2,7 +2,6 @@
 -- name, and without it a step.
 use Rattle.parameters.proofs.Tabled.{spelt-fits, spelt-front}
 use Rattle.parameters.proofs.Replies.{text-name, text-step}
-use borrow.Author.Rules.{rules}
 use Rattle.parameters.proofs.text_out.Goals as goal
 
 pub slice_bounds-run_end-end : goal.slice_bounds-run_end-end

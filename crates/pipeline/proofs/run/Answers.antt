@@ -1,20 +1,16 @@
 use mathlib.Core.Path.{◌≡◌, refl, sym, ◌∙◌}
-use Prim.Native.Nat.{◌-◌, ◌/◌}
-use mathlib.Core.Bool.{false}
-use mathlib.Core.Option.{none}
+use Prim.Native.Nat.{◌/◌}
 use native.Mathlib.Nat.{mul-le-mul_right}
 use native.Mathlib.Omega.{arith}
-use lib.ListN.{length, take, length-map}
-use Rattle.rules.specs.Pipeline.Record.{blank, refusal18, listed}
+use lib.ListN.{length, take}
+use Rattle.rules.specs.Pipeline.Record.{blank, listed}
 use Rattle.rules.specs.Pipeline.Running.{running}
-use Rattle.rules.specs.Pipeline.Run.{bad_list}
 use Rattle.laws_lists.specs.Tests.{not_so, not_left}
-use Rattle.pipeline.specs.Plans.{passes_from, deepest_from}
 use Rattle.pipeline.proofs.Outcomes.{tuples-few, used-few, refuses-15, refuses-16, refuses-17, refuses-18, past-15, past-16, past-18, finishes}
-use Rattle.pipeline.proofs.RunSoFar.{Running, table_none, table_before, table-after, table_step, table-ends}
-use Rattle.pipeline.proofs.PlannedDepths.{Planning, no_room, plan-none, table-made, table-turn, table-over, table-end}
+use Rattle.pipeline.proofs.RunSoFar.{table_none, table_before, table-after, table_step, table-ends}
+use Rattle.pipeline.proofs.PlannedDepths.{no_room, plan-none, table-made, table-turn, table-over, table-end}
 use Rattle.pipeline.proofs.OneStep.{count-is, count-few}
-use Rattle.pipeline.proofs.FirstBad.{Checked, check-none, check-long, check-turn, check-bad, check-end}
+use Rattle.pipeline.proofs.FirstBad.{check-none, check-long, check-turn, check-bad, check-end}
 use borrow.Author.Rules.{rules}
 use Rattle.pipeline.proofs.run.Goals as goal
 use Rattle.pipeline.proofs.run.Goals.{Start}
@@ -82,15 +78,14 @@ pub loop-i-2-smaller : goal.loop-i-2-smaller
 loop-i-2-smaller c = omega arith
 
 pub loop-i-2-preserved : goal.loop-i-2-preserved
-loop-i-2-preserved c =
-    (
-      c.loop-i-2.invariant.0,
-      c.loop-i-2.invariant.1,
-      table-turn c.args.table (full (goal.at.loop-i-2-preserved c).Start) c.loop-i-2.invariant.0 c.args.direction c.loop-i-2.depth c.loop-i-2.deepest c.loop-i-2.i _ _ c.loop-i-2.invariant.2 c.loop-i-2-test.true c.visited_of-k.ensures.0 c.visited_of-k.ensures.1 _ c.run_step-stood.ensures.deep _
-          c.if-depth-gt64.false c.max_of-deepest.ensures,
-      c.run_step-stood.auto.tuples ∙ c.loop-i-2.invariant.3,
-      c.run_step-stood.auto.columns ∙ c.loop-i-2.invariant.4,
-    )
+loop-i-2-preserved c = (
+  c.loop-i-2.invariant.0,
+  c.loop-i-2.invariant.1,
+  table-turn c.args.table (full (goal.at.loop-i-2-preserved c).Start) c.loop-i-2.invariant.0 c.args.direction c.loop-i-2.depth c.loop-i-2.deepest c.loop-i-2.i _ _ c.loop-i-2.invariant.2 c.loop-i-2-test.true c.visited_of-k.ensures.0 c.visited_of-k.ensures.1 _ c.run_step-stood.ensures.deep _
+      c.if-depth-gt64.false c.max_of-deepest.ensures,
+  c.run_step-stood.auto.tuples ∙ c.loop-i-2.invariant.3,
+  c.run_step-stood.auto.columns ∙ c.loop-i-2.invariant.4,
+)
 
 pub overflow_mul-used : goal.overflow_mul-used
 overflow_mul-used c =
@@ -122,9 +117,14 @@ bounds-steps-k-in-loop-i-3 c =
     omega (arith, c.if-n-gt64.false, c.visited_of-k-in-loop-i-3.ensures.1)
 
 pub run_step-stood-requires-in-loop-i-3 : goal.run_step-stood-requires-in-loop-i-3
-run_step-stood-requires-in-loop-i-3 c = record { depth_bound = c.loop-i-3.invariant.4.within; s_value = table-made c.args.table (full (goal.at.run_step-stood-requires-in-loop-i-3 c).Start) c.loop-i-3.invariant.0 _ _ c.visited_of-k-in-loop-i-3.ensures.1; tuples_in_bounds = table_before c.args.table (full (goal.at.run_step-stood-requires-in-loop-i-3 c).Start) c.loop-i-3.invariant.0 c.args.direction c.loop-i-2.deepest c.args.tuples.now c.args.columns.now c.loop-i-3.tuples c.loop-i-3.columns c.loop-i-3.count c.loop-i-3.left c.loop-i-3.i _ blank
-              c.loop-i-3.invariant.4 c.loop-i-3-test.true c.visited_of-k-in-loop-i-3.ensures.0 c.visited_of-k-in-loop-i-3.ensures.1 c.if-columns-used.false; tuples_in_bounds_2 = table-after c.args.table (full (goal.at.run_step-stood-requires-in-loop-i-3 c).Start) c.loop-i-3.invariant.0 c.args.direction c.loop-i-2.deepest c.args.tuples.now c.args.columns.now c.loop-i-3.tuples c.loop-i-3.columns c.loop-i-3.count c.loop-i-3.left c.loop-i-3.i _ _ c.loop-i-3.invariant.4
-              c.loop-i-3-test.true c.visited_of-k-in-loop-i-3.ensures.0 c.visited_of-k-in-loop-i-3.ensures.1 c.if-columns-used.false }
+run_step-stood-requires-in-loop-i-3 c = record {
+  depth_bound = c.loop-i-3.invariant.4.within;
+  s_value = table-made c.args.table (full (goal.at.run_step-stood-requires-in-loop-i-3 c).Start) c.loop-i-3.invariant.0 _ _ c.visited_of-k-in-loop-i-3.ensures.1;
+  tuples_in_bounds = table_before c.args.table (full (goal.at.run_step-stood-requires-in-loop-i-3 c).Start) c.loop-i-3.invariant.0 c.args.direction c.loop-i-2.deepest c.args.tuples.now c.args.columns.now c.loop-i-3.tuples c.loop-i-3.columns c.loop-i-3.count c.loop-i-3.left c.loop-i-3.i _ blank
+      c.loop-i-3.invariant.4 c.loop-i-3-test.true c.visited_of-k-in-loop-i-3.ensures.0 c.visited_of-k-in-loop-i-3.ensures.1 c.if-columns-used.false;
+  tuples_in_bounds_2 = table-after c.args.table (full (goal.at.run_step-stood-requires-in-loop-i-3 c).Start) c.loop-i-3.invariant.0 c.args.direction c.loop-i-2.deepest c.args.tuples.now c.args.columns.now c.loop-i-3.tuples c.loop-i-3.columns c.loop-i-3.count c.loop-i-3.left c.loop-i-3.i _ _ c.loop-i-3.invariant.4
+      c.loop-i-3-test.true c.visited_of-k-in-loop-i-3.ensures.0 c.visited_of-k-in-loop-i-3.ensures.1 c.if-columns-used.false;
+}
 
 pub overflow_add-i-in-loop-i-3 : goal.overflow_add-i-in-loop-i-3
 overflow_add-i-in-loop-i-3 c = omega arith
@@ -155,9 +155,12 @@ overflow_mul-left c =
     )
 
 pub zero_rest-requires : goal.zero_rest-requires
-zero_rest-requires c = record { from_le_to = mul-le-mul_right {m = c.loop-i-3.left} {n = c.loop-i-2.deepest} (length c.args.tuples.now / 4)
-          (table-ends c.args.table (full (goal.at.zero_rest-requires c).Start) c.loop-i-3.invariant.0 c.args.direction c.loop-i-2.deepest c.args.tuples.now c.args.columns.now c.loop-i-3.tuples c.loop-i-3.columns c.loop-i-3.count c.loop-i-3.left c.loop-i-3.i c.loop-i-3.invariant.4
-          c.loop-i-3-test.false).low; to_in_bounds = omega (arith, c.loop-i-3.invariant.4.store_length, c.if-columns-used.false) }
+zero_rest-requires c = record {
+  from_le_to = mul-le-mul_right {m = c.loop-i-3.left} {n = c.loop-i-2.deepest} (length c.args.tuples.now / 4)
+      (table-ends c.args.table (full (goal.at.zero_rest-requires c).Start) c.loop-i-3.invariant.0 c.args.direction c.loop-i-2.deepest c.args.tuples.now c.args.columns.now c.loop-i-3.tuples c.loop-i-3.columns c.loop-i-3.count c.loop-i-3.left c.loop-i-3.i c.loop-i-3.invariant.4
+      c.loop-i-3-test.false).low;
+  to_in_bounds = omega (arith, c.loop-i-3.invariant.4.store_length, c.if-columns-used.false);
+}
 
 pub shape_of-tuples : goal.shape_of-tuples
 shape_of-tuples c = c.loop-i-3.invariant.4.list_length

@@ -2,24 +2,18 @@
 -- by a run over no tuples (`Planning`); the third runs every step, and what it has done together with what is left is the written run
 -- (`Running`). Each goes i steps far, so what is left of n is the measure. Before and between them the refusals 18, 15, 16 and 17 are given
 -- in the order of the rules.
-use mathlib.Core.Path.{◌≡◌, refl, sym, ◌∙◌}
-use Prim.Native.Nat.{◌-◌, ◌/◌}
+use mathlib.Core.Path.{◌≡◌}
+use Prim.Native.Nat.{◌-◌}
 use mathlib.Core.Bool.{false}
 use mathlib.Core.Option.{none}
-use native.Mathlib.Nat.{mul-le-mul_right}
-use native.Mathlib.Omega.{arith}
-use lib.ListN.{length, take, length-map}
-use Rattle.rules.specs.Pipeline.Record.{blank, refusal18, listed}
+use lib.ListN.{length, take}
+use Rattle.rules.specs.Pipeline.Record.{refusal18, listed}
 use Rattle.rules.specs.Pipeline.Running.{running}
 use Rattle.rules.specs.Pipeline.Run.{bad_list}
-use Rattle.laws_lists.specs.Tests.{not_so, not_left}
 use Rattle.pipeline.specs.Plans.{passes_from, deepest_from}
-use Rattle.pipeline.proofs.Outcomes.{tuples-few, used-few, refuses-15, refuses-16, refuses-17, refuses-18, past-15, past-16, past-18, finishes}
-use Rattle.pipeline.proofs.RunSoFar.{Running, table_none, table_before, table-after, table_step, table-ends}
-use Rattle.pipeline.proofs.PlannedDepths.{Planning, no_room, plan-none, table-made, table-turn, table-over, table-end}
-use Rattle.pipeline.proofs.OneStep.{count-is, count-few}
-use Rattle.pipeline.proofs.FirstBad.{Checked, check-none, check-long, check-turn, check-bad, check-end}
-use borrow.Author.Rules.{rules}
+use Rattle.pipeline.proofs.RunSoFar.{Running}
+use Rattle.pipeline.proofs.PlannedDepths.{Planning}
+use Rattle.pipeline.proofs.FirstBad.{Checked}
 use Rattle.pipeline.proofs.run.Given as goal
 
 abbrev pub invariant-loop-i : goal.invariant-loop-i

@@ -1,9 +1,9 @@
 -- `run_act`: each arm knows which act it has, and there the act of the doing is what the operator's own call ensures (`found`). What a call
 -- requires of its arguments is the rule that the doing keeps.
-use mathlib.Core.Path.{◌≡◌, sym, ◌∙◌}
+use mathlib.Core.Path.{◌≡◌, sym}
 use Prim.Native.Nat.{◌≤◌}
 use native.Mathlib.Omega.{arith}
-use lib.ListN.{length, take, length-map}
+use lib.ListN.{length, take}
 use Rattle.columns.specs.Doings.{does, doing, Does}
 use Rattle.pipeline.proofs.ActedSo.{found, long, push-room, roll-times, order-rule, adapt-rule, drop-acted, order-acted, adapt-acted}
 use borrow.Author.Rules.{rules}

@@ -4,7 +4,6 @@ use mathlib.Core.Path.{sym, ◌∙◌, subst}
 use Prim.Native.Nat.{ℕ, ◌*◌, ◌/◌, ◌≤◌}
 use lib.ListN.{length}
 use Rattle.pipeline.proofs.OneStep.{own, depth_is, depth-omitted, depth-run, none-omitted, none-run, step-omitted, step_run}
-use borrow.Author.Rules.{rules}
 use Rattle.pipeline.proofs.run_step.Goals as goal
 
 pub returns-then-is_omitted : goal.returns-then-is_omitted
@@ -17,7 +16,7 @@ returns-then-is_omitted c =
     }
 
 pub run_act-requires : goal.run_act-requires
-run_act-requires c = 
+run_act-requires c =
     let e = depth_is c.args.direction c.args.s c.args.depth (sym c.is_omitted.ensures ∙ c.if-is_omitted.false) c.act_of-d.ensures.same in record { depth_bound = c.requires.depth_bound; does = own c.act_of-d.ensures; tuples_in_bounds = c.requires.tuples_in_bounds; tuples_in_bounds_2 = subst (λ (z : ℕ). z * (length c.args.tuples.now / 4) ≤ length c.args.columns.now) (sym e) c.requires.tuples_in_bounds_2 }
 
 pub returns : goal.returns

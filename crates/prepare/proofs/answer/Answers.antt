@@ -16,7 +16,7 @@ slice_bounds-prepare_steps-end-2 c =
     wrote-counts c.clean_into-n.ensures
 
 pub prepare_steps-requires : goal.prepare_steps-requires
-prepare_steps-requires c = 
+prepare_steps-requires c =
     let roomy = normal-roomy c.args.text.now c.args.table c.clean_into-n.ensures c.requires.text_in_bounds_4 c.requires.text_in_bounds_2 c.clean_into-n.auto.b in
     let room = normal-room c.args.text.now c.args.table c.clean_into-n.ensures c.requires.text_in_bounds_3 c.clean_into-n.auto.c in record { bare = normal-there c.args.text.now c.args.table c.clean_into-n.ensures; normal_len_bound = normal-most c.args.text.now c.args.table c.clean_into-n.ensures c.requires.text_len_bound; steps_len = c.requires.steps_len; roomy = roomy; normal_in_bounds = room }
 

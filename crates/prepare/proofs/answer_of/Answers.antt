@@ -1,7 +1,6 @@
 -- `answer_of`: each of its ways out is a case of `answered`.
 use mathlib.Core.Path.{sym, ◌∙◌}
 use Rattle.prepare.proofs.LentTable.{answered-many, answered-refused, answered-short, answered-all}
-use borrow.Author.Rules.{rules}
 use Rattle.prepare.proofs.answer_of.Goals as goal
 
 pub returns-then-n-gt64 : goal.returns-then-n-gt64

@@ -6,11 +6,10 @@ use native.Mathlib.Omega.{arith}
 use lib.ListN.{length, length-replicate}
 use Rattle.laws_text.specs.Sizes.{tenfold, tenfold-less}
 use Rattle.prepare.proofs.TextReply.{nine-more}
-use borrow.Author.Rules.{rules}
 use Rattle.prepare.proofs.longer.Goals as goal
 
 pub answer-requires : goal.answer-requires
-answer-requires c = 
+answer-requires c =
     let room = tenfold c.args.text.now 1638 c.requires.text_len_bound (omega arith) (sym (length-replicate {A = ℕ} 16384 0)) in
     let more = tenfold-less c.args.text.now 1638 c.requires.text_len_bound (omega arith) (sym (length-replicate {A = ℕ} 16384 0)) in
     let nine = nine-more c.args.text.now (omega (arith, min-le_right (10 * length c.args.text.now) 4096, c.requires.text_len_bound)) (sym (length-replicate {A = ℕ} 4105 0)) in record { text_len_bound = omega (arith, c.requires.text_len_bound); text_value = c.requires.text_value; steps_len = c.requires.steps_len; text_in_bounds = room; text_in_bounds_2 = room; text_in_bounds_3 = more; text_in_bounds_4 = nine }

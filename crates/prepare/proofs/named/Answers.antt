@@ -1,9 +1,8 @@
 use mathlib.Core.Path.{◌≡◌, ap, ◌∙◌}
-use Prim.Native.Nat.{ℕ, ◌-◌, ◌≤◌}
+use Prim.Native.Nat.{ℕ, ◌≤◌}
 use native.Mathlib.Omega.{arith}
 use Rattle.prepare.specs.Lent.{first_named}
 use Rattle.prepare.proofs.InReading.{none_named, next-named}
-use borrow.Author.Rules.{rules}
 use Rattle.prepare.proofs.named.Goals as goal
 
 -- the walk ends at n

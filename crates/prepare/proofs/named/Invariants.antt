@@ -1,10 +1,7 @@
 -- `named`: the first i records are in the reading, the others as they were; the next one joins them. What is left of n is the measure.
-use mathlib.Core.Path.{◌≡◌, ap, ◌∙◌}
-use Prim.Native.Nat.{ℕ, ◌-◌, ◌≤◌}
-use native.Mathlib.Omega.{arith}
+use mathlib.Core.Path.{◌≡◌}
+use Prim.Native.Nat.{◌-◌, ◌≤◌}
 use Rattle.prepare.specs.Lent.{first_named}
-use Rattle.prepare.proofs.InReading.{none_named, next-named}
-use borrow.Author.Rules.{rules}
 use Rattle.prepare.proofs.named.Given as goal
 
 abbrev pub invariant-loop-i : goal.invariant-loop-i

@@ -2,7 +2,6 @@
 -- refusal stays (`as-named`).
 use mathlib.Core.Path.{◌∙◌}
 use Rattle.prepare.proofs.InReading.{answers-named, refuses-named, counts-records}
-use borrow.Author.Rules.{rules}
 use Rattle.prepare.proofs.prepare_as.Goals as goal
 
 pub named-requires : goal.named-requires

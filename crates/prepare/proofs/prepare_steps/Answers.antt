@@ -1,12 +1,10 @@
 use mathlib.Core.Path.{sym, ◌∙◌}
-use Prim.Native.Nat.{◌-◌}
 use native.Mathlib.Omega.{arith}
-use lib.ListN.{length}
 use lib.Seq.{length-take-le}
 use borrow.Author.Rules.{rules}
 use Rattle.laws_text.specs.Walk.{walk-ahead}
 use Rattle.prepare.proofs.StepByStep.{line-some, line-within}
-use Rattle.prepare.proofs.StepByStep.{Reaches, reaches-none, reaches_end, reaches-room, reaches-only, reaches-line, reaches-refused}
+use Rattle.prepare.proofs.StepByStep.{reaches-none, reaches_end, reaches-room, reaches-only, reaches-line, reaches-refused}
 use Rattle.prepare.proofs.StepByStep.{reaches-many, reaches-short, reaches-roomy, reaches_more}
 use Rattle.prepare.proofs.prepare_steps.Goals as goal
 
@@ -93,13 +91,13 @@ slice_bounds-prepare_step-end-in-loop-from c =
     sym (length-take-le _ _ (line-within _ line.wrote))
 
 pub prepare_step-judged-requires : goal.prepare_step-judged-requires
-prepare_step-judged-requires c = 
+prepare_step-judged-requires c =
     let step = sym c.next_from-found.ensures ∙ c.in-Step.is in
     let line = reaches-line c.loop-from.invariant step _ _ c.line_at-line.ensures c.in-To.is in let all = reaches-roomy c.loop-from.invariant step line in record { text_in_bounds = all.0; roomy = all.1 }
 
 -- what the reader found lies within the text, and so much is not passed; nor by the step's text as it is written out
 pub spanned-requires : goal.spanned-requires
-spanned-requires c = 
+spanned-requires c =
     let step = sym c.next_from-found.ensures ∙ c.in-Step.is in
     let line = reaches-line c.loop-from.invariant step _ _ c.line_at-line.ensures c.in-To.is in
     let h = walk-ahead _ _ _ _ _ step in record { from_le_to = omega (arith, h.longer); to_bound = omega (arith, h.within, c.requires.normal_len_bound, reaches-short c.loop-from.invariant step line) }

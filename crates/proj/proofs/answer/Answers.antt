@@ -4,7 +4,6 @@ use mathlib.Core.Path.{sym}
 use lib.Seq.{length-take-le}
 use Rattle.proj.proofs.Laws.{pipe-room, cleaned-small, globals-small, translate-so}
 use Rattle.text.proofs.Wrote.{wrote-fits, wrote-counts}
-use borrow.Author.Rules.{rules}
 use Rattle.proj.proofs.answer.Goals as goal
 
 pub clean_into-n-requires : goal.clean_into-n-requires

@@ -1,9 +1,6 @@
-use Prim.Native.Nat.{◌-◌}
 use native.Mathlib.Omega.{arith}
-use lib.ListN.{length}
-use Rattle.proj.proofs.Flaws.{Flawing, flawing-start, flawing-end, flawing-here, flawing-next}
+use Rattle.proj.proofs.Flaws.{flawing-start, flawing-end, flawing-here, flawing-next}
 use Rattle.proj_words.proofs.Pieces.{step-at, step-none}
-use Rattle.proj_steps.specs.Plans.{pipeline_of}
 use borrow.Author.Rules.{rules}
 use Rattle.proj.proofs.flaw_of.Goals as goal
 

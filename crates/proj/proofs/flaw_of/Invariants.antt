@@ -1,12 +1,9 @@
 -- `flaw_of`: no step before the place is at fault, and as many stand before it as are counted (`Flawing`). So the first that is found is
 -- the first faulty one; the walk moves ahead, and what is left of the text is the measure.
 use Prim.Native.Nat.{◌-◌}
-use native.Mathlib.Omega.{arith}
 use lib.ListN.{length}
-use Rattle.proj.proofs.Flaws.{Flawing, flawing-start, flawing-end, flawing-here, flawing-next}
-use Rattle.proj_words.proofs.Pieces.{step-at, step-none}
+use Rattle.proj.proofs.Flaws.{Flawing}
 use Rattle.proj_steps.specs.Plans.{pipeline_of}
-use borrow.Author.Rules.{rules}
 use Rattle.proj.proofs.flaw_of.Given as goal
 
 abbrev pub invariant-loop-from : goal.invariant-loop-from

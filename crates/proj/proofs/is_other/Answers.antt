@@ -1,6 +1,5 @@
 -- `is_other`: `find` stops before the text's end just where there is a `|`, and comes to its end just where there is no `proj`.
 use Rattle.proj.proofs.Laws.{other-bar, other-proj}
-use borrow.Author.Rules.{rules}
 use Rattle.proj.proofs.is_other.Goals as goal
 
 pub returns-then-find-text : goal.returns-then-find-text

@@ -52,7 +52,7 @@ slice_bounds-globals_into-end c =
     search (rules, s)
 
 pub globals_into-m-requires : goal.globals_into-m-requires
-globals_into-m-requires c = 
+globals_into-m-requires c =
     let s = step-at c.next_proj-found.ensures c.in-Step.is in record { head = c.head_of-head.ensures; s_in_bounds = pipe-step-room s c.requires }
 
 pub returns-then-head : goal.returns-then-head

@@ -5,11 +5,10 @@ use Prim.Native.Nat.{ℕ}
 use native.Mathlib.Omega.{arith}
 use lib.ListN.{length-replicate}
 use Rattle.laws_text.specs.Sizes.{tenfold, tenfold-less}
-use borrow.Author.Rules.{rules}
 use Rattle.proj.proofs.short.Goals as goal
 
 pub answer-requires : goal.answer-requires
-answer-requires c = 
+answer-requires c =
     let room = tenfold c.args.text.now 409 c.requires.text_len_bound (omega arith) (sym (length-replicate {A = ℕ} 4096 0)) in
     let more = tenfold-less c.args.text.now 409 c.requires.text_len_bound (omega arith) (sym (length-replicate {A = ℕ} 4096 0)) in record { text_len_bound = omega (arith, c.requires.text_len_bound); text_value = c.requires.text_value; text_value_2 = c.requires.text_value_2; text_in_bounds = room; text_in_bounds_2 = more; text_in_bounds_3 = room }
 

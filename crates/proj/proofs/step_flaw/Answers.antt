@@ -2,7 +2,6 @@
 -- that are all `inv` with no globals and nothing inverted.
 use mathlib.Core.Path.{sym, ◌∙◌}
 use Rattle.proj.proofs.Flaws.{flaw-init, flaw-nested, flaw-only, flaw-none}
-use borrow.Author.Rules.{rules}
 use Rattle.proj.proofs.step_flaw.Goals as goal
 
 pub head_of-head-requires : goal.head_of-head-requires

@@ -1,7 +1,6 @@
 -- `steps_out`: the first faulty step is refused; then all steps are counted, which says whether out has room, 7; then they are written, in
 -- their order or, of an inverted pipeline, from the back.
 use Rattle.proj.proofs.Laws.{steps-flaw, count-ready, steps-no-room, steps-ready, steps-done}
-use borrow.Author.Rules.{rules}
 use Rattle.proj.proofs.steps_out.Goals as goal
 
 pub flaw_of-flaw-requires : goal.flaw_of-flaw-requires

@@ -3,7 +3,6 @@
 use mathlib.Core.Path.{sym, ◌∙◌}
 use Rattle.laws_text.specs.Entry.{passed-short, passed-domain, writes-first}
 use Rattle.proj.proofs.Laws.{unchanged-so}
-use borrow.Author.Rules.{rules}
 use Rattle.proj.proofs.translate.Goals as goal
 
 pub returns-then-number-ne0 : goal.returns-then-number-ne0
@@ -15,7 +14,7 @@ returns-then-is_other c =
     c.hand_out.ensures
 
 pub short-requires : goal.short-requires
-short-requires c = 
+short-requires c =
     let fine = passed-domain c.first_refusal-number.ensures c.if-number-ne0.false in record { text_len_bound = c.if-text-le-FEW.true; text_value = fine; text_value_2 = sym c.is_other.ensures ∙ c.if-is_other.false }
 
 pub returns-then-text-le-FEW : goal.returns-then-text-le-FEW

@@ -1,7 +1,6 @@
 -- One record, 64 times.
 use mathlib.Core.Path.{ap}
 use lib.ListN.{replicate}
-use borrow.Author.Rules.{rules}
 use Rattle.rules.specs.declared.Step.{Step}
 use Rattle.record.specs.Records.{mark_of}
 use Rattle.rows.specs.Row.{spare, blanks}

@@ -1,6 +1,5 @@
-use Rattle.std.proofs.Common.{◌≡◌, ◌<◌, sym, ap, ◌∙◌, List, length, set, arith, add-one, refl, rules, ℕ}
-use Rattle.rules.specs.declared.Step.{Step}
-use Rattle.rows.specs.Row.{blanks, laid}
+use Rattle.std.proofs.Common.{◌<◌, sym, ◌∙◌, length, arith, add-one}
+use Rattle.rows.specs.Row.{blanks}
 use Rattle.rows.specs.LaidRow.{length-blanks, laid_none, laid_one}
 use Rattle.rows.proofs.load.Goals as goal
 

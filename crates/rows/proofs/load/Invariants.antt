@@ -1,5 +1,5 @@
 -- `load`: the first i of the 64 records are the row's, and the others are blank (`laid`); as many are copied as have room.
-use Rattle.std.proofs.Common.{◌≡◌, ◌-◌, ◌≤◌, length}
+use Rattle.std.proofs.Common.{◌≡◌, ◌-◌, ◌≤◌}
 use Rattle.std.specs.Prelude.{min}
 use Rattle.rows.specs.Row.{blanks, laid}
 use Rattle.rows.proofs.load.Given as goal

@@ -1,6 +1,4 @@
-use Rattle.std.proofs.Common.{◌≡◌, ◌<◌, sym, ap, ◌∙◌, List, length, set, arith, add-one, refl, rules, ℕ}
-use Rattle.rules.specs.declared.Step.{Step}
-use Rattle.rows.specs.Row.{laid}
+use Rattle.std.proofs.Common.{◌≡◌, ◌<◌, sym, length, arith, add-one, rules}
 use Rattle.rows.specs.LaidRow.{laid_none, laid_one}
 use Rattle.rows.proofs.store.Goals as goal
 

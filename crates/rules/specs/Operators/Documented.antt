@@ -2,7 +2,6 @@
 -- position; the page ties them to an axis." Words and letters are those of `adapt`.
 use Rattle.std.specs.Prelude.{ℕ, ◌+◌, ◌-◌, ◌/◌, ◌%◌, max, Bool, true, false, cond, ◌&&◌, ◌||◌, List, [], ◌∷◌, ◌++◌, map, length, take, drop, get_or, leb, eqb, ℤ, pos}
 use Rattle.std.proofs.Math.Bool.{xor}
-use Rattle.std.proofs.Math.Option.{Option}
 use Rattle.std.specs.Float.{binary64}
 use Rattle.std.specs.Float.Ieee.{mul, div}
 use Rattle.rules.specs.Text.Ascii.{ascii}

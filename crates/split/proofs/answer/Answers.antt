@@ -3,7 +3,6 @@
 use native.Mathlib.Omega.{arith}
 use Rattle.text.proofs.Wrote.{wrote-fits, wrote-counts}
 use Rattle.split.proofs.Laws.{normal-fits, split-so}
-use borrow.Author.Rules.{rules}
 use Rattle.split.proofs.answer.Goals as goal
 
 pub clean_into-n-requires : goal.clean_into-n-requires

@@ -1,9 +1,7 @@
 use mathlib.Core.Path.{sym, ◌∙◌}
-use Prim.Native.Nat.{◌-◌}
 use native.Mathlib.Omega.{arith}
-use lib.ListN.{length}
 use Rattle.laws_text.specs.Walk.{walk-ahead}
-use Rattle.split.proofs.Lines.{Lines, lines_start, lines-kept, lines-many, lines-all, lines-room, lines-only, lines_more}
+use Rattle.split.proofs.Lines.{lines_start, lines-kept, lines-many, lines-all, lines-room, lines-only, lines_more}
 use borrow.Author.Rules.{rules}
 use Rattle.split.proofs.lines_of.Goals as goal
 

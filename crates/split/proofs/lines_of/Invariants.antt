@@ -1,13 +1,9 @@
 -- `lines_of`: n steps stand before the reader's place, none of them is modifiers alone, and their lines are written (`Lines`). The reader moves ahead, so
 -- what is left of the text is the measure. Each way out tells splitting's reply: 6 at a step that is modifiers alone, and at the end 8 or
 -- the lines.
-use mathlib.Core.Path.{sym, ◌∙◌}
 use Prim.Native.Nat.{◌-◌}
-use native.Mathlib.Omega.{arith}
 use lib.ListN.{length}
-use Rattle.laws_text.specs.Walk.{walk-ahead}
-use Rattle.split.proofs.Lines.{Lines, lines_start, lines-kept, lines-many, lines-all, lines-room, lines-only, lines_more}
-use borrow.Author.Rules.{rules}
+use Rattle.split.proofs.Lines.{Lines}
 use Rattle.split.proofs.lines_of.Given as goal
 
 abbrev pub invariant-loop-from : goal.invariant-loop-from

@@ -3,7 +3,6 @@
 use mathlib.Core.Path.{sym}
 use lib.Seq.{length-take-le}
 use Rattle.split.proofs.Laws.{out-refused, out-fits, out-answer}
-use borrow.Author.Rules.{rules}
 use Rattle.split.proofs.steps_out.Goals as goal
 
 pub slice_bounds-hand_out-end : goal.slice_bounds-hand_out-end

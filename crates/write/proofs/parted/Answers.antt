@@ -1,7 +1,6 @@
 -- `parted`: the text of a record that is not the first is ` | ` and its own text, and that of the first is its own alone; the code asks the
 -- same.
 use Rattle.write.proofs.TableText.{bar-room, after-bar, later-parted, first_step, first-parted}
-use borrow.Author.Rules.{rules}
 use Rattle.write.proofs.parted.Goals as goal
 
 pub put-e-requires : goal.put-e-requires

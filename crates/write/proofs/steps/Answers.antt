@@ -1,15 +1,10 @@
 use mathlib.Core.Path.{◌≡◌}
 use Rattle.write.proofs.TableText.{rows-rest, row_room, row-turn, rows_end}
-use Rattle.numbers.proofs.EachInTurn.{Going, going_start, going-length, going_end}
+use Rattle.numbers.proofs.EachInTurn.{going_start, going-length, going_end}
 use Rattle.write.specs.Parts.{parted}
-use Rattle.rules.specs.Pipeline.Write.{table_writing}
-use Rattle.record.proofs.SoundTable.{Sound, sound-so}
-use Rattle.rules.specs.Pipeline.Record.{listed}
+use Rattle.record.proofs.SoundTable.{sound-so}
 use lib.ListN.{length}
-use lib.ListN.{take, length-map}
-use Prim.Native.Nat.{◌-◌}
 use native.Mathlib.Omega.{arith}
-use mathlib.Core.Path.{sym, ◌∙◌}
 use borrow.Author.Rules.{rules}
 use Rattle.write.proofs.steps.Goals as goal
 

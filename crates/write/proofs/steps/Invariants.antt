@@ -1,16 +1,12 @@
 -- `steps`: the texts of the first i records are written, each but the first after ` | `, and those from i on are to come (`Going`); and
 -- each record is one that a preparation makes (`Sound`). What is left of n is the measure.
-use Rattle.write.proofs.TableText.{rows-rest, row_room, row-turn, rows_end}
-use Rattle.numbers.proofs.EachInTurn.{Going, going_start, going-length, going_end}
+use Rattle.numbers.proofs.EachInTurn.{Going}
 use Rattle.write.specs.Parts.{parted}
 use Rattle.rules.specs.Pipeline.Write.{table_writing}
-use Rattle.record.proofs.SoundTable.{Sound, sound-so}
+use Rattle.record.proofs.SoundTable.{Sound}
 use Rattle.rules.specs.Pipeline.Record.{listed}
-use lib.ListN.{take, length-map}
+use lib.ListN.{take}
 use Prim.Native.Nat.{◌-◌}
-use native.Mathlib.Omega.{arith}
-use mathlib.Core.Path.{sym, ◌∙◌}
-use borrow.Author.Rules.{rules}
 use Rattle.write.proofs.steps.Given as goal
 
 abbrev pub invariant-loop-i : goal.invariant-loop-i

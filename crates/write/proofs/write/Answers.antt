@@ -1,7 +1,6 @@
 -- `write`: where `refusal18` finds a bad record the answer is 18 at its place; where it finds none the table is one that `written`
 -- requires.
 use Rattle.write.proofs.TableText.{table-bad, nowhere-bad}
-use borrow.Author.Rules.{rules}
 use Rattle.write.proofs.write.Goals as goal
 
 pub written-requires : goal.written-requires

@@ -3,14 +3,13 @@
 use Rattle.write.proofs.TableText.{step_fits, own-fits, own-counts, own-lent, one-bad, one-good, good-made}
 use borrow.Author.Tests.{not-true, not-false}
 use mathlib.Core.Path.{refl, sym, ◌∙◌}
-use borrow.Author.Rules.{rules}
 use Rattle.write.proofs.write_step.Goals as goal
 
 pub returns-then-not-good_in : goal.returns-then-not-good_in
 returns-then-not-good_in c = one-bad _ (sym c.good_in.ensures ∙ not-true _ c.if-not-good_in.true-raw)
 
 pub step-n-requires : goal.step-n-requires
-step-n-requires c =  let m = good-made _ (sym c.good_in.ensures ∙ not-false _ c.if-not-good_in.false-raw) in record { s_value = m; room = step_fits _ m _ refl }
+step-n-requires c = let m = good-made _ (sym c.good_in.ensures ∙ not-false _ c.if-not-good_in.false-raw) in record { s_value = m; room = step_fits _ m _ refl }
 
 pub slice_bounds-a-end : goal.slice_bounds-a-end
 slice_bounds-a-end c = own-fits c.step-n.ensures

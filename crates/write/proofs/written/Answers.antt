@@ -2,7 +2,6 @@
 -- from there.
 use Rattle.write.proofs.TableText.{table_fits, table-good, own-fits, own-counts, own-lent}
 use mathlib.Core.Path.{refl}
-use borrow.Author.Rules.{rules}
 use Rattle.write.proofs.written.Goals as goal
 
 pub steps-n-requires : goal.steps-n-requires

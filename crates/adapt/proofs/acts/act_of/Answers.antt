@@ -3,7 +3,6 @@ use mathlib.Core.Path.{sym}
 use Rattle.rules.specs.Pipeline.Running.{act_of}
 use Rattle.columns.specs.Doings.{does, doing, able}
 use Rattle.adapt.proofs.ActIn.{forward-in, inverse-in}
-use borrow.Author.Rules.{rules}
 use Rattle.adapt.proofs.acts.act_of.Goals as goal
 
 pub returns-in-Forward : goal.returns-in-Forward

@@ -1,7 +1,6 @@
 -- `are_factors`: the code asks the same as `are_factors`, two codes alike and two zeros; the first test that fails decides.
 use Rattle.laws_lists.specs.Tests.{not_so, not_left}
 use Rattle.adapt.proofs.AdaptTest.{first-no, second-no, differ, alike}
-use borrow.Author.Rules.{rules}
 use Rattle.adapt.proofs.arguments.are_factors.Goals as goal
 
 pub returns-then-not-is_code : goal.returns-then-not-is_code

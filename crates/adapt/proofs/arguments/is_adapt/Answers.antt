@@ -8,7 +8,6 @@ use Rattle.rules.specs.Operators.Adapt.{is_adapt}
 use Rattle.laws_lists.specs.Tests.{not_so, not_left}
 use Rattle.adapt.specs.Arguments.{are_factors}
 use Rattle.adapt.proofs.AdaptTest.{adapt-tests}
-use borrow.Author.Rules.{rules}
 use Rattle.adapt.proofs.arguments.is_adapt.Goals as goal
 
 pub returns-then-l-ne8 : goal.returns-then-l-ne8

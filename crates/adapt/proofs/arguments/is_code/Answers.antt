@@ -1,7 +1,6 @@
 -- `is_code`: the code asks the same as `is_code`: not below zero, not 4, and at most 7.
 use mathlib.Core.Path.{sym, ◌∙◌}
 use Rattle.adapt.proofs.AdaptTest.{code-minus, code-four, code-plain}
-use borrow.Author.Rules.{rules}
 use Rattle.adapt.proofs.arguments.is_code.Goals as goal
 
 pub returns-then-minus_at : goal.returns-then-minus_at

@@ -1,6 +1,5 @@
 -- `adapt`: each arm knows its mode, and has what `is_adapt_in` and `adapted_in` say of it.
 use Rattle.rules.specs.Operators.Documented.{is_adapt_in, adapted_in}
-use borrow.Author.Rules.{rules}
 use Rattle.adapt.proofs.coords.adapt.Goals as goal
 
 pub adapt_crate-requires : goal.adapt_crate-requires

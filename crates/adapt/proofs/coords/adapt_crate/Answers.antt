@@ -4,7 +4,6 @@ use native.Mathlib.Omega.{arith}
 use lib.Seq.{length-take-le}
 use Rattle.rules.specs.Pipeline.Tuples.{tuples}
 use Rattle.adapt.proofs.Scaled.{all-still, all-scaled}
-use borrow.Author.Rules.{rules}
 use Rattle.adapt.proofs.coords.adapt_crate.Goals as goal
 
 pub slice_bounds-slots_of-end : goal.slice_bounds-slots_of-end

@@ -3,7 +3,6 @@
 use mathlib.Core.Path.{refl, ap, ◌∙◌}
 use Rattle.columns.specs.Coords.{picked}
 use Rattle.adapt.specs.Factors.{factors_for}
-use borrow.Author.Rules.{rules}
 use Rattle.adapt.proofs.coords.factors_for.Goals as goal
 
 pub returns-then-back : goal.returns-then-back

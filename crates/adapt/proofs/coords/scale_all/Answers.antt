@@ -1,8 +1,5 @@
-use Prim.Native.Nat.{◌-◌}
 use native.Mathlib.Omega.{arith}
-use Rattle.columns.proofs.EachTuple.{Each, each_none, each_turn, each-end}
-use Rattle.adapt.specs.Factors.{scaled_if}
-use borrow.Author.Rules.{rules}
+use Rattle.columns.proofs.EachTuple.{each_none, each_turn, each-end}
 use Rattle.adapt.proofs.coords.scale_all.Goals as goal
 
 pub loop-k-init : goal.loop-k-init

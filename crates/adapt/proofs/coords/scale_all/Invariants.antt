@@ -1,9 +1,7 @@
 -- `scale_all`: the first k tuples are scaled, the others as they were (`Each`). What is left of the tuples is the measure.
 use Prim.Native.Nat.{◌-◌}
-use native.Mathlib.Omega.{arith}
-use Rattle.columns.proofs.EachTuple.{Each, each_none, each_turn, each-end}
+use Rattle.columns.proofs.EachTuple.{Each}
 use Rattle.adapt.specs.Factors.{scaled_if}
-use borrow.Author.Rules.{rules}
 use Rattle.adapt.proofs.coords.scale_all.Given as goal
 
 abbrev pub invariant-loop-k : goal.invariant-loop-k

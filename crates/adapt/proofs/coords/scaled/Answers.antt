@@ -3,7 +3,6 @@ use mathlib.Core.Path.{ap, ◌∙◌}
 use Rattle.rules.specs.declared.Coord.{Coord}
 use Rattle.columns.specs.Coords.{placed}
 use Rattle.adapt.specs.Factors.{scaled_by, scaled, unscaled, scaled_if}
-use borrow.Author.Rules.{rules}
 use Rattle.adapt.proofs.coords.scaled.Goals as goal
 
 pub returns-then-back : goal.returns-then-back

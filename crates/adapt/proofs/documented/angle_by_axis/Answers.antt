@@ -2,7 +2,6 @@
 use mathlib.Core.Path.{◌∙◌}
 use Rattle.laws_lists.specs.Signed.{given_is}
 use Rattle.adapt.proofs.ByAxis.{angle-none, angle-so}
-use borrow.Author.Rules.{rules}
 use Rattle.adapt.proofs.documented.angle_by_axis.Goals as goal
 
 pub returns-then-size_at-gt2 : goal.returns-then-size_at-gt2

@@ -1,7 +1,6 @@
 -- `are_codes`: the four codes are asked in turn; the first that is none decides.
 use Rattle.laws_lists.specs.Tests.{not_so, not_left}
 use Rattle.adapt.proofs.ByAxis.{codes-1, codes-2, codes-3, codes-4}
-use borrow.Author.Rules.{rules}
 use Rattle.adapt.proofs.documented.are_codes.Goals as goal
 
 pub returns-then-not-is_code : goal.returns-then-not-is_code

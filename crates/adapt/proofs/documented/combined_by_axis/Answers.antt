@@ -1,7 +1,6 @@
 -- `combined_by_axis`: the eight arguments are by their places what `combined_by_axis` lists.
 use Rattle.laws_lists.specs.Signed.{given_is}
 use Rattle.adapt.proofs.ByAxis.{by-axis-so}
-use borrow.Author.Rules.{rules}
 use Rattle.adapt.proofs.documented.combined_by_axis.Goals as goal
 
 pub returns : goal.returns

@@ -2,14 +2,13 @@
 use Rattle.numbers.proofs.Rest.{rest_of}
 use mathlib.Core.Path.{refl, sym, ap, ◌∙◌}
 use native.Mathlib.Omega.{arith}
-use borrow.Author.Tests.{eq-eqb, ne_eqb}
+use borrow.Author.Tests.{ne_eqb}
 use lib.ListN.{length-take}
 use Rattle.rules.specs.Text.Lists.{all_of}
 use Rattle.rules.specs.Operators.Adapt.{is_code}
 use Rattle.rules.specs.Operators.Documented.{two_alike, is_documented}
 use Rattle.laws_lists.specs.Tests.{not_so, not_left}
 use Rattle.adapt.proofs.ByAxis.{documented-tests}
-use borrow.Author.Rules.{rules}
 use Rattle.adapt.proofs.documented.is_documented.Goals as goal
 
 pub returns-then-l-ne8 : goal.returns-then-l-ne8

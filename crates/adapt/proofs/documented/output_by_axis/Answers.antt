@@ -5,7 +5,6 @@ use native.Mathlib.Omega.{arith}
 use Rattle.laws_lists.specs.Signed.{given_is}
 use Rattle.adapt.proofs.TwoWords.{output-small}
 use Rattle.adapt.proofs.ByAxis.{place-some, place-few, axis-so}
-use borrow.Author.Rules.{rules}
 use Rattle.adapt.proofs.documented.output_by_axis.Goals as goal
 
 pub overflow_sub-at : goal.overflow_sub-at

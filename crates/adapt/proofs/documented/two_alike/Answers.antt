@@ -1,7 +1,6 @@
 -- `two_alike`: the six pairs are asked in the order of `two_alike`; the first that is one decides.
 use mathlib.Core.Path.{refl, sym, ◌∙◌}
 use Rattle.rules.specs.Operators.Documented.{two_alike}
-use borrow.Author.Rules.{rules}
 use Rattle.adapt.proofs.documented.two_alike.Goals as goal
 
 pub returns-then-is_pair : goal.returns-then-is_pair

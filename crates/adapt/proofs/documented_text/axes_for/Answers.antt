@@ -2,8 +2,6 @@
 use mathlib.Core.Path.{sym, ◌∙◌}
 use Rattle.rules.specs.Text.Ascii.{ascii}
 use Rattle.rules.specs.Operators.Documented.{letters_for}
-use borrow.Author.Rules.{rules}
-use borrow.Author.Rules.{rules}
 use Rattle.adapt.proofs.documented_text.axes_for.Goals as goal
 
 pub returns-then-both_zero : goal.returns-then-both_zero

@@ -3,8 +3,6 @@ use mathlib.Core.Path.{◌∙◌}
 use mathlib.Core.List.{map}
 use Rattle.rules.specs.Operators.Adapt.{axis}
 use Rattle.rules.specs.Operators.Documented.{letters_for, letters_from}
-use borrow.Author.Rules.{rules}
-use borrow.Author.Rules.{rules}
 use Rattle.adapt.proofs.documented_text.axes_from.Goals as goal
 
 pub returns : goal.returns

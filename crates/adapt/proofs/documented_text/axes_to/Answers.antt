@@ -1,8 +1,6 @@
 -- `axes_to`: the four axes by their places.
 use Rattle.laws_lists.specs.Signed.{given_is}
 use Rattle.adapt.proofs.SpeltByAxis.{four-so}
-use borrow.Author.Rules.{rules}
-use borrow.Author.Rules.{rules}
 use Rattle.adapt.proofs.documented_text.axes_to.Goals as goal
 
 pub returns : goal.returns

@@ -8,8 +8,6 @@ use Rattle.numbers.specs.Axes.{is_axis}
 use Rattle.numbers.proofs.Listed.{all-at}
 use Rattle.adapt.proofs.Spelt.{axis-least, axis-most}
 use Rattle.adapt.proofs.SpeltByAxis.{axis-small, taken-axis, axis-from-so}
-use borrow.Author.Rules.{rules}
-use borrow.Author.Rules.{rules}
 use Rattle.adapt.proofs.documented_text.axis_from.Goals as goal
 
 pub overflow_sub-size_at : goal.overflow_sub-size_at

@@ -3,8 +3,6 @@ use mathlib.Core.Path.{sym}
 use native.Mathlib.Omega.{arith}
 use lib.Seq.{length-take-le}
 use Rattle.adapt.proofs.SpeltByAxis.{place-four, code-so}
-use borrow.Author.Rules.{rules}
-use borrow.Author.Rules.{rules}
 use Rattle.adapt.proofs.documented_text.code_from.Goals as goal
 
 pub slice_bounds-position_of-end : goal.slice_bounds-position_of-end

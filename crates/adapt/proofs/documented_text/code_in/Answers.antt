@@ -3,8 +3,6 @@ use mathlib.Core.Path.{◌∙◌}
 use Prim.Native.Nat.{max}
 use Rattle.rules.specs.Operators.Arguments.{arg}
 use Rattle.rules.specs.Operators.Documented.{code_of}
-use borrow.Author.Rules.{rules}
-use borrow.Author.Rules.{rules}
 use Rattle.adapt.proofs.documented_text.code_in.Goals as goal
 
 pub returns : goal.returns

@@ -15,14 +15,14 @@ slice_bounds-axes_to-end-2 c =
     sym (length-take-le 4 c.args.l.now (omega (arith, documented-long c.args.l.now c.requires.l_value)))
 
 pub axes_to-to-requires : goal.axes_to-to-requires
-axes_to-to-requires c = 
+axes_to-to-requires c =
     let four = length-take-le 4 c.args.l.now (omega (arith, documented-long c.args.l.now c.requires.l_value)) in record { from_len = search rules; from_value = from-axes _ c.axes_from-from.ensures; l_value = documented-axes _ c.requires.l_value; l_len = four }
 
 pub code_in-requires : goal.code_in-requires
 code_in-requires c = documented-long _ c.requires.l_value
 
 pub words-requires : goal.words-requires
-words-requires c = 
+words-requires c =
     let from-so = from-axes c.args.l.now c.axes_from-from.ensures in
     let to-so = outputs-axes _ (search rules) from-so _ (documented-axes _ c.requires.l_value) in record { from_value = from-so; to_value = rw c.axes_to-to.ensures to-so; room = room_as (sym (documented-is _ c.code_in.ensures c.axes_from-from.ensures c.axes_to-to.ensures)) c.requires.room }
 

@@ -2,7 +2,6 @@
 use borrow.Author.Tests.{not-true, not-false}
 use mathlib.Core.Path.{sym, ◌∙◌}
 use Rattle.adapt.specs.Factors.{all_staying}
-use borrow.Author.Rules.{rules}
 use Rattle.adapt.proofs.factors.is_noop.Goals as goal
 
 pub returns-then-not-is_staying : goal.returns-then-not-is_staying

@@ -7,7 +7,6 @@ use Rattle.rules.specs.Text.Decimal.{minus}
 use Rattle.rules.specs.Operators.Numbers.{turn}
 use Rattle.rules.specs.Operators.Adapt.{factor}
 use Rattle.laws_lists.specs.Signed.{as_is}
-use borrow.Author.Rules.{rules}
 use Rattle.adapt.proofs.factors.mult_of.Goals as goal
 
 pub returns : goal.returns

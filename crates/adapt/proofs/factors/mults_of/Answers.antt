@@ -6,7 +6,6 @@ use Rattle.rules.specs.Operators.Adapt.{mult}
 use Rattle.laws_lists.specs.Signed.{as_is}
 use Rattle.adapt.specs.Factors.{mults}
 use Rattle.adapt.proofs.Signs.{mult-made}
-use borrow.Author.Rules.{rules}
 use Rattle.adapt.proofs.factors.mults_of.Goals as goal
 
 pub returns : goal.returns

@@ -3,7 +3,6 @@ use mathlib.Core.Path.{◌∙◌}
 use Rattle.rules.specs.Text.Ascii.{ascii}
 use Rattle.rules.specs.Operators.Keys.{worded}
 use Rattle.laws_records.specs.KeyKinds.{kind-here, kind-next, kind-end}
-use borrow.Author.Rules.{rules}
 use Rattle.adapt.proofs.keys.kind_of.Goals as goal
 
 pub returns-then-is_same : goal.returns-then-is_same

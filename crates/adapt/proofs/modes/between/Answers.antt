@@ -1,6 +1,5 @@
 -- `between`: each arm knows its mode, and has what `combined_in` says of it.
 use Rattle.rules.specs.Operators.Documented.{combined_in}
-use borrow.Author.Rules.{rules}
 use Rattle.adapt.proofs.modes.between.Goals as goal
 
 pub returns-in-Crate : goal.returns-in-Crate

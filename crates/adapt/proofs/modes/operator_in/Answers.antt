@@ -2,7 +2,6 @@
 use mathlib.Core.Path.{refl}
 use Rattle.rules.specs.Operators.Table.{number_of}
 use Rattle.rules.specs.Operators.Documented.{adapt_in}
-use borrow.Author.Rules.{rules}
 use Rattle.adapt.proofs.modes.operator_in.Goals as goal
 
 pub returns-in-Crate : goal.returns-in-Crate

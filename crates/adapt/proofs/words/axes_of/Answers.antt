@@ -1,7 +1,6 @@
 -- `axes_of`: four bytes are read, each as its axis, and these four are the map over the first four bytes.
 use Rattle.laws_lists.specs.Signed.{given_is}
 use Rattle.adapt.proofs.WordRead.{axes-so}
-use borrow.Author.Rules.{rules}
 use Rattle.adapt.proofs.words.axes_of.Goals as goal
 
 pub returns : goal.returns

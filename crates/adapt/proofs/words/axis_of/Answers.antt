@@ -5,7 +5,6 @@ use Rattle.rules.specs.Text.Ascii.{ascii}
 use Rattle.laws_lists.specs.Signed.{given_is}
 use Rattle.adapt.proofs.FirstPlace.{finds-letter, place-most}
 use Rattle.adapt.proofs.WordRead.{axis-plain, axis-turned}
-use borrow.Author.Rules.{rules}
 use Rattle.adapt.proofs.words.axis_of.Goals as goal
 
 pub signed-requires : goal.signed-requires

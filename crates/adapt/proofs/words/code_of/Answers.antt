@@ -1,7 +1,6 @@
 -- `code_of`: the code is 0 where the angles are alike, and else three times one and the other, which is at most 8 since there are three
 -- angles.
 use Rattle.adapt.proofs.TwoWords.{code_same, code_other}
-use borrow.Author.Rules.{rules}
 use Rattle.adapt.proofs.words.code_of.Goals as goal
 
 pub returns-then-from-to : goal.returns-then-from-to

@@ -1,7 +1,6 @@
 -- `combined`: the eight arguments are by their places what `combined` lists: four outputs, the code of the angles twice, and two zeros.
 use Rattle.laws_lists.specs.Signed.{given_is}
 use Rattle.adapt.proofs.TwoWords.{between-so}
-use borrow.Author.Rules.{rules}
 use Rattle.adapt.proofs.words.combined.Goals as goal
 
 pub returns : goal.returns

@@ -3,7 +3,6 @@
 use mathlib.Core.Path.{sym, ◌∙◌}
 use Rattle.rules.specs.Text.Ascii.{ascii}
 use Rattle.adapt.proofs.WordRead.{ends-deg, ends-gon, ends-none, ends-rad, ends-any, ends-other}
-use borrow.Author.Rules.{rules}
 use Rattle.adapt.proofs.words.ending_of.Goals as goal
 
 pub returns-then-is_same : goal.returns-then-is_same

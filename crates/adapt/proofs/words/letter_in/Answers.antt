@@ -1,11 +1,7 @@
-use Prim.Native.Nat.{suc, ◌-◌}
 use mathlib.Core.Path.{sym}
 use borrow.Author.Tests.{eq-eqb, ne_eqb}
-use lib.ListN.{length}
-use Rattle.rules.specs.Operators.Adapt.{place_in}
-use Rattle.numbers.proofs.Rest.{Rest, rest_all}
+use Rattle.numbers.proofs.Rest.{rest_all}
 use Rattle.adapt.proofs.FirstPlace.{finds-letter, place_here, place-on, place_none}
-use borrow.Author.Rules.{rules}
 use Rattle.adapt.proofs.words.letter_in.Goals as goal
 
 pub loop-i-init : goal.loop-i-init

@@ -1,13 +1,9 @@
 -- `letter_in`: the first i letters are others, so the place of b is that among the rest, counted on from i (`Rest`). What is left of the
 -- letters is the measure.
 use Prim.Native.Nat.{suc, ◌-◌}
-use mathlib.Core.Path.{sym}
-use borrow.Author.Tests.{eq-eqb, ne_eqb}
 use lib.ListN.{length}
 use Rattle.rules.specs.Operators.Adapt.{place_in}
-use Rattle.numbers.proofs.Rest.{Rest, rest_all}
-use Rattle.adapt.proofs.FirstPlace.{finds-letter, place_here, place-on, place_none}
-use borrow.Author.Rules.{rules}
+use Rattle.numbers.proofs.Rest.{Rest}
 use Rattle.adapt.proofs.words.letter_in.Given as goal
 
 abbrev pub invariant-loop-i : goal.invariant-loop-i

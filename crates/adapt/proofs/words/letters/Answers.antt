@@ -3,7 +3,6 @@ use mathlib.Core.Path.{sym, ◌∙◌}
 use Rattle.laws_lists.specs.Tests.{not_so, not_left}
 use Rattle.numbers.proofs.Rest.{rest_of}
 use Rattle.adapt.proofs.WordRead.{word-short, word-unordered, word-unended, word-so}
-use borrow.Author.Rules.{rules}
 use Rattle.adapt.proofs.words.letters.Goals as goal
 
 pub returns-then-t-lt4 : goal.returns-then-t-lt4

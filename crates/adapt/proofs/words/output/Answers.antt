@@ -2,7 +2,6 @@
 use mathlib.Core.Path.{◌∙◌}
 use Rattle.laws_lists.specs.Signed.{given_is}
 use Rattle.adapt.proofs.TwoWords.{output-small, output-so}
-use borrow.Author.Rules.{rules}
 use Rattle.adapt.proofs.words.output.Goals as goal
 
 pub signed-requires : goal.signed-requires

@@ -1,12 +1,8 @@
-use Prim.Native.Nat.{suc, ◌-◌}
 use mathlib.Core.Path.{sym, ◌∙◌}
 use borrow.Author.Tests.{eq-eqb, ne_eqb}
 use lib.IntN.{pos}
-use lib.ListN.{length}
-use Rattle.rules.specs.Operators.Adapt.{position}
-use Rattle.numbers.proofs.Rest.{Rest, rest_all}
+use Rattle.numbers.proofs.Rest.{rest_all}
 use Rattle.adapt.proofs.FirstPlace.{finds-size, place_here, place-on, place_none}
-use borrow.Author.Rules.{rules}
 use Rattle.adapt.proofs.words.position_of.Goals as goal
 
 pub loop-i-init : goal.loop-i-init

@@ -1,14 +1,9 @@
 -- `position_of`: the first i numbers are of other sizes, so its place is that among the rest, counted on from i (`Rest`). What is left of l
 -- is the measure.
 use Prim.Native.Nat.{suc, ◌-◌}
-use mathlib.Core.Path.{sym, ◌∙◌}
-use borrow.Author.Tests.{eq-eqb, ne_eqb}
-use lib.IntN.{pos}
 use lib.ListN.{length}
 use Rattle.rules.specs.Operators.Adapt.{position}
-use Rattle.numbers.proofs.Rest.{Rest, rest_all}
-use Rattle.adapt.proofs.FirstPlace.{finds-size, place_here, place-on, place_none}
-use borrow.Author.Rules.{rules}
+use Rattle.numbers.proofs.Rest.{Rest}
 use Rattle.adapt.proofs.words.position_of.Given as goal
 
 abbrev pub invariant-loop-i : goal.invariant-loop-i

@@ -2,7 +2,6 @@
 use mathlib.Core.Path.{sym, ◌∙◌}
 use Rattle.rules.specs.Text.Ascii.{ascii}
 use Rattle.adapt.proofs.WordRead.{word-pass, word-other}
-use borrow.Author.Rules.{rules}
 use Rattle.adapt.proofs.words.word_of.Goals as goal
 
 pub returns-then-is_same : goal.returns-then-is_same

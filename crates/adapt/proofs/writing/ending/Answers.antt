@@ -3,7 +3,6 @@ use Rattle.adapt.proofs.Spelt.{no-ending, deg-ending, gon-ending}
 use Rattle.numbers.proofs.Listed.{put_written}
 use Rattle.numbers.proofs.InTurn.{room_as, as_written, none_written}
 use mathlib.Core.Path.{sym}
-use borrow.Author.Rules.{rules}
 use Rattle.adapt.proofs.writing.ending.Goals as goal
 
 pub returns-then-angle-eq0 : goal.returns-then-angle-eq0

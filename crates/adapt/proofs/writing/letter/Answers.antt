@@ -4,7 +4,6 @@ use Rattle.numbers.proofs.Listed.{all-at}
 use Rattle.numbers.specs.Axes.{is_axis}
 use lib.IntN.{pos}
 use mathlib.Core.Path.{sym, ◌∙◌}
-use borrow.Author.Rules.{rules}
 use Rattle.adapt.proofs.writing.letter.Goals as goal
 
 pub size_at-m-requires : goal.size_at-m-requires

@@ -1,13 +1,8 @@
 use Rattle.adapt.proofs.Spelt.{letters-rest}
-use Rattle.numbers.proofs.EachInTurn.{Going, going_start, going-room, going-turn, going-length, going_end}
+use Rattle.numbers.proofs.EachInTurn.{going_start, going-room, going-turn, going-length, going_end}
 use Rattle.adapt.specs.Text.{lettered}
-use Rattle.rules.specs.Operators.Adapt.{letter}
 use mathlib.Core.Bool.{false}
-use mathlib.Core.List.{map}
-use Prim.Native.Nat.{◌-◌}
-use lib.ListN.{length}
 use lib.IntN.{pos}
-use borrow.Author.Rules.{rules}
 use Rattle.adapt.proofs.writing.letters.Goals as goal
 
 pub loop-i-init : goal.loop-i-init

@@ -4,7 +4,6 @@ use Rattle.rules.specs.Operators.Adapt.{letter, ending_of}
 use Rattle.numbers.proofs.Listed.{put_written}
 use Rattle.numbers.proofs.InTurn.{first-room, then-room, both-written}
 use Rattle.adapt.specs.Text.{word_text}
-use borrow.Author.Rules.{rules}
 use Rattle.adapt.proofs.writing.word.Goals as goal
 
 pub put-a-requires : goal.put-a-requires
@@ -14,7 +13,7 @@ put-a-requires c =
 
 pub letters-e-requires : goal.letters-e-requires
 unfolding word_text
-letters-e-requires c = 
+letters-e-requires c =
     let l = map letter c.args.l.now in record { l_value = c.requires.l_value; room = first-room l (ending_of c.args.angle) (then-room c.args.key.now _ c.requires.room (put_written c.put-a.ensures)) }
 
 pub ending-requires : goal.ending-requires

@@ -3,7 +3,6 @@ use Prim.Native.Nat.{◌/◌}
 use Rattle.rules.specs.Text.Ascii.{ascii}
 use Rattle.numbers.proofs.InTurn.{first-room, then-room, both-written}
 use Rattle.adapt.specs.Text.{word_text, words_text}
-use borrow.Author.Rules.{rules}
 use Rattle.adapt.proofs.writing.words.Goals as goal
 
 pub word-e-requires : goal.word-e-requires

@@ -6,7 +6,6 @@ use Rattle.rules.specs.Text.Lists.{all_of}
 use Rattle.numbers.specs.Axes.{is_axis}
 use Rattle.numbers.proofs.InTurn.{room_as, as_written}
 use Rattle.adapt.proofs.Spelt.{adapt-is, adapt-long, adapt-axes}
-use borrow.Author.Rules.{rules}
 use Rattle.adapt.proofs.writing.write_words.Goals as goal
 
 pub size_at-requires : goal.size_at-requires

@@ -3,7 +3,6 @@ use mathlib.Core.Path.{refl}
 use Rattle.rules.specs.Operators.Table.{forward, inverse}
 use Rattle.rules.specs.Pipeline.Running.{act_of}
 use Rattle.columns.specs.Doings.{does, doing, able}
-use borrow.Author.Rules.{rules}
 use Rattle.axisswap.proofs.acts.act_of.Goals as goal
 
 pub returns-in-Forward : goal.returns-in-Forward

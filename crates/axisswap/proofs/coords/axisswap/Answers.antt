@@ -1,10 +1,7 @@
 use mathlib.Core.Path.{◌∙◌}
-use Prim.Native.Nat.{◌-◌}
 use Rattle.rules.specs.Pipeline.Tuples.{tuples}
-use Rattle.columns.proofs.EachTuple.{Each, each_none, each_turn, each-end}
-use Rattle.axisswap.specs.Signs.{ordered_by}
+use Rattle.columns.proofs.EachTuple.{each_none, each_turn, each-end}
 use Rattle.axisswap.proofs.OrderedNumbers.{all-swapped}
-use borrow.Author.Rules.{rules}
 use Rattle.axisswap.proofs.coords.axisswap.Goals as goal
 
 pub loop-k-init : goal.loop-k-init

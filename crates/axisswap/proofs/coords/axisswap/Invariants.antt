@@ -1,12 +1,8 @@
 -- `axisswap`: the first k tuples are reordered, the others as they were (`Each`); and to reorder by slots and signs made once is to do what
 -- the order says. What is left of the tuples is the measure.
-use mathlib.Core.Path.{◌∙◌}
 use Prim.Native.Nat.{◌-◌}
-use Rattle.rules.specs.Pipeline.Tuples.{tuples}
-use Rattle.columns.proofs.EachTuple.{Each, each_none, each_turn, each-end}
+use Rattle.columns.proofs.EachTuple.{Each}
 use Rattle.axisswap.specs.Signs.{ordered_by}
-use Rattle.axisswap.proofs.OrderedNumbers.{all-swapped}
-use borrow.Author.Rules.{rules}
 use Rattle.axisswap.proofs.coords.axisswap.Given as goal
 
 abbrev pub invariant-loop-k : goal.invariant-loop-k

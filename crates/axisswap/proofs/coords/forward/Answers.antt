@@ -1,7 +1,6 @@
 -- `forward`: the numbers at the slots are picked first and then turned, which is how `ordered` is written.
 use mathlib.Core.Path.{ap, ◌∙◌}
 use Rattle.axisswap.specs.Signs.{turned_by, ordered}
-use borrow.Author.Rules.{rules}
 use Rattle.axisswap.proofs.coords.forward.Goals as goal
 
 pub returns : goal.returns

@@ -3,7 +3,6 @@ use mathlib.Core.Path.{ap, ◌∙◌}
 use Rattle.rules.specs.declared.Coord.{Coord}
 use Rattle.columns.specs.Coords.{placed}
 use Rattle.axisswap.specs.Signs.{unordered}
-use borrow.Author.Rules.{rules}
 use Rattle.axisswap.proofs.coords.inverse.Goals as goal
 
 pub returns : goal.returns

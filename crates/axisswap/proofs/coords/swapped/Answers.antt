@@ -1,6 +1,5 @@
 -- `swapped`: each arm knows which way it goes, and there `ordered_by` is what its call ensures.
 use Rattle.axisswap.specs.Signs.{ordered_by}
-use borrow.Author.Rules.{rules}
 use Rattle.axisswap.proofs.coords.swapped.Goals as goal
 
 pub returns-then-back : goal.returns-then-back

@@ -1,7 +1,6 @@
 -- `turn_at`: where the order has an argument i its sign is the one (`turn-named`); past its arguments the sign stays (`turn-stays`).
 use mathlib.Core.Path.{sym, ◌∙◌}
 use Rattle.axisswap.proofs.OrderedNumbers.{turn-named, turn-stays}
-use borrow.Author.Rules.{rules}
 use Rattle.axisswap.proofs.coords.turn_at.Goals as goal
 
 pub returns-then-i-args : goal.returns-then-i-args

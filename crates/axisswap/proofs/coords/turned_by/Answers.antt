@@ -1,6 +1,5 @@
 -- `turned_by`: each number is turned by its own sign, as `turned_by` says.
 use Rattle.axisswap.specs.Signs.{turned_by}
-use borrow.Author.Rules.{rules}
 use Rattle.axisswap.proofs.coords.turned_by.Goals as goal
 
 pub returns : goal.returns

@@ -1,6 +1,5 @@
 -- `order_places`: the four places are reordered as `reordered` ensures, and the columns are not touched.
 use Rattle.axisswap.proofs.OrderedPlaces.{order-so}
-use borrow.Author.Rules.{rules}
 use Rattle.axisswap.proofs.places.order_places.Goals as goal
 
 pub returns : goal.returns

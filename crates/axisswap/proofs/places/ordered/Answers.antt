@@ -1,7 +1,4 @@
-use Prim.Native.Nat.{◌-◌}
-use lib.ListN.{length}
-use Rattle.axisswap.proofs.OrderedPlaces.{Swapping, swap-none, swap-next, swap-all}
-use borrow.Author.Rules.{rules}
+use Rattle.axisswap.proofs.OrderedPlaces.{swap-none, swap-next, swap-all}
 use Rattle.axisswap.proofs.places.ordered.Goals as goal
 
 pub loop-i-init : goal.loop-i-init

@@ -1,8 +1,7 @@
 -- `ordered`: the first i places are those that the first i arguments name, with their signs (`Swapping`). What is left of l is the measure.
 use Prim.Native.Nat.{◌-◌}
 use lib.ListN.{length}
-use Rattle.axisswap.proofs.OrderedPlaces.{Swapping, swap-none, swap-next, swap-all}
-use borrow.Author.Rules.{rules}
+use Rattle.axisswap.proofs.OrderedPlaces.{Swapping}
 use Rattle.axisswap.proofs.places.ordered.Given as goal
 
 abbrev pub invariant-loop-i : goal.invariant-loop-i

@@ -1,7 +1,4 @@
-use Prim.Native.Nat.{◌-◌}
-use lib.ListN.{length}
-use Rattle.axisswap.proofs.OrderedPlaces.{Unswapping, unswap-none, unswap-next, unswap-all}
-use borrow.Author.Rules.{rules}
+use Rattle.axisswap.proofs.OrderedPlaces.{unswap-none, unswap-next, unswap-all}
 use Rattle.axisswap.proofs.places.unordered.Goals as goal
 
 pub loop-i-init : goal.loop-i-init

@@ -2,8 +2,7 @@
 -- measure.
 use Prim.Native.Nat.{◌-◌}
 use lib.ListN.{length}
-use Rattle.axisswap.proofs.OrderedPlaces.{Unswapping, unswap-none, unswap-next, unswap-all}
-use borrow.Author.Rules.{rules}
+use Rattle.axisswap.proofs.OrderedPlaces.{Unswapping}
 use Rattle.axisswap.proofs.places.unordered.Given as goal
 
 abbrev pub invariant-loop-i : goal.invariant-loop-i

@@ -2,7 +2,6 @@
 use Rattle.rules.specs.Text.Ascii.{ascii}
 use Rattle.numbers.proofs.Listed.{put_written}
 use Rattle.axisswap.proofs.Words.{front-room, list-room, words-written}
-use borrow.Author.Rules.{rules}
 use Rattle.axisswap.proofs.writing.write_words.Goals as goal
 
 pub put-e-requires : goal.put-e-requires

@@ -1,8 +1,7 @@
-use Prim.Native.Nat.{◌-◌}
 use native.Mathlib.Omega.{arith}
 use mir.Facts.{to_z-of_z}
 use mir.Syntax.{w32}
-use Rattle.columns.proofs.TurnedRow.{Turned, turned_none, turned-next, turned-end}
+use Rattle.columns.proofs.TurnedRow.{turned_none, turned-next, turned-end}
 use borrow.Author.Rules.{rules}
 use Rattle.columns.proofs.acts.reversed.Goals as goal
 

@@ -1,9 +1,6 @@
 -- `reversed`: the first i of r are the last i of the n arguments, the last one first (`Turned`). What is left of n is the measure.
 use Prim.Native.Nat.{◌-◌}
-use native.Mathlib.Omega.{arith}
-use mir.Facts.{to_z-of_z}
-use Rattle.columns.proofs.TurnedRow.{Turned, turned_none, turned-next, turned-end}
-use borrow.Author.Rules.{rules}
+use Rattle.columns.proofs.TurnedRow.{Turned}
 use Rattle.columns.proofs.acts.reversed.Given as goal
 
 abbrev pub invariant-loop-i : goal.invariant-loop-i

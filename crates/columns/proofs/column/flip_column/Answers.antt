@@ -4,13 +4,12 @@ use Rattle.laws_steps.specs.Lengths.{tuples-length}
 use Rattle.columns.proofs.OneNumber.{column-length, copy-turn, store-end, not_yet, flip-tuples, flip-number}
 use Rattle.rules.specs.Operators.Numbers.{number, put}
 use Rattle.rules.specs.Pipeline.Tuples.{tuples, column}
-use Rattle.columns.proofs.Firsts.{firsts_from, firsts-none}
+use Rattle.columns.proofs.Firsts.{firsts-none}
 use lib.Ieee.{nan}
 use native.Mathlib.Omega.{arith}
-use lib.ListN.{length, get_or, set, take, drop, length-set}
-use Prim.Native.Nat.{◌+◌, ◌-◌, ◌/◌, ◌≤◌}
+use lib.ListN.{length, get_or, set, length-set}
+use Prim.Native.Nat.{◌+◌, ◌/◌}
 use mathlib.Core.Path.{◌≡◌, refl, sym, ap, ◌∙◌}
-use borrow.Author.Rules.{rules}
 use Rattle.columns.proofs.column.flip_column.Goals as goal
 
 pub loop-k-init : goal.loop-k-init

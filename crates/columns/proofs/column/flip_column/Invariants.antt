@@ -1,18 +1,13 @@
 -- `flip_column`: number i of the first k tuples and the first k numbers of the column are exchanged, and all others are as they were. What
 -- is left of n is the measure.
-use Rattle.rules.specs.declared.Coord.{Coord}
-use lib.Seq.{paste, paste-zero}
-use Rattle.laws_steps.specs.Lengths.{tuples-length}
-use Rattle.columns.proofs.OneNumber.{column-length, copy-turn, store-end, not_yet, flip-tuples, flip-number}
-use Rattle.rules.specs.Operators.Numbers.{number, put}
+use lib.Seq.{paste}
+use Rattle.rules.specs.Operators.Numbers.{put}
 use Rattle.rules.specs.Pipeline.Tuples.{tuples, column}
-use Rattle.columns.proofs.Firsts.{firsts_from, firsts-none}
+use Rattle.columns.proofs.Firsts.{firsts_from}
 use lib.Ieee.{nan}
-use native.Mathlib.Omega.{arith}
-use lib.ListN.{length, get_or, set, take, drop, length-set}
-use Prim.Native.Nat.{◌+◌, ◌-◌, ◌/◌, ◌≤◌}
-use mathlib.Core.Path.{◌≡◌, refl, sym, ap, ◌∙◌}
-use borrow.Author.Rules.{rules}
+use lib.ListN.{length, get_or, take, drop}
+use Prim.Native.Nat.{◌-◌, ◌≤◌}
+use mathlib.Core.Path.{◌≡◌}
 use Rattle.columns.proofs.column.flip_column.Given as goal
 
 abbrev pub invariant-loop-k : goal.invariant-loop-k

@@ -1,8 +1,5 @@
-use Rattle.columns.proofs.EachTuple.{Each, each_none, each_turn, each-end}
-use Rattle.columns.specs.Coords.{no_tuple}
-use Prim.Native.Nat.{◌-◌}
+use Rattle.columns.proofs.EachTuple.{each_none, each_turn, each-end}
 use mathlib.Core.Path.{refl}
-use borrow.Author.Rules.{rules}
 use Rattle.columns.proofs.column.nan_all.Goals as goal
 
 pub loop-k-init : goal.loop-k-init

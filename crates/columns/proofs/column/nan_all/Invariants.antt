@@ -1,9 +1,7 @@
 -- `nan_all`: of the first k tuples every number is NaN, the others are as they were (`Each`). What is left of n is the measure.
-use Rattle.columns.proofs.EachTuple.{Each, each_none, each_turn, each-end}
+use Rattle.columns.proofs.EachTuple.{Each}
 use Rattle.columns.specs.Coords.{no_tuple}
 use Prim.Native.Nat.{◌-◌}
-use mathlib.Core.Path.{refl}
-use borrow.Author.Rules.{rules}
 use Rattle.columns.proofs.column.nan_all.Given as goal
 
 abbrev pub invariant-loop-k : goal.invariant-loop-k

@@ -1,9 +1,7 @@
 use mathlib.Core.Path.{ap, ◌∙◌}
-use lib.Ieee.{Float, nan}
-use Rattle.columns.proofs.EachTuple.{Each, each_none, each_turn, each-end}
+use lib.Ieee.{Float}
+use Rattle.columns.proofs.EachTuple.{each_none, each_turn, each-end}
 use Rattle.rules.specs.Operators.Numbers.{put}
-use Prim.Native.Nat.{◌-◌}
-use borrow.Author.Rules.{rules}
 use Rattle.columns.proofs.column.nan_column.Goals as goal
 
 pub loop-k-init : goal.loop-k-init

@@ -1,10 +1,8 @@
 -- `nan_column`: number i of the first k tuples is NaN, the others are as they were (`Each`). What is left of n is the measure.
-use mathlib.Core.Path.{ap, ◌∙◌}
-use lib.Ieee.{Float, nan}
-use Rattle.columns.proofs.EachTuple.{Each, each_none, each_turn, each-end}
+use lib.Ieee.{nan}
+use Rattle.columns.proofs.EachTuple.{Each}
 use Rattle.rules.specs.Operators.Numbers.{put}
 use Prim.Native.Nat.{◌-◌}
-use borrow.Author.Rules.{rules}
 use Rattle.columns.proofs.column.nan_column.Given as goal
 
 abbrev pub invariant-loop-k : goal.invariant-loop-k

@@ -1,16 +1,11 @@
 -- `pop_column`: the first k tuples have the column's numbers at i, the others are as they were. What is left of n is the measure.
-use Rattle.rules.specs.declared.Coord.{Coord}
-use Rattle.laws_steps.specs.Lengths.{tuples-length}
-use Rattle.columns.proofs.OneNumber.{store-turn, store-end}
 use Rattle.rules.specs.Operators.Numbers.{put}
 use Rattle.rules.specs.Pipeline.Tuples.{tuples}
-use Rattle.columns.proofs.Firsts.{firsts_from, firsts-none}
+use Rattle.columns.proofs.Firsts.{firsts_from}
 use lib.Ieee.{nan}
-use native.Mathlib.Omega.{arith}
-use lib.ListN.{length, get_or, set, take, drop}
-use Prim.Native.Nat.{◌+◌, ◌-◌, ◌/◌}
-use mathlib.Core.Path.{◌≡◌, refl, sym, ap, ◌∙◌}
-use borrow.Author.Rules.{rules}
+use lib.ListN.{length, get_or, take, drop}
+use Prim.Native.Nat.{◌-◌}
+use mathlib.Core.Path.{◌≡◌}
 use Rattle.columns.proofs.column.pop_column.Given as goal
 
 abbrev pub invariant-loop-k : goal.invariant-loop-k

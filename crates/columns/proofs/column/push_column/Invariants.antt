@@ -1,14 +1,9 @@
 -- `push_column`: number i of the first k tuples stands in the store from `at` on. What is left of n is the measure.
-use Rattle.rules.specs.Operators.Numbers.{number}
-use Rattle.laws_steps.specs.Lengths.{tuples-length}
-use Rattle.columns.proofs.OneNumber.{copy-turn, column-at, column-length}
 use Rattle.rules.specs.Pipeline.Tuples.{tuples, column}
-use lib.Seq.{paste, paste-zero}
-use native.Mathlib.Omega.{arith}
-use lib.ListN.{length, length-set}
-use Prim.Native.Nat.{◌+◌, ◌-◌, ◌/◌, ◌≤◌}
-use mathlib.Core.Path.{◌≡◌, refl, ap, ◌∙◌}
-use borrow.Author.Rules.{rules}
+use lib.Seq.{paste}
+use lib.ListN.{length}
+use Prim.Native.Nat.{◌-◌, ◌≤◌}
+use mathlib.Core.Path.{◌≡◌}
 use Rattle.columns.proofs.column.push_column.Given as goal
 
 abbrev pub invariant-loop-k : goal.invariant-loop-k

@@ -1,6 +1,5 @@
 -- `get_coord`: tuple i of a list is its four numbers from i * 4 on (`load-tuple`).
 use Rattle.columns.proofs.TupleAt.{load-tuple}
-use borrow.Author.Rules.{rules}
 use Rattle.columns.proofs.coordinate.get_coord.Goals as goal
 
 pub returns : goal.returns

@@ -1,5 +1,4 @@
 -- `no_coord`: each of the four numbers is the NaN that the call gave.
-use borrow.Author.Rules.{rules}
 use Rattle.columns.proofs.coordinate.no_coord.Goals as goal
 
 pub returns : goal.returns

@@ -1,8 +1,5 @@
 -- `set_coord`: to store four numbers from i * 4 on is to store tuple i of a list (`store-tuple`); a store keeps the list's length.
-use lib.ListN.{length-set}
 use Rattle.columns.proofs.TupleAt.{store-tuple}
-use borrow.Author.Rules.{rules}
-use native.Mathlib.Omega.{arith}
 use Rattle.columns.proofs.coordinate.set_coord.Goals as goal
 
 pub returns : goal.returns

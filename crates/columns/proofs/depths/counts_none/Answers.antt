@@ -6,7 +6,6 @@ use lib.Dec.{ltb}
 use Rattle.rules.specs.Pipeline.Tuples.{counts_none}
 use Rattle.columns.specs.Doings.{does, doing}
 use Rattle.columns.proofs.DepthRules.{counts-few}
-use borrow.Author.Rules.{rules}
 use Rattle.columns.proofs.depths.counts_none.Goals as goal
 
 pub returns-in-Swaps : goal.returns-in-Swaps

@@ -1,7 +1,7 @@
 -- `depth_after`: each arm knows which acts it has: a push adds its columns; a pop takes its own away, or all that there are; the pop that
 -- is all or none takes none where they are too few; every other act leaves as many as it finds.
-use mathlib.Core.Path.{◌≡◌, sym, ◌∙◌}
-use lib.ListN.{length, length-map}
+use mathlib.Core.Path.{◌≡◌}
+use lib.ListN.{length}
 use Rattle.columns.specs.Doings.{doing}
 use Rattle.columns.proofs.DepthRules.{after-pushes, after-pops, after-pops-few, after-pops_all, after-pops_all-few, depth-stays}
 use borrow.Author.Rules.{rules}

@@ -1,6 +1,5 @@
 -- `pick`: a coordinate is an array of four numbers, and each slot is below four, so each number is read at its slot (`pick-so`).
 use Rattle.columns.proofs.Four.{pick-so}
-use borrow.Author.Rules.{rules}
 use Rattle.columns.proofs.slots.pick.Goals as goal
 
 pub returns : goal.returns

@@ -2,7 +2,6 @@
 use mathlib.Core.Path.{sym, ap, ◌∙◌}
 use Rattle.columns.specs.Coords.{slot}
 use Rattle.columns.proofs.BySlot.{slot-named, slot-stays}
-use borrow.Author.Rules.{rules}
 use Rattle.columns.proofs.slots.slot_at.Goals as goal
 
 pub returns-then-i-args : goal.returns-then-i-args

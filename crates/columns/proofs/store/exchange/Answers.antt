@@ -2,9 +2,8 @@ use mathlib.Core.Path.{subst, ◌≡◌, refl, ◌∙◌}
 use Rattle.columns.proofs.Reversals.{exchange-none, exchange-turn}
 use Rattle.columns.specs.Stores.{Exchanged}
 use native.Mathlib.Omega.{arith}
-use lib.ListN.{length, set, length-set}
-use Prim.Native.Nat.{ℕ, ◌+◌, ◌-◌, ◌≤◌}
-use borrow.Author.Rules.{rules}
+use lib.ListN.{set, length-set}
+use Prim.Native.Nat.{ℕ, ◌+◌}
 use Rattle.columns.proofs.store.exchange.Goals as goal
 
 pub loop-k-init : goal.loop-k-init
@@ -14,12 +13,11 @@ pub bounds-store-b-in-loop-k : goal.bounds-store-b-in-loop-k
 bounds-store-b-in-loop-k c = simp length-set (omega arith)
 
 pub loop-k-preserved : goal.loop-k-preserved
-loop-k-preserved c =
-    (
-      exchange-turn c.args.a c.args.b c.args.store.now c.loop-k.store _ _ c.loop-k.k _ _ c.loop-k.invariant.0 (omega arith) (omega arith) refl refl refl refl,
-      length-set (set c.loop-k.store (c.args.a + c.loop-k.k) _) (c.args.b + c.loop-k.k) _ ∙ length-set c.loop-k.store (c.args.a + c.loop-k.k) _ ∙ c.loop-k.invariant.1,
-      omega arith,
-    )
+loop-k-preserved c = (
+  exchange-turn c.args.a c.args.b c.args.store.now c.loop-k.store _ _ c.loop-k.k _ _ c.loop-k.invariant.0 (omega arith) (omega arith) refl refl refl refl,
+  length-set (set c.loop-k.store (c.args.a + c.loop-k.k) _) (c.args.b + c.loop-k.k) _ ∙ length-set c.loop-k.store (c.args.a + c.loop-k.k) _ ∙ c.loop-k.invariant.1,
+  omega arith,
+)
 
 pub returns : goal.returns
 returns c =

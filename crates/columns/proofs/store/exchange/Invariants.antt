@@ -1,12 +1,9 @@
 -- `exchange`: the first k numbers from a on and from b on are exchanged, all others are as they were (`Exchanged`). What is left of n is
 -- the measure.
-use mathlib.Core.Path.{subst, ◌≡◌, refl, ◌∙◌}
-use Rattle.columns.proofs.Reversals.{exchange-none, exchange-turn}
+use mathlib.Core.Path.{◌≡◌}
 use Rattle.columns.specs.Stores.{Exchanged}
-use native.Mathlib.Omega.{arith}
-use lib.ListN.{length, set, length-set}
-use Prim.Native.Nat.{ℕ, ◌+◌, ◌-◌, ◌≤◌}
-use borrow.Author.Rules.{rules}
+use lib.ListN.{length}
+use Prim.Native.Nat.{◌-◌, ◌≤◌}
 use Rattle.columns.proofs.store.exchange.Given as goal
 
 abbrev pub invariant-loop-k : goal.invariant-loop-k

@@ -1,8 +1,7 @@
-use Rattle.columns.proofs.Reversals.{Reversing, reverse-none, reverse-turn, reverse-end}
+use Rattle.columns.proofs.Reversals.{reverse-none, reverse-turn, reverse-end}
 use Rattle.columns.proofs.InStore.{under}
 use native.Mathlib.Omega.{arith}
 use Prim.Native.Nat.{◌-◌}
-use borrow.Author.Rules.{rules}
 use Rattle.columns.proofs.store.reverse.Goals as goal
 
 pub loop-i-init : goal.loop-i-init

@@ -1,10 +1,7 @@
 -- `reverse`: the columns before i and from j on stand where they belong, and those between as they were (`Reversing`). A turn exchanges the
 -- two outermost of these, so j - i is the measure.
-use Rattle.columns.proofs.Reversals.{Reversing, reverse-none, reverse-turn, reverse-end}
-use Rattle.columns.proofs.InStore.{under}
-use native.Mathlib.Omega.{arith}
+use Rattle.columns.proofs.Reversals.{Reversing}
 use Prim.Native.Nat.{◌-◌}
-use borrow.Author.Rules.{rules}
 use Rattle.columns.proofs.store.reverse.Given as goal
 
 abbrev pub invariant-loop-i : goal.invariant-loop-i

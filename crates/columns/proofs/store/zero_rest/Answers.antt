@@ -1,8 +1,8 @@
 use mathlib.Core.Path.{◌≡◌, refl, ap, ◌∙◌}
 use mathlib.Core.List.{List}
-use Prim.Native.Nat.{ℕ, ◌-◌, ◌≤◌}
+use Prim.Native.Nat.{ℕ}
 use mathlib.Core.Bool.{false}
-use lib.ListN.{length, set, length-set}
+use lib.ListN.{set, length-set}
 use lib.IntN.{pos}
 use lib.Ieee.{Float, fin, of_bits}
 use Rattle.columns.proofs.Zeros.{filled, filled_none, filled_more}

@@ -1,13 +1,11 @@
 -- `zero_rest`: the numbers from `from` up to i are zero, the others are as they were (`filled`). What is left up to `to` is the measure.
-use mathlib.Core.Path.{◌≡◌, refl, ap, ◌∙◌}
-use mathlib.Core.List.{List}
-use Prim.Native.Nat.{ℕ, ◌-◌, ◌≤◌}
+use mathlib.Core.Path.{◌≡◌}
+use Prim.Native.Nat.{◌-◌, ◌≤◌}
 use mathlib.Core.Bool.{false}
-use lib.ListN.{length, set, length-set}
+use lib.ListN.{length}
 use lib.IntN.{pos}
-use lib.Ieee.{Float, fin, of_bits}
-use Rattle.columns.proofs.Zeros.{filled, filled_none, filled_more}
-use native.Mathlib.Omega.{arith}
+use lib.Ieee.{fin}
+use Rattle.columns.proofs.Zeros.{filled}
 use Rattle.columns.proofs.store.zero_rest.Given as goal
 
 abbrev pub invariant-loop-i : goal.invariant-loop-i

@@ -3,7 +3,6 @@ use mathlib.Core.Path.{refl}
 use Rattle.rules.specs.Pipeline.Check.{adapting}
 use Rattle.columns.specs.Doings.{does, doing}
 use Rattle.foretell.proofs.ReadyActs.{others-not}
-use borrow.Author.Rules.{rules}
 use Rattle.foretell.proofs.acts.is_adapting.Goals as goal
 
 pub returns-in-Adapts : goal.returns-in-Adapts

@@ -1,6 +1,5 @@
 -- `judge`: the tests are those of `judged`, in its order: too few columns, too many after the act, and else as many as there are then.
 use Rattle.foretell.proofs.Judgements.{few-so, many-so, goes_so}
-use borrow.Author.Rules.{rules}
 use Rattle.foretell.proofs.acts.judge.Goals as goal
 
 pub returns-then-depth-takes : goal.returns-then-depth-takes

@@ -1,9 +1,9 @@
 -- `step`: each arm knows which act it has, and there the act of the doing is what the operator's own call on places ensures. What a call
 -- requires is in `Ready`. A drop and an `adapt` move no place.
-use mathlib.Core.Path.{◌≡◌, sym, ◌∙◌, subst}
+use mathlib.Core.Path.{◌≡◌, sym, subst}
 use Prim.Native.Nat.{◌≤◌}
 use native.Mathlib.Omega.{arith}
-use lib.ListN.{length, take, length-map}
+use lib.ListN.{length, take}
 use lib.Seq.{length-take-le}
 use Rattle.columns.specs.declared.acts.Act as code
 use Rattle.columns.specs.Doings.{does, doing}

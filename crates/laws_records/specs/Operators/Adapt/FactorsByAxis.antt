@@ -8,7 +8,7 @@ use Rattle.std.proofs.Math.Bool.{true, false}
 use Rattle.std.specs.Bool.{xor}
 use native.Mathlib.Omega.{arith}
 use Rattle.std.specs.Float.Ieee.{binary64, mul, div, unlike}
-use Rattle.rules.specs.Text.Decimal.{signed, minus}
+use Rattle.rules.specs.Text.Decimal.{minus}
 use Rattle.rules.specs.Operators.Arguments.{size, arg}
 use Rattle.rules.specs.Operators.Numbers.{number}
 use Rattle.rules.specs.Operators.Table.{is_args}

@@ -2,8 +2,8 @@
 -- does: each number goes to one place, times 1 or -1, and comes back from there, times the same.
 use Rattle.std.specs.Prelude.{◌≡◌, Bool, cond, ◌&&◌, ◌||◌, List, [], ◌∷◌, map, T, eqb, length, take, get_or, ℤ, pos}
 use Rattle.std.proofs.Math.Path.{refl}
-use Rattle.std.proofs.Common.{sym, ap, ◌∙◌, arith, eqb-true, lit≤}
-use Prim.Native.Nat.{ℕ, zero, suc, ◌%◌, ◌/◌, ◌≤◌, ◌<◌}
+use Rattle.std.proofs.Common.{ap, ◌∙◌, arith, eqb-true, lit≤}
+use Prim.Native.Nat.{ℕ, zero, suc, ◌/◌, ◌≤◌, ◌<◌}
 use Rattle.std.proofs.Math.Bool.{true, false, not}
 use Rattle.std.proofs.lemmas.Simd.{map-map}
 use Rattle.std.proofs.lemmas.Bool.{not-true}
@@ -11,7 +11,7 @@ use Rattle.std.specs.Float.Ieee.{Float, binary64, neg, mul, div, fits}
 use Rattle.std.specs.Float.{nan, inf, fin}
 use store.Seg.{eqb_same}
 use Rattle.rules.specs.Text.Lists.{all_of, any_of}
-use Rattle.rules.specs.Operators.Acts.{Act, adapts}
+use Rattle.rules.specs.Operators.Acts.{adapts}
 use Rattle.rules.specs.Operators.Arguments.{size, arg, is_distinct, is_order}
 use Rattle.rules.specs.Operators.Numbers.{number, put, turn}
 use Rattle.rules.specs.Operators.Adapt.{one, post, mult, output}

@@ -4,7 +4,6 @@ use mathlib.Core.Path.{refl}
 use Rattle.laws_text.specs.Sizes.{tenfold-weight, tenfold-weight-less}
 use Rattle.text.proofs.Wrote.{wrote-fits, wrote-counts}
 use Rattle.normalise.proofs.Room.{clean-room, clean-holds}
-use borrow.Author.Rules.{rules}
 use Rattle.normalise.proofs.comments.clean_into.Goals as goal
 
 pub strip_into-k-requires : goal.strip_into-k-requires

@@ -1,7 +1,5 @@
-use Prim.Native.Nat.{◌-◌}
 use native.Mathlib.Omega.{arith}
-use lib.ListN.{length}
-use Rattle.normalise.proofs.Lined.{Lining, lining-start, lining-length, lining-newline-room, lining-newline, lining-onward, lining-comment, lining-byte-room, lining-byte, lining-end}
+use Rattle.normalise.proofs.Lined.{lining-start, lining-length, lining-newline-room, lining-newline, lining-onward, lining-comment, lining-byte-room, lining-byte, lining-end}
 use borrow.Author.Rules.{rules}
 use Rattle.normalise.proofs.comments.lines_from.Goals as goal
 

@@ -1,10 +1,8 @@
 -- `lines_from`: the lines of src up to i are written, and what is left is told by the bytes from i on, within a line (`Lining`). A turn
 -- passes a newline, a byte, or a comment up to its newline, so what is left of src is the measure.
 use Prim.Native.Nat.{◌-◌}
-use native.Mathlib.Omega.{arith}
 use lib.ListN.{length}
-use Rattle.normalise.proofs.Lined.{Lining, lining-start, lining-length, lining-newline-room, lining-newline, lining-onward, lining-comment, lining-byte-room, lining-byte, lining-end}
-use borrow.Author.Rules.{rules}
+use Rattle.normalise.proofs.Lined.{Lining}
 use Rattle.normalise.proofs.comments.lines_from.Given as goal
 
 abbrev pub invariant-loop-i : goal.invariant-loop-i

@@ -1,9 +1,8 @@
 -- `newlines_into`: where `find` finds no carriage return, the text has its newlines already; else the two replacements are those of
 -- `newlines`, and neither makes a text heavier.
 use native.Mathlib.Omega.{arith}
-use Rattle.text.proofs.Wrote.{wrote-fits, wrote-counts}
+use Rattle.text.proofs.Wrote.{wrote-fits}
 use Rattle.normalise.proofs.Stripped.{none-room, none-wrote, once-room, twice-room, twice-wrote}
-use borrow.Author.Rules.{rules}
 use Rattle.normalise.proofs.comments.newlines_into.Goals as goal
 
 pub find-requires : goal.find-requires

@@ -3,7 +3,6 @@
 use native.Mathlib.Omega.{arith}
 use Rattle.text.proofs.Wrote.{wrote-fits, wrote-counts}
 use Rattle.normalise.proofs.Stripped.{trim-room, trim-more-room, folded-room, stripped-room, stripped-holds}
-use borrow.Author.Rules.{rules}
 use Rattle.normalise.proofs.comments.strip_into.Goals as goal
 
 pub newlines_into-n-requires : goal.newlines_into-n-requires

@@ -1,7 +1,6 @@
 -- `answer`: a holds the text without comments, normalised, and it is handed out.
 use Rattle.normalise.proofs.Laws.{define-so}
 use Rattle.text.proofs.Wrote.{wrote-fits, wrote-counts}
-use borrow.Author.Rules.{rules}
 use Rattle.normalise.proofs.defined.answer.Goals as goal
 
 pub clean_into-n-requires : goal.clean_into-n-requires

@@ -1,6 +1,5 @@
 -- `definition`: 1 and 2 are refused as every text call refuses them; any other text is as `short` and `long` promise, by its length.
 use Rattle.laws_text.specs.Entry.{passed-short, passed-domain, writes-first}
-use borrow.Author.Rules.{rules}
 use Rattle.normalise.proofs.defined.definition.Goals as goal
 
 pub returns-then-number-ne0 : goal.returns-then-number-ne0

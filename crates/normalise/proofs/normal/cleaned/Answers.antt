@@ -3,7 +3,6 @@
 use native.Mathlib.Omega.{arith}
 use Rattle.normalise.proofs.Weights.{opened-room, begun-room, begun-wrote}
 use Rattle.text.proofs.Wrote.{wrote-fits, wrote-counts}
-use borrow.Author.Rules.{rules}
 use Rattle.normalise.proofs.normal.cleaned.Goals as goal
 
 pub replace_into-n-requires : goal.replace_into-n-requires

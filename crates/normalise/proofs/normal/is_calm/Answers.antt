@@ -1,9 +1,6 @@
 use mathlib.Core.Path.{sym, ◌∙◌}
-use Prim.Native.Nat.{◌-◌}
-use lib.ListN.{length}
 use borrow.Author.Tests.{not-true, not-false}
-use Rattle.normalise.proofs.Calm.{Calms, calms-none, calms-stop, calms-more, calms-end}
-use borrow.Author.Rules.{rules}
+use Rattle.normalise.proofs.Calm.{calms-none, calms-stop, calms-more, calms-end}
 use Rattle.normalise.proofs.normal.is_calm.Goals as goal
 
 pub loop-i-init : goal.loop-i-init

@@ -1,11 +1,8 @@
 -- `is_calm`: every byte before i may follow the one before it, so the bytes from i on decide, by the kind of the last one (`Calms`). What
 -- is left of the text is the measure.
-use mathlib.Core.Path.{sym, ◌∙◌}
 use Prim.Native.Nat.{◌-◌}
 use lib.ListN.{length}
-use borrow.Author.Tests.{not-true, not-false}
-use Rattle.normalise.proofs.Calm.{Calms, calms-none, calms-stop, calms-more, calms-end}
-use borrow.Author.Rules.{rules}
+use Rattle.normalise.proofs.Calm.{Calms}
 use Rattle.normalise.proofs.normal.is_calm.Given as goal
 
 abbrev pub invariant-loop-i : goal.invariant-loop-i

@@ -1,7 +1,6 @@
 -- `normal_of`: a calm text is its own normal form, and is copied; any other is worked out.
 use mathlib.Core.Path.{sym, ◌∙◌}
 use Rattle.normalise.proofs.Calm.{calm-room, calm-holds}
-use borrow.Author.Rules.{rules}
 use Rattle.normalise.proofs.normal.normal_of.Goals as goal
 
 pub put-requires : goal.put-requires

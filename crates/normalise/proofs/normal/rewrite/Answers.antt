@@ -5,7 +5,6 @@ use native.Mathlib.Omega.{arith}
 use lib.Seq.{length-take-le}
 use Rattle.normalise.proofs.Replacements.{rewrite-none}
 use Rattle.text.proofs.Wrote.{wrote-front, wrote-counts, wrote-holds}
-use borrow.Author.Rules.{rules}
 use Rattle.normalise.proofs.normal.rewrite.Goals as goal
 
 pub slice_bounds-find-end-2 : goal.slice_bounds-find-end-2

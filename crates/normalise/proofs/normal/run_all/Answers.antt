@@ -1,10 +1,8 @@
-use Prim.Native.Nat.{◌-◌, ◌+◌}
+use Prim.Native.Nat.{◌+◌}
 use native.Mathlib.Omega.{arith}
-use lib.ListN.{length, take}
-use Rattle.rules.specs.Text.Normal.{replacements, run}
+use Rattle.rules.specs.Text.Normal.{replacements}
 use Rattle.laws_text.specs.Sizes.{replacements-light}
-use Rattle.normalise.proofs.Replacements.{Running, running-start, running_more, running-last, running-asks, running-next, running-end}
-use borrow.Author.Rules.{rules}
+use Rattle.normalise.proofs.Replacements.{running-start, running_more, running-last, running-asks, running-next, running-end}
 use Rattle.normalise.proofs.normal.run_all.Goals as goal
 
 pub loop-at-init : goal.loop-at-init

@@ -1,12 +1,9 @@
 -- `run_all`: what is left of the table, run on the text that a holds now, makes what the whole table makes of the first text (`Running`). A
 -- turn runs the replacement at `at`, and none makes the text heavier; what is left of the table is the measure.
-use Prim.Native.Nat.{◌-◌, ◌+◌}
-use native.Mathlib.Omega.{arith}
+use Prim.Native.Nat.{◌-◌}
 use lib.ListN.{length, take}
 use Rattle.rules.specs.Text.Normal.{replacements, run}
-use Rattle.laws_text.specs.Sizes.{replacements-light}
-use Rattle.normalise.proofs.Replacements.{Running, running-start, running_more, running-last, running-asks, running-next, running-end}
-use borrow.Author.Rules.{rules}
+use Rattle.normalise.proofs.Replacements.{Running}
 use Rattle.normalise.proofs.normal.run_all.Given as goal
 
 abbrev pub invariant-loop-at : goal.invariant-loop-at

@@ -6,7 +6,6 @@ use Rattle.rules.specs.Text.Ascii.{ascii}
 use Rattle.normalise.proofs.Weights.{run_room, squeezed-room, normal-holds}
 use Rattle.normalise.specs.Table.{table}
 use Rattle.text.proofs.Wrote.{wrote-fits, wrote-counts}
-use borrow.Author.Rules.{rules}
 use Rattle.normalise.proofs.normal.worked_out.Goals as goal
 
 pub run_all-m-requires : goal.run_all-m-requires

@@ -1,7 +1,6 @@
 -- `put_digits`: `spell` leaves the digits of n at the end of its buffer of twenty bytes, and `put` copies these to their place.
 use Rattle.numbers.proofs.Spelt.{spelt-front}
 use Rattle.numbers.proofs.Listed.{put_written}
-use borrow.Author.Rules.{rules}
 use Rattle.numbers.proofs.digits.put_digits.Goals as goal
 
 pub put-requires : goal.put-requires

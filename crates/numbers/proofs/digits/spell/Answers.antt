@@ -2,7 +2,7 @@ use mathlib.Core.Path.{sym, ◌∙◌}
 use Prim.Native.Nat.{ℕ, ◌<◌}
 use native.Mathlib.Omega.{arith}
 use lib.ListN.{length-set}
-use Rattle.numbers.proofs.Spelt.{Spelling, spelling-start, spelling-place, spelling-some, spelling-again, spelling-end}
+use Rattle.numbers.proofs.Spelt.{spelling-start, spelling-place, spelling-some, spelling-again, spelling-end}
 use borrow.Author.Rules.{rules}
 use Rattle.numbers.proofs.digits.spell.Goals as goal
 

@@ -1,11 +1,6 @@
 -- `spell`: behind k stand the last digits of n, and m is what is left of n without them (`Spelling`). A turn takes one digit off m, so m
 -- itself is the measure. Twenty bytes are enough for every number of 64 bits.
-use mathlib.Core.Path.{sym, ◌∙◌}
-use Prim.Native.Nat.{ℕ, ◌<◌}
-use native.Mathlib.Omega.{arith}
-use lib.ListN.{length-set}
-use Rattle.numbers.proofs.Spelt.{Spelling, spelling-start, spelling-place, spelling-some, spelling-again, spelling-end}
-use borrow.Author.Rules.{rules}
+use Rattle.numbers.proofs.Spelt.{Spelling}
 use Rattle.numbers.proofs.digits.spell.Given as goal
 
 abbrev pub invariant-loop-m : goal.invariant-loop-m

@@ -1,11 +1,7 @@
 use Rattle.numbers.proofs.Listed.{listing-rest}
-use Rattle.numbers.proofs.EachInTurn.{Going, going_start, going-room, going-turn, going-length, going_end}
+use Rattle.numbers.proofs.EachInTurn.{going_start, going-room, going-turn, going-length, going_end}
 use Rattle.numbers.specs.Parts.{numbered}
-use Rattle.rules.specs.Operators.Arguments.{listing}
-use Prim.Native.Nat.{◌-◌}
-use lib.ListN.{length}
 use lib.IntN.{pos}
-use borrow.Author.Rules.{rules}
 use Rattle.numbers.proofs.lists.put_list.Goals as goal
 
 pub loop-i-init : goal.loop-i-init

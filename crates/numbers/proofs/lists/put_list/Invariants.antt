@@ -1,13 +1,10 @@
 -- `put_list`: the numbers before i are written, each but the first after a comma, and those from i on are to come (`Going`). What is left
 -- of l is the measure.
-use Rattle.numbers.proofs.Listed.{listing-rest}
-use Rattle.numbers.proofs.EachInTurn.{Going, going_start, going-room, going-turn, going-length, going_end}
+use Rattle.numbers.proofs.EachInTurn.{Going}
 use Rattle.numbers.specs.Parts.{numbered}
 use Rattle.rules.specs.Operators.Arguments.{listing}
 use Prim.Native.Nat.{◌-◌}
 use lib.ListN.{length}
-use lib.IntN.{pos}
-use borrow.Author.Rules.{rules}
 use Rattle.numbers.proofs.lists.put_list.Given as goal
 
 abbrev pub invariant-loop-i : goal.invariant-loop-i

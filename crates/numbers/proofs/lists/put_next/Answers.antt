@@ -1,7 +1,6 @@
 -- `put_next`: the text of a number that is not the first is a comma and the number, and that of the first is the number alone; the code
 -- asks the same.
 use Rattle.numbers.proofs.Listed.{comma-room, after-comma, later-written, first-spelled, first-written}
-use borrow.Author.Rules.{rules}
 use Rattle.numbers.proofs.lists.put_next.Goals as goal
 
 pub put_byte-e-requires : goal.put_byte-e-requires

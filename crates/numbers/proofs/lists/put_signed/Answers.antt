@@ -1,7 +1,6 @@
 -- `put_signed`: the text of a number is the digits of its size, after a minus where it is below zero; both arms write just that.
 use Rattle.numbers.proofs.Listed.{sign-room, after-sign, signed-written, plain-room, plain-written}
 use mathlib.Core.Path.{sym, ◌∙◌}
-use borrow.Author.Rules.{rules}
 use Rattle.numbers.proofs.lists.put_signed.Goals as goal
 
 pub size_at-m-requires : goal.size_at-m-requires

@@ -1,11 +1,8 @@
-use Prim.Native.Nat.{◌-◌}
-use lib.ListN.{length}
 use lib.IntN.{pos}
 use Rattle.rules.specs.Text.Lists.{all_of}
 use Rattle.numbers.specs.Order.{up_to}
 use Rattle.numbers.proofs.OrderTest.{up-low, up-high, up-so}
-use Rattle.numbers.proofs.Rest.{Rest, rest_all, rest-next, rest-here, rest_end, all_so, all-not}
-use borrow.Author.Rules.{rules}
+use Rattle.numbers.proofs.Rest.{rest_all, rest-next, rest-here, rest_end, all_so, all-not}
 use Rattle.numbers.proofs.order.are_up_to.Goals as goal
 
 pub loop-i-init : goal.loop-i-init

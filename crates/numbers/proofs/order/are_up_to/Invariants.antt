@@ -1,12 +1,9 @@
 -- `are_up_to`: the sizes before i are from 1 to n, so those from i on decide (`Rest`). What is left of l is the measure.
 use Prim.Native.Nat.{◌-◌}
 use lib.ListN.{length}
-use lib.IntN.{pos}
 use Rattle.rules.specs.Text.Lists.{all_of}
 use Rattle.numbers.specs.Order.{up_to}
-use Rattle.numbers.proofs.OrderTest.{up-low, up-high, up-so}
-use Rattle.numbers.proofs.Rest.{Rest, rest_all, rest-next, rest-here, rest_end, all_so, all-not}
-use borrow.Author.Rules.{rules}
+use Rattle.numbers.proofs.Rest.{Rest}
 use Rattle.numbers.proofs.order.are_up_to.Given as goal
 
 abbrev pub invariant-loop-i : goal.invariant-loop-i

@@ -1,11 +1,8 @@
-use Prim.Native.Nat.{◌-◌}
-use lib.ListN.{length}
 use lib.IntN.{pos}
 use Rattle.rules.specs.Text.Lists.{any_of}
 use Rattle.numbers.specs.Order.{of_size}
 use Rattle.numbers.proofs.OrderTest.{size-so, size-not}
-use Rattle.numbers.proofs.Rest.{Rest, rest_all, rest-next, rest-here, rest_end, any-so, any-not}
-use borrow.Author.Rules.{rules}
+use Rattle.numbers.proofs.Rest.{rest_all, rest-next, rest-here, rest_end, any-so, any-not}
 use Rattle.numbers.proofs.order.is_among.Goals as goal
 
 pub loop-i-init : goal.loop-i-init

@@ -1,12 +1,9 @@
 -- `is_among`: no size before i is m, so those from i on decide (`Rest`). What is left of l is the measure.
 use Prim.Native.Nat.{◌-◌}
 use lib.ListN.{length}
-use lib.IntN.{pos}
 use Rattle.rules.specs.Text.Lists.{any_of}
 use Rattle.numbers.specs.Order.{of_size}
-use Rattle.numbers.proofs.OrderTest.{size-so, size-not}
-use Rattle.numbers.proofs.Rest.{Rest, rest_all, rest-next, rest-here, rest_end, any-so, any-not}
-use borrow.Author.Rules.{rules}
+use Rattle.numbers.proofs.Rest.{Rest}
 use Rattle.numbers.proofs.order.is_among.Given as goal
 
 abbrev pub invariant-loop-i : goal.invariant-loop-i

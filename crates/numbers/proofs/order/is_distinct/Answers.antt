@@ -1,11 +1,8 @@
-use Prim.Native.Nat.{◌-◌}
 use mathlib.Core.Path.{sym, ◌∙◌}
-use lib.ListN.{length}
 use lib.IntN.{pos}
 use Rattle.rules.specs.Operators.Arguments.{is_distinct}
 use Rattle.numbers.proofs.OrderTest.{distinct-so, distinct-not}
-use Rattle.numbers.proofs.Rest.{Rest, rest_all, rest-next, rest-here, rest_end, rest-behind}
-use borrow.Author.Rules.{rules}
+use Rattle.numbers.proofs.Rest.{rest_all, rest-next, rest-here, rest_end, rest-behind}
 use Rattle.numbers.proofs.order.is_distinct.Goals as goal
 
 pub loop-i-init : goal.loop-i-init

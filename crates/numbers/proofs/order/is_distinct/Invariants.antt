@@ -1,13 +1,9 @@
 -- `is_distinct`: no size before i is repeated further on, so those from i on decide (`Rest`): a turn looks for its own size in what stands
 -- behind it. What is left of l is the measure.
 use Prim.Native.Nat.{◌-◌}
-use mathlib.Core.Path.{sym, ◌∙◌}
 use lib.ListN.{length}
-use lib.IntN.{pos}
 use Rattle.rules.specs.Operators.Arguments.{is_distinct}
-use Rattle.numbers.proofs.OrderTest.{distinct-so, distinct-not}
-use Rattle.numbers.proofs.Rest.{Rest, rest_all, rest-next, rest-here, rest_end, rest-behind}
-use borrow.Author.Rules.{rules}
+use Rattle.numbers.proofs.Rest.{Rest}
 use Rattle.numbers.proofs.order.is_distinct.Given as goal
 
 abbrev pub invariant-loop-i : goal.invariant-loop-i

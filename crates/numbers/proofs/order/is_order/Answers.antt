@@ -2,7 +2,6 @@
 -- fails decides.
 use borrow.Author.Tests.{not-true, not-false}
 use Rattle.numbers.proofs.OrderTest.{order-none, order-long, order-fails, order-so}
-use borrow.Author.Rules.{rules}
 use Rattle.numbers.proofs.order.is_order.Goals as goal
 
 pub returns-then-n-lt1 : goal.returns-then-n-lt1

@@ -1,7 +1,6 @@
 -- `axis_at`: every argument has a size from 1 to 4 (`axis-at`), so one less is a place from 0 to 3.
 use native.Mathlib.Omega.{arith}
 use Rattle.numbers.proofs.AxisAt.{axis-at}
-use borrow.Author.Rules.{rules}
 use Rattle.numbers.proofs.signs.axis_at.Goals as goal
 
 pub overflow_sub-result : goal.overflow_sub-result

@@ -1,6 +1,5 @@
 -- `signed`: a size of nine digits at most is an i32, and so is that number turned (`turned-fits`); so no cast and no minus overflows.
 use Rattle.numbers.proofs.SignMade.{plain-is, turned-fits, turned-back}
-use borrow.Author.Rules.{rules}
 use Rattle.numbers.proofs.signs.signed.Goals as goal
 
 pub overflow_sub-result : goal.overflow_sub-result

@@ -1,12 +1,9 @@
 -- `are_of`: all before i are of the kind, so those from i on decide (`Rest`). What is left of l is the measure.
 use Prim.Native.Nat.{◌-◌}
-use mathlib.Core.Path.{sym, ◌∙◌}
 use lib.ListN.{length}
-use lib.IntN.{pos}
 use Rattle.rules.specs.Text.Lists.{all_of}
 use Rattle.numbers.specs.Tests.{is_of}
-use Rattle.numbers.proofs.Rest.{Rest, rest_all, rest-next, rest-here, rest_end, all_so, all-not}
-use borrow.Author.Rules.{rules}
+use Rattle.numbers.proofs.Rest.{Rest}
 use Rattle.numbers.proofs.tests.are_of.Given as goal
 
 abbrev pub invariant-loop-i : goal.invariant-loop-i

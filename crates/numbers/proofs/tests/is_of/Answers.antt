@@ -7,7 +7,6 @@ use Rattle.rules.specs.Text.Decimal.{minus}
 use Rattle.rules.specs.Operators.Arguments.{size}
 use Rattle.numbers.proofs.OfKind.{place-minus, place-plain}
 use Rattle.rules.specs.Pipeline.Record.{nine_digits}
-use borrow.Author.Rules.{rules}
 use Rattle.numbers.proofs.tests.is_of.Goals as goal
 
 pub returns-then-is_minus : goal.returns-then-is_minus

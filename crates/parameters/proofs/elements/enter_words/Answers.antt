@@ -1,10 +1,7 @@
 use mathlib.Core.Path.{sym}
-use Prim.Native.Nat.{◌-◌}
 use native.Mathlib.Omega.{arith}
 use lib.Seq.{length-take-le}
-use Rattle.parameters.specs.Parts.{table_in}
-use Rattle.parameters.proofs.EnterAll.{Words-left, in-front, words-all, words-end, words-none, word-ends, words-full, words_more}
-use borrow.Author.Rules.{rules}
+use Rattle.parameters.proofs.EnterAll.{in-front, words-all, words-end, words-none, word-ends, words-full, words_more}
 use Rattle.parameters.proofs.elements.enter_words.Goals as goal
 
 pub loop-k-init : goal.loop-k-init
@@ -25,7 +22,7 @@ returns-then-e-a c =
     words-none c.loop-k.invariant c.run_end-a.ensures c.run_end-e.ensures c.if-e-a.true
 
 pub part_of-requires : goal.part_of-requires
-part_of-requires c = 
+part_of-requires c =
     let h = word-ends c.loop-k.invariant c.run_end-a.ensures c.run_end-e.ensures in record { spelt = c.requires.spelt; from_le_to = (h.0, omega (arith, h.1, c.requires.from_le_to.1)) }
 
 pub enter-entered-requires : goal.enter-entered-requires

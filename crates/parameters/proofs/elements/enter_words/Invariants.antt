@@ -1,12 +1,8 @@
 -- `enter_words`: the words from k on, entered into the table so far, give what all words give into the first table (`Words-left`). A turn
 -- enters a word, which has a byte at least, so `to - k` is the measure; a table that is full stays so.
-use mathlib.Core.Path.{sym}
 use Prim.Native.Nat.{◌-◌}
-use native.Mathlib.Omega.{arith}
-use lib.Seq.{length-take-le}
 use Rattle.parameters.specs.Parts.{table_in}
-use Rattle.parameters.proofs.EnterAll.{Words-left, in-front, words-all, words-end, words-none, word-ends, words-full, words_more}
-use borrow.Author.Rules.{rules}
+use Rattle.parameters.proofs.EnterAll.{Words-left}
 use Rattle.parameters.proofs.elements.enter_words.Given as goal
 
 abbrev pub invariant-loop-k : goal.invariant-loop-k

@@ -1,7 +1,6 @@
 -- `part_of`: `run_end` finds the first `=` of the word, if it has one, and the second: so each return spells the parameter that the word is
 -- (`part_cut`, `part-name`, `part-key`).
 use Rattle.parameters.proofs.Cut.{part_cut, part-name, part-key}
-use borrow.Author.Rules.{rules}
 use Rattle.parameters.proofs.elements.part_of.Goals as goal
 
 pub returns-then-q-to : goal.returns-then-q-to

@@ -4,14 +4,13 @@ use native.Mathlib.Omega.{arith}
 use Rattle.parameters.specs.Parts.{table_in}
 use Rattle.parameters.proofs.Rows.{empty-row}
 use Rattle.parameters.proofs.Tabled.{spelt-fits, spelt-front, empty-good, lead-within, tabled-full, tabled-both}
-use borrow.Author.Rules.{rules}
 use Rattle.parameters.proofs.elements.table_of.Goals as goal
 
 pub slice_bounds-lead_end-end : goal.slice_bounds-lead_end-end
 slice_bounds-lead_end-end c = spelt-front c.requires.spelt
 
 pub enter_words-first-requires : goal.enter_words-first-requires
-enter_words-first-requires c = 
+enter_words-first-requires c =
     let l = spelt-fits c.requires.spelt in record { spelt = c.requires.spelt; from_le_to = ((lead-within _ _ l c.lead_end-k.ensures).0, omega arith); good = empty-good _ (empty-row _ c.requires.row_len) }
 
 pub returns-then-first : goal.returns-then-first

@@ -3,7 +3,6 @@
 use mathlib.Core.Path.{refl, sym, ◌∙◌}
 use native.Mathlib.Omega.{arith}
 use Rattle.parameters.proofs.Entry.{place-within, there-inside, enters-there, enters-new, enters-full}
-use borrow.Author.Rules.{rules}
 use Rattle.parameters.proofs.table.enter.Goals as goal
 
 pub put_part-requires : goal.put_part-requires

@@ -1,6 +1,5 @@
 -- `goes_at`: the two tests are those of `goes_at`: the same key, or one before.
 use mathlib.Core.Path.{sym, ◌∙◌}
-use borrow.Author.Rules.{rules}
 use Rattle.parameters.proofs.table.goes_at.Goals as goal
 
 pub returns-then-is_same_key : goal.returns-then-is_same_key

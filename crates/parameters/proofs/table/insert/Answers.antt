@@ -1,9 +1,6 @@
 use mathlib.Core.Path.{◌∙◌}
-use Prim.Native.Nat.{◌-◌}
 use native.Mathlib.Omega.{arith}
-use Rattle.parameters.specs.Parts.{parts_in}
-use Rattle.parameters.proofs.Insertion.{Shifts, shifts_none, shifts-turn, shifts-done}
-use borrow.Author.Rules.{rules}
+use Rattle.parameters.proofs.Insertion.{shifts_none, shifts-turn, shifts-done}
 use Rattle.parameters.proofs.table.insert.Goals as goal
 
 pub loop-j-init : goal.loop-j-init

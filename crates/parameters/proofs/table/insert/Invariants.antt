@@ -1,11 +1,8 @@
 -- `insert`: the first n parts with p put in at `at` are those of the row up to j, then the one that is carried, then those of the row from
 -- j on (`Shifts`). A turn puts the carried part down and takes up the next; `n - j` is the measure.
-use mathlib.Core.Path.{◌∙◌}
 use Prim.Native.Nat.{◌-◌}
-use native.Mathlib.Omega.{arith}
 use Rattle.parameters.specs.Parts.{parts_in}
-use Rattle.parameters.proofs.Insertion.{Shifts, shifts_none, shifts-turn, shifts-done}
-use borrow.Author.Rules.{rules}
+use Rattle.parameters.proofs.Insertion.{Shifts}
 use Rattle.parameters.proofs.table.insert.Given as goal
 
 abbrev pub invariant-loop-j : goal.invariant-loop-j

@@ -1,7 +1,4 @@
-use Prim.Native.Nat.{◌-◌}
-use lib.ListN.{length}
-use Rattle.parameters.proofs.Order.{Before, before-none, before-short, before-differs, before_more, before-end}
-use borrow.Author.Rules.{rules}
+use Rattle.parameters.proofs.Order.{before-none, before-short, before-differs, before_more, before-end}
 use Rattle.parameters.proofs.table.is_before.Goals as goal
 
 pub loop-i-init : goal.loop-i-init

@@ -2,8 +2,7 @@
 -- that differ. What is left of a is the measure.
 use Prim.Native.Nat.{◌-◌}
 use lib.ListN.{length}
-use Rattle.parameters.proofs.Order.{Before, before-none, before-short, before-differs, before_more, before-end}
-use borrow.Author.Rules.{rules}
+use Rattle.parameters.proofs.Order.{Before}
 use Rattle.parameters.proofs.table.is_before.Given as goal
 
 abbrev pub invariant-loop-i : goal.invariant-loop-i

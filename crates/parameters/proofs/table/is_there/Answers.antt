@@ -4,7 +4,6 @@ use Rattle.rules.specs.Text.Bytes.{same}
 use Rattle.parameters.specs.declared.table.Part.{Part}
 use Rattle.parameters.specs.Parts.{no_part, key_of}
 use Rattle.parameters.proofs.Places.{good-at, first-at, first-none}
-use borrow.Author.Rules.{rules}
 use Rattle.parameters.proofs.table.is_there.Goals as goal
 
 pub is_same_key-requires : goal.is_same_key-requires

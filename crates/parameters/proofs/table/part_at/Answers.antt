@@ -1,7 +1,6 @@
 -- `part_at`: the four numbers from `i * 4` on are part i of the row (`row_at`).
 use native.Mathlib.Omega.{arith}
 use Rattle.parameters.proofs.Rows.{row_at}
-use borrow.Author.Rules.{rules}
 use Rattle.parameters.proofs.table.part_at.Goals as goal
 
 pub returns : goal.returns

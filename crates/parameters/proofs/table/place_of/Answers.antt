@@ -1,8 +1,6 @@
 use mathlib.Core.Path.{sym, ap, ◌∙◌}
-use Prim.Native.Nat.{◌-◌}
-use Rattle.parameters.specs.Parts.{no_part, table_in, goes_at}
-use Rattle.parameters.proofs.Places.{Seeks, seeks-none, seeks-at, seeks-more, seeks-here, seeks-end}
-use borrow.Author.Rules.{rules}
+use Rattle.parameters.specs.Parts.{no_part, goes_at}
+use Rattle.parameters.proofs.Places.{seeks-none, seeks-at, seeks-more, seeks-here, seeks-end}
 use Rattle.parameters.proofs.table.place_of.Goals as goal
 
 pub loop-i-init : goal.loop-i-init

@@ -1,7 +1,6 @@
 -- `put_part`: storing the four numbers from `i * 4` on sets part i of the row (`row_put`).
 use native.Mathlib.Omega.{arith}
 use Rattle.parameters.proofs.Rows.{row_put}
-use borrow.Author.Rules.{rules}
 use Rattle.parameters.proofs.table.put_part.Goals as goal
 
 pub returns : goal.returns

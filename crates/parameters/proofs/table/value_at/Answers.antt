@@ -7,7 +7,6 @@ use lib.ListN.{length}
 use Rattle.rules.specs.Text.Bytes.{Bytes}
 use Rattle.parameters.specs.declared.table.Part.{Part}
 use Rattle.parameters.specs.Parts.{value_at}
-use borrow.Author.Rules.{rules}
 use Rattle.parameters.proofs.table.value_at.Goals as goal
 
 module _ (s : Bytes) (p : Part) where

@@ -1,11 +1,7 @@
-use Prim.Native.Nat.{◌-◌}
 use mathlib.Core.Path.{ap}
 use mathlib.Core.Bool.{not}
-use lib.ListN.{length}
-use lib.Dec.{eqb}
 use borrow.Author.Tests.{eq-eqb, ne_eqb}
-use Rattle.text.proofs.RunEnd.{Scan, scan-none, scan-next, scan-here, scan-end}
-use borrow.Author.Rules.{rules}
+use Rattle.text.proofs.RunEnd.{scan-none, scan-next, scan-here, scan-end}
 use Rattle.prepare.proofs.decimal.byte_end.Goals as goal
 
 pub loop-i-init : goal.loop-i-init

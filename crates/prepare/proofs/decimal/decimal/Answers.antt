@@ -1,7 +1,6 @@
 -- A minus in front, or none; behind it the plain form.
 use mathlib.Core.Path.{◌∙◌}
 use Rattle.prepare.proofs.PointDecimal.{decimal-none, decimal-minus, decimal-plain}
-use borrow.Author.Rules.{rules}
 use Rattle.prepare.proofs.decimal.decimal.Goals as goal
 
 pub returns-then-piece-lt1 : goal.returns-then-piece-lt1

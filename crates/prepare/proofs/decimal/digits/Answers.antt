@@ -1,10 +1,8 @@
 use mathlib.Core.Path.{sym, ◌∙◌}
 use native.Mathlib.Omega.{arith}
 use borrow.Author.Tests.{not-true, not-false}
-use Prim.Native.Nat.{◌-◌}
-use lib.ListN.{length}
-use Rattle.prepare.proofs.DigitsSpelt.{Spells, none-spelled, many-spelled, spells-none, spells-small, spells-not, spells-more, spells-all, digit_low, digit-high}
-use borrow.Author.Rules.{rules, Fits-under}
+use Rattle.prepare.proofs.DigitsSpelt.{none-spelled, many-spelled, spells-none, spells-small, spells-not, spells-more, spells-all, digit_low, digit-high}
+use borrow.Author.Rules.{Fits-under}
 use Rattle.prepare.proofs.decimal.digits.Goals as goal
 
 pub returns-then-t-lt1 : goal.returns-then-t-lt1

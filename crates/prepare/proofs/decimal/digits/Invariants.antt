@@ -1,11 +1,7 @@
 -- The bytes so far are digits and spell n, which stays below ten to their count; so no sum is too large.
-use mathlib.Core.Path.{sym, ◌∙◌}
-use native.Mathlib.Omega.{arith}
-use borrow.Author.Tests.{not-true, not-false}
 use Prim.Native.Nat.{◌-◌}
 use lib.ListN.{length}
-use Rattle.prepare.proofs.DigitsSpelt.{Spells, none-spelled, many-spelled, spells-none, spells-small, spells-not, spells-more, spells-all, digit_low, digit-high}
-use borrow.Author.Rules.{rules, Fits-under}
+use Rattle.prepare.proofs.DigitsSpelt.{Spells}
 use Rattle.prepare.proofs.decimal.digits.Given as goal
 
 abbrev pub invariant-loop-i : goal.invariant-loop-i

@@ -2,7 +2,6 @@
 use lib.Seq.{length-take-le}
 use mathlib.Core.Path.{sym, ◌∙◌}
 use Rattle.prepare.proofs.PointDecimal.{plain-not, plain-whole, plain-no-fraction, fraction-few, plain-both}
-use borrow.Author.Rules.{rules}
 use Rattle.prepare.proofs.decimal.plain.Goals as goal
 
 pub slice_bounds-digits-end : goal.slice_bounds-digits-end
@@ -20,7 +19,7 @@ returns-in_default-digits c =
     plain-no-fraction _ _ c.byte_end-p.ensures _ (sym c.in-Are.is ∙ c.digits.ensures) c.if-t-p.false (sym c.in_default-digits.is ∙ c.digits-2.ensures)
 
 pub millionths-requires : goal.millionths-requires
-millionths-requires c = 
+millionths-requires c =
     let front = sym c.in-Are.is ∙ c.digits.ensures in
     let behind = sym c.in-Are-digits.is ∙ c.digits-2.ensures in
     let f = fraction-few c.args.minus c.args.t.now c.byte_end-p.ensures _ front c.if-t-p.false _ behind in record { le_k = (f.some, f.few); v_bound = f.small }

@@ -1,6 +1,5 @@
 -- The first series is the one in front, if there is one there.
 use Rattle.prepare.specs.Faults.{joined}
-use borrow.Author.Rules.{rules}
 use Rattle.prepare.proofs.faults.both.Goals as goal
 
 pub returns-then-first : goal.returns-then-first

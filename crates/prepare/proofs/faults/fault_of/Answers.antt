@@ -1,7 +1,6 @@
 -- What a parameter may be refused by goes by what its key takes.
 use mathlib.Core.Path.{sym, ◌∙◌}
 use Rattle.prepare.proofs.EarliestFault.{finds-lacking, finds-flag, finds-word, finds-series}
-use borrow.Author.Rules.{rules}
 use Rattle.prepare.proofs.faults.fault_of.Goals as goal
 
 pub returns-in-Lacking : goal.returns-in-Lacking

@@ -2,7 +2,6 @@
 use mathlib.Core.Path.{sym, ◌∙◌}
 use Rattle.rules.specs.Text.Ascii.{ascii}
 use Rattle.prepare.specs.Faults.{flag_fault}
-use borrow.Author.Rules.{rules}
 use Rattle.prepare.proofs.faults.fault_of_flag.Goals as goal
 
 pub returns-then-is_same : goal.returns-then-is_same

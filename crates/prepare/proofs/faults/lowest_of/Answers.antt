@@ -1,6 +1,5 @@
-use Rattle.parameters.specs.Parts.{table_in}
 use Rattle.parameters.proofs.Tabled.{no_part}
-use Rattle.prepare.proofs.EarliestFault.{Lowering, lowering-none, value-small, lowering-at, lowering-more, lowering-end}
+use Rattle.prepare.proofs.EarliestFault.{lowering-none, value-small, lowering-at, lowering-more, lowering-end}
 use borrow.Author.Rules.{rules}
 use Rattle.prepare.proofs.faults.lowest_of.Goals as goal
 

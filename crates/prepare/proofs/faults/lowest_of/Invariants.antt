@@ -1,8 +1,6 @@
 -- What is so of the parameters from i on.
 use Rattle.parameters.specs.Parts.{table_in}
-use Rattle.parameters.proofs.Tabled.{no_part}
-use Rattle.prepare.proofs.EarliestFault.{Lowering, lowering-none, value-small, lowering-at, lowering-more, lowering-end}
-use borrow.Author.Rules.{rules}
+use Rattle.prepare.proofs.EarliestFault.{Lowering}
 use Rattle.prepare.proofs.faults.lowest_of.Given as goal
 
 abbrev pub invariant-loop-i : goal.invariant-loop-i

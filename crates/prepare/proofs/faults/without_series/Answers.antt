@@ -1,6 +1,5 @@
 -- A number beside a series of no numbers.
 use Rattle.prepare.specs.Faults.{without}
-use borrow.Author.Rules.{rules}
 use Rattle.prepare.proofs.faults.without_series.Goals as goal
 
 pub returns : goal.returns

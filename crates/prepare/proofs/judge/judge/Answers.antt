@@ -4,7 +4,6 @@ use borrow.Author.Tests.{not-true, not-false}
 use Rattle.rules.specs.Text.Ascii.{ascii}
 use Rattle.parameters.specs.Parts.{table_in}
 use Rattle.prepare.proofs.Judged.{in-places, judged-unnamed, judged-other, judged-named}
-use borrow.Author.Rules.{rules}
 use Rattle.prepare.proofs.judge.judge.Goals as goal
 
 pub returns-then-not-v : goal.returns-then-not-v

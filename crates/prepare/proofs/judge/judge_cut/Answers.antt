@@ -1,7 +1,6 @@
 -- `judge_cut`: the words' table stands in the row, each parameter in its place, or has no room there.
 use mathlib.Core.Path.{refl}
 use Rattle.prepare.proofs.StepText.{cut-full, cut-table}
-use borrow.Author.Rules.{rules}
 use Rattle.prepare.proofs.judge.judge_cut.Goals as goal
 
 pub words_into-t-requires : goal.words_into-t-requires

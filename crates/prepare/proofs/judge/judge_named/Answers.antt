@@ -6,7 +6,6 @@ use Rattle.prepare.specs.Lookup.{placed_in}
 use Rattle.prepare.specs.Faults.{unplaced}
 use Rattle.prepare.proofs.EarliestFault.{given-in}
 use Rattle.prepare.proofs.Judged.{lowest-least, lowest-most, judged-low, judged-own}
-use borrow.Author.Rules.{rules}
 use Rattle.prepare.proofs.judge.judge_named.Goals as goal
 
 pub refused-requires : goal.refused-requires
@@ -17,7 +16,7 @@ pub returns-then-number-lt14 : goal.returns-then-number-lt14
 returns-then-number-lt14 c = judged-low _ _ c.lowest_of-low.ensures _ c.if-number-lt14.true c.refused.ensures
 
 pub own_rule-requires : goal.own_rule-requires
-own_rule-requires c = 
+own_rule-requires c =
     let most = lowest-most c.args.name (unplaced (placed_in c.args.s.now c.args.row.now c.args.n)) in record { table = c.requires.table; lowers = rw (given-in c.args.s.now (table_in c.args.row.now c.args.n)) at c.lowest_of-low.ensures.lowers; number_value = omega (arith, c.lowest_of-low.ensures.lowers.number, c.if-number-lt14.false, most) }
 
 pub returns : goal.returns

@@ -4,7 +4,6 @@ use mathlib.Core.Path.{sym, ◌∙◌}
 use Rattle.text.proofs.Wrote.{wrote-fits, wrote-counts}
 use Rattle.prepare.proofs.StepByStep.{line-some}
 use Rattle.prepare.proofs.StepText.{text-parted, text-blank, text-modifiers, text-cut, line-room, has-line, no_line, behind-room, cut-spelt, cut_short, cut-words, cut-joined}
-use borrow.Author.Rules.{rules}
 use Rattle.prepare.proofs.judge.judge_text.Goals as goal
 
 pub returns-then-e-s : goal.returns-then-e-s
@@ -36,7 +35,7 @@ pub slice_bounds-judge_cut-end-2 : goal.slice_bounds-judge_cut-end-2
 slice_bounds-judge_cut-end-2 c = wrote-counts c.put-m.ensures
 
 pub judge_cut-requires : goal.judge_cut-requires
-judge_cut-requires c = 
+judge_cut-requires c =
     let has = has-line _ _ _ _ c.line_at-line.ensures c.in-To.is in record { spelt = cut-spelt c.args.s.now has c.put-m.ensures; s_len_bound = cut_short c.args.s.now has c.put-m.ensures c.requires.s_len_bound; s_value = cut-joined c.args.s.now has c.put-m.ensures }
 
 pub returns : goal.returns

@@ -1,6 +1,5 @@
 -- `prepare_step`: a text of at most 4,096 bytes weighs no more than these, so it has room to be normalised again.
 use Rattle.prepare.proofs.StepText.{step-long, step_so, step_room}
-use borrow.Author.Rules.{rules}
 use Rattle.prepare.proofs.judge.prepare_step.Goals as goal
 
 pub returns-then-text-gt-MOST : goal.returns-then-text-gt-MOST

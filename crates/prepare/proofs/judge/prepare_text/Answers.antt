@@ -2,7 +2,6 @@
 use native.Mathlib.Omega.{arith}
 use Rattle.text.proofs.Wrote.{wrote-fits, wrote-counts}
 use Rattle.prepare.proofs.StepText.{trimmed-room, normal-room, text-so}
-use borrow.Author.Rules.{rules}
 use Rattle.prepare.proofs.judge.prepare_text.Goals as goal
 
 pub normal_of-n-requires : goal.normal_of-n-requires

@@ -4,7 +4,6 @@ use Rattle.rules.specs.Text.Ascii.{ascii}
 use Rattle.rules.specs.Operators.Keys.{flag, worded}
 use Rattle.rules.specs.Pipeline.Keys.{every_key}
 use Rattle.laws_records.specs.KeyKinds.{kind-here, kind-next, kind-end}
-use borrow.Author.Rules.{rules}
 use Rattle.prepare.proofs.keys.every_kind.Goals as goal
 
 pub returns-then-is_same : goal.returns-then-is_same

@@ -1,7 +1,6 @@
 -- The keys of every operator come first.
 use mathlib.Core.Path.{sym, ◌∙◌}
 use Rattle.prepare.proofs.KeyKind.{with_others, every-then}
-use borrow.Author.Rules.{rules}
 use Rattle.prepare.proofs.keys.kind_of.Goals as goal
 
 pub returns-in-Flag : goal.returns-in-Flag

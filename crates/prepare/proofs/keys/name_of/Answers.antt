@@ -2,7 +2,6 @@
 use mathlib.Core.Path.{sym, ◌∙◌}
 use Rattle.rules.specs.Text.Ascii.{ascii}
 use Rattle.rules.specs.Operators.Table.{names, name_in, name_of}
-use borrow.Author.Rules.{rules}
 use Rattle.prepare.proofs.keys.name_of.Goals as goal
 
 pub returns-then-is_same : goal.returns-then-is_same

@@ -1,7 +1,6 @@
 -- Each operator says what its own keys take.
 use Rattle.rules.specs.Pipeline.Keys.{own_keys}
 use Rattle.prepare.proofs.KeyKind.{own-keys}
-use borrow.Author.Rules.{rules}
 use Rattle.prepare.proofs.keys.own_kind.Goals as goal
 
 pub returns-in-Push : goal.returns-in-Push

@@ -5,7 +5,6 @@ use Rattle.rules.specs.Text.Ascii.{ascii}
 use Rattle.rules.specs.Operators.Stack.{actions}
 use Rattle.prepare.specs.Actions.{action_at, key_at}
 use Rattle.prepare.proofs.OneAction.{chosen_none}
-use borrow.Author.Rules.{rules}
 use Rattle.prepare.proofs.own.action_of.Goals as goal
 
 pub with_action-a-requires : goal.with_action-a-requires

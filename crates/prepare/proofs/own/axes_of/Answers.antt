@@ -2,7 +2,6 @@
 use Rattle.rules.specs.Text.Ascii.{ascii}
 use native.Mathlib.Omega.{arith}
 use Rattle.prepare.proofs.Recorded.{axes-so, axes-count}
-use borrow.Author.Rules.{rules}
 use Rattle.prepare.proofs.own.axes_of.Goals as goal
 
 pub with_flag-a-requires : goal.with_flag-a-requires

@@ -1,7 +1,6 @@
 -- The axis stands in the first slot that is not in use.
 use Rattle.laws_lists.specs.Signed.{as_is}
 use Rattle.prepare.proofs.Recorded.{extended-is}
-use borrow.Author.Rules.{rules}
 use Rattle.prepare.proofs.own.extended.Goals as goal
 
 pub returns : goal.returns

@@ -2,7 +2,6 @@
 use Rattle.rules.specs.Text.Ascii.{ascii}
 use Rattle.laws_lists.specs.Tests.{not_so, not_left}
 use Rattle.prepare.proofs.OwnRules.{adapt-from, adapt-to, adapt-good, adapt-so}
-use borrow.Author.Rules.{rules}
 use Rattle.prepare.proofs.own.own_adapt.Goals as goal
 
 pub returns-then-not-from : goal.returns-then-not-from

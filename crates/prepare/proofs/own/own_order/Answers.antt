@@ -1,7 +1,6 @@
 -- The order that is given, or the default. No mode alters that.
 use Rattle.prepare.proofs.FirstSeries.{numbers-good}
 use Rattle.prepare.proofs.OwnRules.{order-there, order-default}
-use borrow.Author.Rules.{rules}
 use Rattle.prepare.proofs.own.own_order.Goals as goal
 
 pub own_series-requires : goal.own_series-requires

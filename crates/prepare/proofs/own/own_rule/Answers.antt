@@ -1,6 +1,5 @@
 -- The rule goes by the name; that of `adapt` knows the mode.
 use Rattle.prepare.proofs.OwnRules.{own-push, own-pop}
-use borrow.Author.Rules.{rules}
 use Rattle.prepare.proofs.own.own_rule.Goals as goal
 
 pub own_stack-requires : goal.own_stack-requires

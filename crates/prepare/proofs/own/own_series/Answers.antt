@@ -3,7 +3,6 @@ use mathlib.Core.Path.{sym, ◌∙◌}
 use Rattle.laws_lists.specs.Tests.{not_so, not_left}
 use Rattle.prepare.proofs.Recorded.{args-length}
 use Rattle.prepare.proofs.OwnRules.{series-part, series-broken, series-kept}
-use borrow.Author.Rules.{rules}
 use Rattle.prepare.proofs.own.own_series.Goals as goal
 
 pub returns-then-not-numbers : goal.returns-then-not-numbers

@@ -1,7 +1,6 @@
 -- Exactly one action: then its series is the one that was read, or there is none. No mode alters that.
 use Rattle.prepare.proofs.FirstSeries.{numbers-good}
 use Rattle.prepare.proofs.OwnRules.{stack-none, stack-one, stack-more}
-use borrow.Author.Rules.{rules}
 use Rattle.prepare.proofs.own.own_stack.Goals as goal
 
 pub own_series-requires : goal.own_series-requires

@@ -1,7 +1,6 @@
 -- The marks are those that the parameters give.
 use Rattle.rules.specs.Text.Ascii.{ascii}
 use Rattle.prepare.proofs.Recorded.{answered-is, record-so}
-use borrow.Author.Rules.{rules}
 use Rattle.prepare.proofs.own.recorded.Goals as goal
 
 pub returns : goal.returns

@@ -1,6 +1,5 @@
 -- A number that is not 0 is a refusal, whatever the record.
 use Rattle.prepare.proofs.Recorded.{refused-is}
-use borrow.Author.Rules.{rules}
 use Rattle.prepare.proofs.own.refused.Goals as goal
 
 pub returns : goal.returns

@@ -2,7 +2,6 @@
 use mathlib.Core.Path.{sym, ◌∙◌}
 use Rattle.laws_lists.specs.Tests.{not_so, not_left}
 use Rattle.prepare.proofs.OneAction.{with-same, with-one, with-two, with-more}
-use borrow.Author.Rules.{rules}
 use Rattle.prepare.proofs.own.with_action.Goals as goal
 
 pub returns-then-not-is_given : goal.returns-then-not-is_given

@@ -2,7 +2,6 @@
 use mathlib.Core.Path.{sym, ◌∙◌}
 use Rattle.laws_lists.specs.Signed.{as_is}
 use Rattle.prepare.proofs.Recorded.{flag-set, flag-not}
-use borrow.Author.Rules.{rules}
 use Rattle.prepare.proofs.own.with_flag.Goals as goal
 
 pub returns-then-is_given : goal.returns-then-is_given

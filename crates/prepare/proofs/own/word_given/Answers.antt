@@ -1,7 +1,6 @@
 -- The word of the value that is given, or of `enuf`.
 use Rattle.rules.specs.Text.Ascii.{ascii}
 use Rattle.prepare.proofs.OwnRules.{given_word, given-none}
-use borrow.Author.Rules.{rules}
 use Rattle.prepare.proofs.own.word_given.Goals as goal
 
 pub returns-then-v : goal.returns-then-v

@@ -1,10 +1,7 @@
 use mathlib.Core.Path.{sym, ◌∙◌}
-use mathlib.Core.Logic.{⊎_elim}
 use native.Mathlib.Omega.{arith}
 use Rattle.laws_lists.specs.Signed.{given_is}
-use Rattle.prepare.proofs.SeriesPieces.{Reading, reading-none, piece-not, reading-more, reading-many, reading-well, digits-fit, list-room, mark-part, mark-whole}
-use Prim.Native.Nat.{◌+◌, ◌-◌}
-use lib.ListN.{length}
+use Rattle.prepare.proofs.SeriesPieces.{reading-none, piece-not, reading-more, reading-many, reading-well, digits-fit, list-room, mark-part, mark-whole}
 use borrow.Author.Rules.{rules}
 use Rattle.prepare.proofs.series.series.Goals as goal
 use Rattle.prepare.proofs.series.series.Goals.{then-n-lt8, else-n-lt8, then-d-ne0, else-d-ne0}

@@ -1,6 +1,5 @@
 -- A key is given where a value is found.
 use Rattle.prepare.proofs.KeyLookup.{given_is}
-use borrow.Author.Rules.{rules}
 use Rattle.prepare.proofs.values.is_given.Goals as goal
 
 pub returns : goal.returns

@@ -1,8 +1,6 @@
-use Prim.Native.Nat.{◌-◌}
 use mathlib.Core.Path.{sym, ◌∙◌}
-use Rattle.parameters.specs.Parts.{table_in}
 use Rattle.parameters.proofs.Tabled.{no_part}
-use Rattle.prepare.proofs.KeyLookup.{Looking, looking-none, looking-at, looking-found, looking-past, looking-end}
+use Rattle.prepare.proofs.KeyLookup.{looking-none, looking-at, looking-found, looking-past, looking-end}
 use borrow.Author.Rules.{rules}
 use Rattle.prepare.proofs.values.value_of.Goals as goal
 

@@ -1,8 +1,6 @@
 use mathlib.Core.Path.{sym, ◌∙◌}
-use Prim.Native.Nat.{◌-◌}
 use native.Mathlib.Omega.{arith}
-use lib.ListN.{length}
-use Rattle.proj.proofs.Laid.{Laying, laying-start, laying-kept, laying-end, laying-skip, laying-small, laying-spot, laying-next}
+use Rattle.proj.proofs.Laid.{laying-start, laying-kept, laying-end, laying-skip, laying-small, laying-spot, laying-next}
 use Rattle.proj_words.proofs.Pieces.{step-at, step-none}
 use borrow.Author.Rules.{rules}
 use Rattle.proj.proofs.layout.all_out.Goals as goal
@@ -48,7 +46,7 @@ slice_bounds-part_out-end c =
     search (rules, s)
 
 pub part_out-put-requires : goal.part_out-put-requires
-part_out-put-requires c = 
+part_out-put-requires c =
     let s = step-at c.next_proj-found.ensures c.in-Step.is in record { s_value = s.worded; global = c.loop-from.invariant.global; s_len_bound = laying-small c.loop-from.invariant s; spot = laying-spot c.loop-from.invariant s (sym c.is_written.ensures ∙ c.if-is_written.true) }
 
 pub loop-from-smaller-then-is_written : goal.loop-from-smaller-then-is_written

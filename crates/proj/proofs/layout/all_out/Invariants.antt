@@ -1,12 +1,8 @@
 -- `all_out`: what is put so far, and what the steps that are left still give in this state, are what all give (`Laying`). A step that is
 -- written is put, and another is passed over; the walk moves ahead, and what is left of the text is the measure.
-use mathlib.Core.Path.{sym, ◌∙◌}
 use Prim.Native.Nat.{◌-◌}
-use native.Mathlib.Omega.{arith}
 use lib.ListN.{length}
-use Rattle.proj.proofs.Laid.{Laying, laying-start, laying-kept, laying-end, laying-skip, laying-small, laying-spot, laying-next}
-use Rattle.proj_words.proofs.Pieces.{step-at, step-none}
-use borrow.Author.Rules.{rules}
+use Rattle.proj.proofs.Laid.{Laying}
 use Rattle.proj.proofs.layout.all_out.Given as goal
 
 abbrev pub invariant-loop-from : goal.invariant-loop-from

@@ -3,7 +3,6 @@
 use mathlib.Core.Path.{sym}
 use lib.Dec.{ltb}
 use Rattle.proj.proofs.Puts.{puts-as, puts-nothing, bar-first, bar-owed, bar-front, bar-byte, bar-done}
-use borrow.Author.Rules.{rules}
 use Rattle.proj.proofs.layout.bar_out.Goals as goal
 
 pub returns-then-state-eq0 : goal.returns-then-state-eq0

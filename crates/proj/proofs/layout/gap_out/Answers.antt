@@ -5,7 +5,6 @@ use Rattle.rules.specs.Proj.Translate.{step_of}
 use Rattle.rules.specs.Text.Bytes.{words, Bytes}
 use Rattle.proj.proofs.Puts.{gap-first, gap-later, spot-as, puts-as, spot-first, spot-then, puts-both}
 use Rattle.proj_steps.specs.Plans.{pipeline_of}
-use borrow.Author.Rules.{rules}
 use Rattle.proj.proofs.layout.gap_out.Goals as goal
 use Rattle.proj.proofs.layout.gap_out.Goals.{Start}
 
@@ -25,7 +24,7 @@ byte_out-p-requires c =
     spot-first (32 ∷ []) (text (goal.at.byte_out-p-requires c).Start) (spot-as (gap-later c.args.back c.args.state (text (goal.at.byte_out-p-requires c).Start) c.if-state-eq0.false) c.requires.spot)
 
 pub text_out-requires-2 : goal.text_out-requires-2
-text_out-requires-2 c = 
+text_out-requires-2 c =
     let spot = spot-as (gap-later c.args.back c.args.state (text (goal.at.text_out-requires-2 c).Start) c.if-state-eq0.false) c.requires.spot in record { s_value = c.requires.s_value; global = c.requires.global; l_value = c.requires.l_value; spot = spot-then (32 ∷ []) (text (goal.at.text_out-requires-2 c).Start) spot c.byte_out-p.ensures }
 
 pub returns : goal.returns

@@ -4,7 +4,6 @@ use Rattle.rules.specs.Proj.Translate.{step_of}
 use Rattle.rules.specs.Text.Bytes.{words, Bytes}
 use Rattle.proj.proofs.Puts.{part-bar, part-first-empty, part-later-empty, part-gap, part-some, puts-kept, count_room, count_none, count-is, count-some}
 use Rattle.proj_steps.specs.Plans.{pipeline_of}
-use borrow.Author.Rules.{rules}
 use Rattle.proj.proofs.layout.part_counted.Goals as goal
 use Rattle.proj.proofs.layout.part_counted.Goals.{Start}
 
@@ -30,7 +29,7 @@ returns-then-l-eq0 c =
     (count_none c.step_text-l.ensures c.if-l-eq0.true) c.if-state-eq0.false
 
 pub gap_out-q-requires : goal.gap_out-q-requires
-gap_out-q-requires c = 
+gap_out-q-requires c =
     let gap = part-gap c.args.state (text (goal.at.gap_out-q-requires c).Start) c.requires.spot (puts-kept c.bar_out-p.ensures c.step_text-l.ensures) (count-some c.step_text-l.ensures c.if-l-eq0.false) in record { s_value = c.requires.s_value; global = c.requires.global; l_value = count-is c.step_text-l.ensures; spot = gap }
 
 pub returns : goal.returns

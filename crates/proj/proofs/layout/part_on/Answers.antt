@@ -8,7 +8,6 @@ use Rattle.rules.specs.Proj.Translate.{step_of}
 use Rattle.rules.specs.Text.Bytes.{words, Bytes}
 use Rattle.proj.proofs.Puts.{part-bar, on-first-room, on-first-done, on-full, on-later-room, on-later-length, on-later-none, on-later-done}
 use Rattle.proj_steps.specs.Plans.{pipeline_of}
-use borrow.Author.Rules.{rules}
 use Rattle.proj.proofs.layout.part_on.Goals as goal
 use Rattle.proj.proofs.layout.part_on.Goals.{Start}
 

@@ -3,7 +3,6 @@ use Rattle.rules.specs.Proj.Translate.{step_of}
 use Rattle.rules.specs.Text.Bytes.{words, Bytes}
 use Rattle.proj.proofs.Puts.{spot_on, parted-on}
 use Rattle.proj_steps.specs.Plans.{pipeline_of}
-use borrow.Author.Rules.{rules}
 use Rattle.proj.proofs.layout.part_out.Goals as goal
 use Rattle.proj.proofs.layout.part_out.Goals.{Start}
 

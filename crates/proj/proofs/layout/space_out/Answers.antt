@@ -1,7 +1,6 @@
 -- `space_out`: a space is put just where the flag says so.
 use mathlib.Core.Path.{sym}
 use Rattle.proj.proofs.Puts.{spot-as, puts-as, puts-nothing, space-yes, space-no}
-use borrow.Author.Rules.{rules}
 use Rattle.proj.proofs.layout.space_out.Goals as goal
 
 pub byte_out-requires : goal.byte_out-requires

@@ -4,7 +4,6 @@ use Rattle.rules.specs.Proj.Translate.{step_of}
 use Rattle.rules.specs.Text.Bytes.{words, Bytes}
 use Rattle.proj.proofs.Puts.{text-total, text-room, text-written, text-fits, text-counted}
 use Rattle.proj_steps.specs.Plans.{pipeline_of}
-use borrow.Author.Rules.{rules}
 use Rattle.proj.proofs.layout.text_out.Goals as goal
 use Rattle.proj.proofs.layout.text_out.Goals.{Start}
 

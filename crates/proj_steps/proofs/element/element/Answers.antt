@@ -1,7 +1,6 @@
 -- `element`: `inv` is left out and stays owed as it was; any other element is added, and the `inv` that is owed comes right behind it.
 use mathlib.Core.Path.{sym, ◌∙◌}
 use Rattle.proj_steps.proofs.Penned.{element-inv, element-first, element-then, element-done}
-use borrow.Author.Rules.{rules}
 use Rattle.proj_steps.proofs.element.element.Goals as goal
 
 pub returns-then-is_inv : goal.returns-then-is_inv

@@ -2,7 +2,6 @@
 -- right behind it.
 use Rattle.rules.specs.Text.Ascii.{ascii}
 use Rattle.proj_steps.proofs.Penned.{ellps-first, ellps-second, ellps-third, ellps-whole, ellps-own, own-then, own-done}
-use borrow.Author.Rules.{rules}
 use Rattle.proj_steps.proofs.element.ellps.Goals as goal
 
 pub word-e-requires : goal.word-e-requires

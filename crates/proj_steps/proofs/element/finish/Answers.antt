@@ -1,7 +1,6 @@
 -- `finish`: where the ellipsoid is composed, it is added, and the globals if no element came before it; then the `inv` that is still owed.
 -- Else only that.
 use Rattle.proj_steps.proofs.Penned.{finish-ellps, finish-globals, finish-owed, finish-done, finish-room, finish-none}
-use borrow.Author.Rules.{rules}
 use Rattle.proj_steps.proofs.element.finish.Goals as goal
 
 pub ellps-p-requires : goal.ellps-p-requires

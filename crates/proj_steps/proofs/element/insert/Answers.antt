@@ -1,6 +1,5 @@
 -- `insert`: the globals are an element just where the first element has been added and there are any; else nothing is added.
 use Rattle.proj_steps.proofs.Penned.{insert-room, insert-done, insert-empty, insert-later}
-use borrow.Author.Rules.{rules}
 use Rattle.proj_steps.proofs.element.insert.Goals as goal
 
 pub element-requires : goal.element-requires

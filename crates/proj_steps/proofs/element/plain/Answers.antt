@@ -5,7 +5,6 @@ use Rattle.rules.specs.Text.Lists.{non_empty}
 use Rattle.rules.specs.Text.Ascii.{ascii}
 use Rattle.laws_proj.specs.Tests.{some_is}
 use Rattle.proj_steps.proofs.Penned.{plain-empty, plain-room, plain_done, mark-fwd, mark-inv, mark-other}
-use borrow.Author.Rules.{rules}
 use Rattle.proj_steps.proofs.element.plain.Goals as goal
 
 pub returns-then-x-eq0 : goal.returns-then-x-eq0

@@ -1,7 +1,6 @@
 -- `scaled`: `k_0=` and the value are one word; the `inv` that is owed comes right behind it.
 use Rattle.rules.specs.Text.Ascii.{ascii}
 use Rattle.proj_steps.proofs.Penned.{scale-own, own_room, own-then, own-done}
-use borrow.Author.Rules.{rules}
 use Rattle.proj_steps.proofs.element.scaled.Goals as goal
 
 pub word-o-requires : goal.word-o-requires

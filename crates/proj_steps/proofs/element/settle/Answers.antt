@@ -1,7 +1,6 @@
 -- `settle`: an `inv` is added just where one is owed, and then none is.
 use Rattle.rules.specs.Text.Ascii.{ascii}
 use Rattle.proj_steps.proofs.Penned.{settle-room, settle-done, settle-none}
-use borrow.Author.Rules.{rules}
 use Rattle.proj_steps.proofs.element.settle.Goals as goal
 
 pub word-o-requires : goal.word-o-requires

@@ -1,7 +1,6 @@
 -- `add`: `put` writes x at o; a pass that counts goes on by x's length, and leaves the buffer.
 use native.Mathlib.Omega.{arith}
 use Rattle.proj_steps.proofs.Added.{add-room, add-fits, add-written, add-counted}
-use borrow.Author.Rules.{rules}
 use Rattle.proj_steps.proofs.pen.add.Goals as goal
 
 pub put-requires : goal.put-requires

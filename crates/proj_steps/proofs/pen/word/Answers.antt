@@ -1,7 +1,6 @@
 -- `word`: a space if words have begun, then both pieces, one behind the other, are the word with its gap (`gapped`); each has room since
 -- all have.
 use Rattle.proj_steps.proofs.Added.{space-room, front-room, back-room, word-spaced, first-front, first_back, word-first}
-use borrow.Author.Rules.{rules}
 use Rattle.proj_steps.proofs.pen.word.Goals as goal
 
 pub add-a-requires : goal.add-a-requires

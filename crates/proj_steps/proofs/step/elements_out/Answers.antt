@@ -1,11 +1,8 @@
 use mathlib.Core.Path.{◌∙◌}
 use native.Mathlib.Omega.{arith}
-use lib.ListN.{length}
-use Rattle.proj_steps.proofs.Emitted.{Telling, telling-start, telling-last, telling-end, telling-kept, telling-skip, telling-room, telling-own}
+use Rattle.proj_steps.proofs.Emitted.{telling-start, telling-last, telling-end, telling-kept, telling-skip, telling-room, telling-own}
 use Rattle.proj_words.proofs.Facts.{element-less}
 use Rattle.proj_words.proofs.Heads.{element-at, element-none}
-use Rattle.proj_words.specs.Heads.{elements}
-use Rattle.proj_steps.specs.declared.step.Plan.{Plan}
 use borrow.Author.Rules.{rules}
 use Rattle.proj_steps.proofs.step.elements_out.Goals as goal
 
@@ -80,7 +77,7 @@ slice_bounds-own-end c =
     search (rules, e)
 
 pub own-p-requires : goal.own-p-requires
-own-p-requires c = 
+own-p-requires c =
     let e = element-at c.next_element-found.ensures c.in-At.is in record { in_bounds = c.fate_of-f.ensures.long; room_for = telling-room c.loop-out.invariant e c.fate_of-f.ensures c.if-f.false }
 
 pub loop-out-smaller : goal.loop-out-smaller

@@ -1,14 +1,9 @@
 -- `elements_out`: what is written so far, and what the words that are left still give, by the plan, are what all give (`Telling`). A turn
 -- leaves a word out, or adds it; each takes one word off those that are left, and their number is the measure.
-use mathlib.Core.Path.{◌∙◌}
-use native.Mathlib.Omega.{arith}
 use lib.ListN.{length}
-use Rattle.proj_steps.proofs.Emitted.{Telling, telling-start, telling-last, telling-end, telling-kept, telling-skip, telling-room, telling-own}
-use Rattle.proj_words.proofs.Facts.{element-less}
-use Rattle.proj_words.proofs.Heads.{element-at, element-none}
+use Rattle.proj_steps.proofs.Emitted.{Telling}
 use Rattle.proj_words.specs.Heads.{elements}
 use Rattle.proj_steps.specs.declared.step.Plan.{Plan}
-use borrow.Author.Rules.{rules}
 use Rattle.proj_steps.proofs.step.elements_out.Given as goal
 
 abbrev pub invariant-loop-out : goal.invariant-loop-out

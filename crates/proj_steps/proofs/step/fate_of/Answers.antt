@@ -1,10 +1,8 @@
 -- `fate_of`: a word with `a=` or `rf=` is left out where it is the last of its kind, and the first with `k=` is the scale: each return is a
 -- case of `tidy_rest`.
 use mathlib.Core.Path.{sym, ◌∙◌}
-use native.Mathlib.Omega.{arith}
 use Rattle.rules.specs.Text.Ascii.{ascii}
 use Rattle.proj_steps.proofs.Plans.{fate-a-last, fate-a-more, fate-a-none, fate-rf-last, fate-rf-more, fate-rf-none, fate-scale, fate-plain, fate-scaled}
-use borrow.Author.Rules.{rules}
 use Rattle.proj_steps.proofs.step.fate_of.Goals as goal
 
 pub returns-then-a-eq1 : goal.returns-then-a-eq1

@@ -1,10 +1,8 @@
 use mathlib.Core.Path.{sym, ◌∙◌}
 use native.Mathlib.Omega.{arith}
-use lib.ListN.{length}
-use Rattle.proj_steps.proofs.Globals.{Gathering, gathering-start, gathering-kept, gathering-end, gathering-inv, gathering-room, gathering-word}
+use Rattle.proj_steps.proofs.Globals.{gathering-start, gathering-kept, gathering-end, gathering-inv, gathering-room, gathering-word}
 use Rattle.proj_words.proofs.Facts.{element-less}
 use Rattle.proj_words.proofs.Heads.{element-at, element-none}
-use Rattle.proj_words.specs.Heads.{elements}
 use borrow.Author.Rules.{rules}
 use Rattle.proj_steps.proofs.step.globals_into.Goals as goal
 

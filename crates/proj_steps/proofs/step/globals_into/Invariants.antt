@@ -1,13 +1,8 @@
 -- `globals_into`: the words so far but `inv` are written, one space apart, and those that are left are to come (`Gathering`). Each turn
 -- takes one word off those that are left, and their number is the measure.
-use mathlib.Core.Path.{sym, ◌∙◌}
-use native.Mathlib.Omega.{arith}
 use lib.ListN.{length}
-use Rattle.proj_steps.proofs.Globals.{Gathering, gathering-start, gathering-kept, gathering-end, gathering-inv, gathering-room, gathering-word}
-use Rattle.proj_words.proofs.Facts.{element-less}
-use Rattle.proj_words.proofs.Heads.{element-at, element-none}
+use Rattle.proj_steps.proofs.Globals.{Gathering}
 use Rattle.proj_words.specs.Heads.{elements}
-use borrow.Author.Rules.{rules}
 use Rattle.proj_steps.proofs.step.globals_into.Given as goal
 
 abbrev pub invariant-loop-from : goal.invariant-loop-from

@@ -3,7 +3,6 @@
 use native.Mathlib.Omega.{arith}
 use Rattle.rules.specs.Text.Ascii.{ascii}
 use Rattle.proj_steps.proofs.Plans.{plan-named, plan-no-a, plan-no-rf, plan-composed, a-long, rf-long}
-use borrow.Author.Rules.{rules}
 use Rattle.proj_steps.proofs.step.plan_of.Goals as goal
 
 pub key_of-a-requires : goal.key_of-a-requires

@@ -1,7 +1,6 @@
 -- `step_text`: the head, the marks and the plan of the step are found, and by them its elements are added from `at` on; an `inv` is owed
 -- where the step or the pipeline is inverted, and not both.
 use Rattle.proj_steps.proofs.Globals.{step_room, step-done}
-use borrow.Author.Rules.{rules}
 use Rattle.proj_steps.proofs.step.step_text.Goals as goal
 
 pub head_of-head-requires : goal.head_of-head-requires

@@ -3,7 +3,6 @@
 use Rattle.laws_text.specs.Sizes.{tenfold-weight}
 use Rattle.text.proofs.Wrote.{wrote-fits, wrote-counts}
 use Rattle.proj_words.proofs.Room.{lines-room, normal-room, cleaned-holds}
-use borrow.Author.Rules.{rules}
 use Rattle.proj_words.proofs.clean.clean_into.Goals as goal
 
 pub space_into-n-requires : goal.space_into-n-requires

@@ -1,7 +1,5 @@
 use mathlib.Core.Path.{sym, ◌∙◌}
-use Prim.Native.Nat.{◌-◌}
-use lib.ListN.{length}
-use Rattle.proj_words.proofs.Signs.{Signing, signing-start, signing-fits, signing-sign-room, signing-sign, signing-gap-room}
+use Rattle.proj_words.proofs.Signs.{signing-start, signing-fits, signing-sign-room, signing-sign, signing-gap-room}
 use Rattle.proj_words.proofs.Signs.{signing-gap, signing-byte-room, signing-byte, signing-length, signing_end}
 use borrow.Author.Rules.{rules}
 use Rattle.proj_words.proofs.clean.signless_into.Goals as goal

@@ -2,7 +2,6 @@
 -- `spaced`.
 use Rattle.text.proofs.Wrote.{wrote-fits, wrote-counts}
 use Rattle.proj_words.proofs.Room.{signless-room, signless-holds}
-use borrow.Author.Rules.{rules}
 use Rattle.proj_words.proofs.clean.space_into.Goals as goal
 
 pub slice_bounds-signless_into-end : goal.slice_bounds-signless_into-end

@@ -1,6 +1,5 @@
 -- `unsign`: the white space at both ends goes, then the `+` in front of what is left: that is `unsigned`.
 use Rattle.proj_words.proofs.Room.{unsigned_is}
-use borrow.Author.Rules.{rules}
 use Rattle.proj_words.proofs.clean.unsign.Goals as goal
 
 pub returns : goal.returns

@@ -1,10 +1,8 @@
 use mathlib.Core.Path.{sym, ◌∙◌}
-use Prim.Native.Nat.{◌-◌}
 use native.Mathlib.Omega.{arith}
-use lib.ListN.{length}
 use Rattle.rules.specs.Text.Ascii.{ascii}
 use Rattle.proj_words.proofs.Words.{word_at, word_none, word-further, word-within}
-use Rattle.proj_words.proofs.Heads.{Seeking, seeking-start, seek-none, seek_found, seek-init, seek-on}
+use Rattle.proj_words.proofs.Heads.{seeking-start, seek-none, seek_found, seek-init, seek-on}
 use borrow.Author.Rules.{rules}
 use Rattle.proj_words.proofs.exchange.first_proj.Goals as goal
 

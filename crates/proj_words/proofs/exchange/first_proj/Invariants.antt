@@ -1,13 +1,8 @@
 -- `first_proj`: no word before k is a `proj=`, and `init` tells whether one is an `init=` (`Seeking`). So the first that is found is the
 -- step's first; each turn passes a word, and what is left of s is the measure.
-use mathlib.Core.Path.{sym, ◌∙◌}
 use Prim.Native.Nat.{◌-◌}
-use native.Mathlib.Omega.{arith}
 use lib.ListN.{length}
-use Rattle.rules.specs.Text.Ascii.{ascii}
-use Rattle.proj_words.proofs.Words.{word_at, word_none, word-further, word-within}
-use Rattle.proj_words.proofs.Heads.{Seeking, seeking-start, seek-none, seek_found, seek-init, seek-on}
-use borrow.Author.Rules.{rules}
+use Rattle.proj_words.proofs.Heads.{Seeking}
 use Rattle.proj_words.proofs.exchange.first_proj.Given as goal
 
 abbrev pub invariant-loop-from : goal.invariant-loop-from

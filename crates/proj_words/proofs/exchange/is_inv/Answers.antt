@@ -1,7 +1,6 @@
 -- `is_inv`: the comparison is the one of `is_inv`.
 use Rattle.rules.specs.Text.Ascii.{ascii}
 use Rattle.rules.specs.Proj.Translate.{is_inv}
-use borrow.Author.Rules.{rules}
 use Rattle.proj_words.proofs.exchange.is_inv.Goals as goal
 
 pub returns : goal.returns

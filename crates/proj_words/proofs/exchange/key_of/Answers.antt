@@ -1,8 +1,6 @@
 use mathlib.Core.Path.{sym, ◌∙◌}
 use native.Mathlib.Omega.{arith}
-use lib.ListN.{length}
-use Rattle.proj_words.specs.Heads.{elements}
-use Rattle.proj_words.proofs.Facts.{Keying, keying-start, keying-end, keying-few, keying-more, keying-next, element-less}
+use Rattle.proj_words.proofs.Facts.{keying-start, keying-end, keying-few, keying-more, keying-next, element-less}
 use Rattle.proj_words.proofs.Heads.{element-at, element-none}
 use borrow.Author.Rules.{rules}
 use Rattle.proj_words.proofs.exchange.key_of.Goals as goal

@@ -1,12 +1,8 @@
 -- `key_of`: n of the exchanged words so far begin with the key, the last of them from a up to e (`Keying`). Each turn takes one word off
 -- those that are left, and their number is the measure.
-use mathlib.Core.Path.{sym, ◌∙◌}
-use native.Mathlib.Omega.{arith}
 use lib.ListN.{length}
 use Rattle.proj_words.specs.Heads.{elements}
-use Rattle.proj_words.proofs.Facts.{Keying, keying-start, keying-end, keying-few, keying-more, keying-next, element-less}
-use Rattle.proj_words.proofs.Heads.{element-at, element-none}
-use borrow.Author.Rules.{rules}
+use Rattle.proj_words.proofs.Facts.{Keying}
 use Rattle.proj_words.proofs.exchange.key_of.Given as goal
 
 abbrev pub invariant-loop-from : goal.invariant-loop-from

@@ -1,7 +1,6 @@
 -- `marked`: one word more: it is `inv`, or another word, or empty, and each of the three marks is told anew by that.
 use mathlib.Core.Path.{sym, ◌∙◌}
 use Rattle.proj_words.proofs.Facts.{marked-inv, marked-word, marked_empty}
-use borrow.Author.Rules.{rules}
 use Rattle.proj_words.proofs.exchange.marked.Goals as goal
 
 pub returns-then-is_inv : goal.returns-then-is_inv

@@ -1,7 +1,5 @@
 use native.Mathlib.Omega.{arith}
-use lib.ListN.{length}
-use Rattle.proj_words.specs.Heads.{elements}
-use Rattle.proj_words.proofs.Facts.{Marking, marking-start, marking-end, marking-next, element-less}
+use Rattle.proj_words.proofs.Facts.{marking-start, marking-end, marking-next, element-less}
 use Rattle.proj_words.proofs.Heads.{element-at, element-none}
 use borrow.Author.Rules.{rules}
 use Rattle.proj_words.proofs.exchange.marks_of.Goals as goal

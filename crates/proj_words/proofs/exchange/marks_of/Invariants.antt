@@ -1,11 +1,8 @@
 -- `marks_of`: the marks so far, joined to those of the words that are left, are the marks of all (`Marking`). Each turn takes one word off
 -- those that are left, and their number is the measure.
-use native.Mathlib.Omega.{arith}
 use lib.ListN.{length}
 use Rattle.proj_words.specs.Heads.{elements}
-use Rattle.proj_words.proofs.Facts.{Marking, marking-start, marking-end, marking-next, element-less}
-use Rattle.proj_words.proofs.Heads.{element-at, element-none}
-use borrow.Author.Rules.{rules}
+use Rattle.proj_words.proofs.Facts.{Marking}
 use Rattle.proj_words.proofs.exchange.marks_of.Given as goal
 
 abbrev pub invariant-loop-m : goal.invariant-loop-m

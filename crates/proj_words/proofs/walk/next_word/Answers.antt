@@ -1,6 +1,5 @@
 -- `next_word`: white space from k on is passed, and then a run of other bytes: that is the first word, unless it is empty.
 use Rattle.proj_words.proofs.Words.{found_at, found_none}
-use borrow.Author.Rules.{rules}
 use Rattle.proj_words.proofs.walk.next_word.Goals as goal
 
 pub returns-then-from-to : goal.returns-then-from-to

@@ -1,9 +1,7 @@
 use mathlib.Core.Path.{sym, ◌∙◌}
-use Prim.Native.Nat.{◌-◌}
 use native.Mathlib.Omega.{arith}
-use lib.ListN.{length}
 use Rattle.proj_words.proofs.Words.{word_at, word_none, word-further, word-within}
-use Rattle.proj_words.proofs.Pieces.{Piecing, piecing-start, piece-last, piece-ends, piece-more}
+use Rattle.proj_words.proofs.Pieces.{piecing-start, piece-last, piece-ends, piece-more}
 use borrow.Author.Rules.{rules}
 use Rattle.proj_words.proofs.walk.piece_from.Goals as goal
 

@@ -1,12 +1,8 @@
 -- `piece_from`: no word from k up to `at` is `step`, and a word ends there (`Piecing`). So the piece ends before the next `step`, or with
 -- the text. Each turn passes a word, and what is left of the text is the measure.
-use mathlib.Core.Path.{sym, ◌∙◌}
 use Prim.Native.Nat.{◌-◌}
-use native.Mathlib.Omega.{arith}
 use lib.ListN.{length}
-use Rattle.proj_words.proofs.Words.{word_at, word_none, word-further, word-within}
-use Rattle.proj_words.proofs.Pieces.{Piecing, piecing-start, piece-last, piece-ends, piece-more}
-use borrow.Author.Rules.{rules}
+use Rattle.proj_words.proofs.Pieces.{Piecing}
 use Rattle.proj_words.proofs.walk.piece_from.Given as goal
 
 abbrev pub invariant-loop-from : goal.invariant-loop-from

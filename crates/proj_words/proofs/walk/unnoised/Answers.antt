@@ -1,7 +1,6 @@
 -- `unnoised`: a `step` is noise where another word follows it within the piece; alone it is the step's own word.
 use mathlib.Core.Path.{sym, ◌∙◌}
 use Rattle.proj_words.proofs.Pieces.{begins-noise, begins-word, begins-alone}
-use borrow.Author.Rules.{rules}
 use Rattle.proj_words.proofs.walk.unnoised.Goals as goal
 
 pub returns-then-is_step : goal.returns-then-is_step

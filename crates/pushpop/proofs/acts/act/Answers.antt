@@ -8,7 +8,6 @@ use Rattle.laws_steps.specs.PlacesOf.{places-reverse}
 use Rattle.laws_records.specs.Operators.PushPop.{rising-places}
 use Rattle.columns.specs.Doings.{does, doing, able}
 use Rattle.pushpop.specs.Acts.{pushing}
-use borrow.Author.Rules.{rules}
 use Rattle.pushpop.proofs.acts.act.Goals as goal
 
 pub returns-then-pushes : goal.returns-then-pushes

@@ -1,7 +1,6 @@
 -- `act_of`: of the two operators one pushes forward and the other inverse, so one test of the operator's number settles each direction.
 use Rattle.columns.proofs.DoesSo.{does-as}
 use Rattle.pushpop.proofs.Directions.{forward-so, inverse-so}
-use borrow.Author.Rules.{rules}
 use Rattle.pushpop.proofs.acts.act_of.Goals as goal
 
 pub returns-in-Forward : goal.returns-in-Forward

@@ -1,12 +1,9 @@
-use Prim.Native.Nat.{◌-◌}
 use mathlib.Core.Path.{sym, ◌∙◌}
-use lib.ListN.{length}
 use lib.IntN.{pos}
 use Rattle.rules.specs.Operators.PushPop.{is_rising}
 use Rattle.laws_lists.specs.Tests.{not_so, not_left}
 use Rattle.pushpop.proofs.RisingPlaces.{rising-stray, rising-low, rising-next}
-use Rattle.numbers.proofs.Rest.{Rest, rest_all, rest-next, rest-here, rest_end}
-use borrow.Author.Rules.{rules}
+use Rattle.numbers.proofs.Rest.{rest_all, rest-next, rest-here, rest_end}
 use Rattle.pushpop.proofs.arguments.is_rising.Goals as goal
 
 pub loop-i-init : goal.loop-i-init

@@ -1,13 +1,10 @@
-use Rattle.rules.specs.Operators.Arguments.{places}
-use Rattle.pushpop.proofs.Popped.{pops_left, pop-none, pop-turn, pop-stops, pop-end, pop-acted}
+use Rattle.pushpop.proofs.Popped.{pop-none, pop-turn, pop-stops, pop-end, pop-acted}
 use Rattle.columns.proofs.InStore.{under}
-use Rattle.columns.specs.Stores.{columns_of}
-use Rattle.rules.specs.Pipeline.Tuples.{State, tuples, drained, stored}
+use Rattle.rules.specs.Pipeline.Tuples.{State, tuples, stored}
 use native.Mathlib.Omega.{arith}
 use lib.ListN.{length, take, drop}
 use Prim.Native.Nat.{ℕ, ◌-◌, ◌*◌, ◌/◌}
 use mathlib.Core.Path.{◌≡◌, refl, sym, ap, ◌∙◌}
-use borrow.Author.Rules.{rules}
 use Rattle.pushpop.proofs.coords.pop.Goals as goal
 
 pub loop-j-init : goal.loop-j-init

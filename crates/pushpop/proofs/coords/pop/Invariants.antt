@@ -1,15 +1,12 @@
 -- `pop`: popping what is left of the places out of what the columns still hold gives what popping all of them gives. A turn pops one more,
 -- or there is no column and the step stops at a NaN. What is left of the places is the measure.
 use Rattle.rules.specs.Operators.Arguments.{places}
-use Rattle.pushpop.proofs.Popped.{pops_left, pop-none, pop-turn, pop-stops, pop-end, pop-acted}
-use Rattle.columns.proofs.InStore.{under}
+use Rattle.pushpop.proofs.Popped.{pops_left}
 use Rattle.columns.specs.Stores.{columns_of}
-use Rattle.rules.specs.Pipeline.Tuples.{State, tuples, drained, stored}
-use native.Mathlib.Omega.{arith}
-use lib.ListN.{length, take, drop}
-use Prim.Native.Nat.{ℕ, ◌-◌, ◌*◌, ◌/◌}
-use mathlib.Core.Path.{◌≡◌, refl, sym, ap, ◌∙◌}
-use borrow.Author.Rules.{rules}
+use Rattle.rules.specs.Pipeline.Tuples.{tuples, drained}
+use lib.ListN.{length}
+use Prim.Native.Nat.{◌-◌}
+use mathlib.Core.Path.{◌≡◌}
 use Rattle.pushpop.proofs.coords.pop.Given as goal
 
 abbrev pub invariant-loop-j : goal.invariant-loop-j

@@ -1,11 +1,10 @@
-use Rattle.pushpop.proofs.Pushed.{Pushing, push-none, push-turn, push-end, push-acted}
+use Rattle.pushpop.proofs.Pushed.{push-none, push-turn, push-end, push-acted}
 use Rattle.laws_steps.specs.Lengths.{tuples-length}
 use Rattle.columns.proofs.InStore.{under}
 use Rattle.rules.specs.Pipeline.Tuples.{tuples}
 use native.Mathlib.Omega.{arith}
 use lib.ListN.{length}
-use Prim.Native.Nat.{◌+◌, ◌-◌, ◌/◌}
-use borrow.Author.Rules.{rules}
+use Prim.Native.Nat.{◌+◌, ◌/◌}
 use Rattle.pushpop.proofs.coords.push.Goals as goal
 
 pub loop-j-init : goal.loop-j-init

@@ -1,12 +1,8 @@
 -- `push`: the columns of the first j places stand above those that were there (`Pushing`). What is left of the places is the measure.
-use Rattle.pushpop.proofs.Pushed.{Pushing, push-none, push-turn, push-end, push-acted}
-use Rattle.laws_steps.specs.Lengths.{tuples-length}
-use Rattle.columns.proofs.InStore.{under}
+use Rattle.pushpop.proofs.Pushed.{Pushing}
 use Rattle.rules.specs.Pipeline.Tuples.{tuples}
-use native.Mathlib.Omega.{arith}
 use lib.ListN.{length}
-use Prim.Native.Nat.{◌+◌, ◌-◌, ◌/◌}
-use borrow.Author.Rules.{rules}
+use Prim.Native.Nat.{◌-◌}
 use Rattle.pushpop.proofs.coords.push.Given as goal
 
 abbrev pub invariant-loop-j : goal.invariant-loop-j

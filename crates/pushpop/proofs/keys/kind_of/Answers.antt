@@ -4,7 +4,6 @@ use Rattle.rules.specs.Text.Ascii.{ascii}
 use Rattle.rules.specs.Operators.Keys.{flag}
 use Rattle.rules.specs.Operators.PushPop.{axis_keys}
 use Rattle.laws_records.specs.KeyKinds.{kind-here, kind-next, kind-end}
-use borrow.Author.Rules.{rules}
 use Rattle.pushpop.proofs.keys.kind_of.Goals as goal
 
 pub returns-then-is_same : goal.returns-then-is_same

@@ -1,7 +1,4 @@
-use Prim.Native.Nat.{◌-◌}
-use lib.ListN.{length}
-use Rattle.pushpop.proofs.TracedPop.{Popping, pop-none, pop-turn, pop-end}
-use borrow.Author.Rules.{rules}
+use Rattle.pushpop.proofs.TracedPop.{pop-none, pop-turn, pop-end}
 use Rattle.pushpop.proofs.places.pop_places.Goals as goal
 
 pub loop-i-init : goal.loop-i-init

@@ -2,8 +2,7 @@
 -- measure.
 use Prim.Native.Nat.{◌-◌}
 use lib.ListN.{length}
-use Rattle.pushpop.proofs.TracedPop.{Popping, pop-none, pop-turn, pop-end}
-use borrow.Author.Rules.{rules}
+use Rattle.pushpop.proofs.TracedPop.{Popping}
 use Rattle.pushpop.proofs.places.pop_places.Given as goal
 
 abbrev pub invariant-loop-i : goal.invariant-loop-i

@@ -1,7 +1,4 @@
-use Prim.Native.Nat.{◌-◌}
-use lib.ListN.{length}
-use Rattle.pushpop.proofs.TracedPush.{Pushing, push-none, push-turn, push-end}
-use borrow.Author.Rules.{rules}
+use Rattle.pushpop.proofs.TracedPush.{push-none, push-turn, push-end}
 use Rattle.pushpop.proofs.places.push_places.Goals as goal
 
 pub loop-i-init : goal.loop-i-init

@@ -2,8 +2,7 @@
 -- the measure.
 use Prim.Native.Nat.{◌-◌}
 use lib.ListN.{length}
-use Rattle.pushpop.proofs.TracedPush.{Pushing, push-none, push-turn, push-end}
-use borrow.Author.Rules.{rules}
+use Rattle.pushpop.proofs.TracedPush.{Pushing}
 use Rattle.pushpop.proofs.places.push_places.Given as goal
 
 abbrev pub invariant-loop-i : goal.invariant-loop-i

@@ -4,7 +4,6 @@ use Rattle.pushpop.proofs.Words.{place-less, prefix-room, axis-room, flag-writte
 use native.Mathlib.Omega.{arith}
 use lib.IntN.{pos}
 use Rattle.rules.specs.Operators.Arguments.{is_place}
-use borrow.Author.Rules.{rules}
 use Rattle.pushpop.proofs.writing.flag.Goals as goal
 
 pub put-e-requires : goal.put-e-requires

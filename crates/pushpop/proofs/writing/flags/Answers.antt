@@ -1,14 +1,8 @@
 use Rattle.pushpop.proofs.Words.{flags-rest}
-use Rattle.numbers.proofs.EachInTurn.{Going, going_start, going-room, going-turn, going-length, going_end}
+use Rattle.numbers.proofs.EachInTurn.{going_start, going-room, going-turn, going-length, going_end}
 use Rattle.pushpop.specs.Flags.{flagged}
-use Rattle.rules.specs.Operators.PushPop.{flag_of}
-use Rattle.rules.specs.Text.Bytes.{after_each}
 use mathlib.Core.Bool.{false}
-use mathlib.Core.List.{[], ◌∷◌, map}
-use Prim.Native.Nat.{◌-◌}
-use lib.ListN.{length}
 use lib.IntN.{pos}
-use borrow.Author.Rules.{rules}
 use Rattle.pushpop.proofs.writing.flags.Goals as goal
 
 pub loop-i-init : goal.loop-i-init

@@ -1,15 +1,11 @@
 -- `flags`: the flags of the first i axes are written, those from i on are to come (`Going`). What is left of l is the measure.
-use Rattle.pushpop.proofs.Words.{flags-rest}
-use Rattle.numbers.proofs.EachInTurn.{Going, going_start, going-room, going-turn, going-length, going_end}
+use Rattle.numbers.proofs.EachInTurn.{Going}
 use Rattle.pushpop.specs.Flags.{flagged}
 use Rattle.rules.specs.Operators.PushPop.{flag_of}
 use Rattle.rules.specs.Text.Bytes.{after_each}
-use mathlib.Core.Bool.{false}
 use mathlib.Core.List.{[], ◌∷◌, map}
 use Prim.Native.Nat.{◌-◌}
 use lib.ListN.{length}
-use lib.IntN.{pos}
-use borrow.Author.Rules.{rules}
 use Rattle.pushpop.proofs.writing.flags.Given as goal
 
 abbrev pub invariant-loop-i : goal.invariant-loop-i

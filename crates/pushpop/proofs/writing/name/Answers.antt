@@ -4,7 +4,6 @@ use Rattle.rules.specs.Text.Ascii.{ascii}
 use Rattle.numbers.proofs.InTurn.{room_as, as_written}
 use Rattle.numbers.proofs.Listed.{put_written}
 use Rattle.pushpop.proofs.Words.{push-name, pop-name}
-use borrow.Author.Rules.{rules}
 use Rattle.pushpop.proofs.writing.name.Goals as goal
 
 pub put-requires : goal.put-requires

@@ -1,7 +1,6 @@
 -- `write_words`: the text is the name and then each flag after a space; places that rise are places, so each has its flag.
 use Rattle.laws_records.specs.Operators.PushPop.{rising-places}
 use Rattle.pushpop.proofs.Words.{name-room, flags-room, words-written}
-use borrow.Author.Rules.{rules}
 use Rattle.pushpop.proofs.writing.write_words.Goals as goal
 
 pub name-e-requires : goal.name-e-requires

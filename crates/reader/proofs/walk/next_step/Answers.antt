@@ -1,9 +1,6 @@
 use mathlib.Core.Path.{sym, ◌∙◌}
-use Prim.Native.Nat.{◌-◌}
 use native.Mathlib.Omega.{arith}
-use lib.ListN.{length}
-use Rattle.reader.proofs.Walks.{Walks, walks-none, walks-over, walks-none-left, walks-here, walks-end}
-use borrow.Author.Rules.{rules}
+use Rattle.reader.proofs.Walks.{walks-none, walks-over, walks-none-left, walks-here, walks-end}
 use Rattle.reader.proofs.walk.next_step.Goals as goal
 
 pub loop-i-init : goal.loop-i-init

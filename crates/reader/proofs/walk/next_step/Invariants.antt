@@ -1,11 +1,8 @@
 -- `next_step`: what is found from i on is what is found from the cursor on (`Walks`), for every piece before i is blank. A turn passes a
 -- blank piece and the bar behind it; the first other piece is the step. What is left of the text is the measure.
-use mathlib.Core.Path.{sym, ◌∙◌}
 use Prim.Native.Nat.{◌-◌}
-use native.Mathlib.Omega.{arith}
 use lib.ListN.{length}
-use Rattle.reader.proofs.Walks.{Walks, walks-none, walks-over, walks-none-left, walks-here, walks-end}
-use borrow.Author.Rules.{rules}
+use Rattle.reader.proofs.Walks.{Walks}
 use Rattle.reader.proofs.walk.next_step.Given as goal
 
 abbrev pub invariant-loop-i : goal.invariant-loop-i

@@ -9,10 +9,6 @@ use Rattle.laws_records.specs.MadeSo.{made_so}
 use Rattle.columns.proofs.DoesSo.{does-as}
 use Rattle.record.proofs.OperatorRules.{the_last}
 use Rattle.record.proofs.Directed.{flags-rule, action-rule, order-rule, adapt-rule, the-order, the-documented, does-so}
-use borrow.Author.Rules.{rules}
-use Rattle.axisswap.proofs.act_of.Reads as acts-act-of-reads'
-use Rattle.pushpop.proofs.act_of.Reads as acts-act-of-reads''
-use Rattle.stack.proofs.act_of.Reads as acts-act-of-reads'''
 use Rattle.record.proofs.acts.act_of.Goals as goal
 
 pub act_of-requires : goal.act_of-requires

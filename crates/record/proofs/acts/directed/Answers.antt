@@ -6,7 +6,6 @@ use Rattle.rules.specs.Pipeline.Record.{operator, is_set}
 use Rattle.rules.specs.Pipeline.Running.{directed}
 use Rattle.laws_lists.specs.Tests.{not_so, not_left}
 use Rattle.record.proofs.Directed.{unmarked}
-use borrow.Author.Rules.{rules}
 use Rattle.record.proofs.acts.directed.Goals as goal
 
 pub returns-then-step-ne1 : goal.returns-then-step-ne1

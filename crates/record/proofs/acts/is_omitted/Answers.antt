@@ -2,7 +2,6 @@
 use mathlib.Core.Path.{refl}
 use Rattle.rules.specs.Pipeline.Record.{is_set}
 use Rattle.rules.specs.Pipeline.Running.{omitted}
-use borrow.Author.Rules.{rules}
 use Rattle.record.proofs.acts.is_omitted.Goals as goal
 
 pub returns-in-Forward : goal.returns-in-Forward

@@ -1,7 +1,6 @@
 -- `opposite`: each arm knows which direction it has, and gives the other.
 use mathlib.Core.Path.{refl}
 use Rattle.rules.specs.Pipeline.Running.{opposite}
-use borrow.Author.Rules.{rules}
 use Rattle.record.proofs.acts.opposite.Goals as goal
 
 pub returns-in-Forward : goal.returns-in-Forward

@@ -2,7 +2,6 @@
 use mathlib.Core.Path.{◌∙◌}
 use native.Mathlib.Omega.{arith}
 use Rattle.record.proofs.OperatorRules.{args-flags, args-order, args-documented, args-adapt}
-use borrow.Author.Rules.{rules}
 use Rattle.record.proofs.arguments.is_args.Goals as goal
 
 pub returns-in-9 : goal.returns-in-9

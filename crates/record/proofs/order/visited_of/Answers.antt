@@ -2,7 +2,6 @@
 use mathlib.Core.Path.{sym, ap}
 use Rattle.rules.specs.declared.Direction.{Direction}
 use Rattle.record.specs.Visits.{visited}
-use borrow.Author.Rules.{rules}
 use native.Mathlib.Omega.{arith}
 use Rattle.record.proofs.order.visited_of.Goals as goal
 

@@ -1,7 +1,6 @@
 -- `number_of`: each arm knows which reading it has, and gives its number.
 use mathlib.Core.Path.{refl}
 use Rattle.rules.specs.Pipeline.Record.{reading_number}
-use borrow.Author.Rules.{rules}
 use Rattle.record.proofs.step.number_of.Goals as goal
 
 pub returns-in-Crate : goal.returns-in-Crate

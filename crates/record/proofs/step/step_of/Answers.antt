@@ -1,7 +1,6 @@
 -- `step_of`: the slots behind the first n hold zeros, so the row of eight is these n arguments and zeros, as `step_with` has it (`step_so`).
 use Rattle.record.proofs.StepMade.{step_so}
 use Rattle.rules.specs.Pipeline.Record.{reading_number}
-use borrow.Author.Rules.{rules}
 use Rattle.record.proofs.step.step_of.Goals as goal
 
 pub returns : goal.returns

@@ -1,7 +1,6 @@
 -- `end_of`: the two numbers of a span have four bytes each, so that their sum has room; and it is where the span ends.
 use mathlib.Core.Path.{refl}
 use Rattle.rules.specs.Pipeline.Record.{span_end}
-use borrow.Author.Rules.{rules}
 use Rattle.record.proofs.tests.end_of.Goals as goal
 
 pub returns : goal.returns

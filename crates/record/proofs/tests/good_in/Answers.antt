@@ -3,7 +3,6 @@ use mathlib.Core.Path.{refl, sym, ◌∙◌}
 use borrow.Author.Tests.{eq-eqb, ne_eqb}
 use Rattle.rules.specs.Pipeline.Record.{good_in}
 use Rattle.laws_lists.specs.Tests.{not_so, not_left}
-use borrow.Author.Rules.{rules}
 use Rattle.record.proofs.tests.good_in.Goals as goal
 
 pub returns-then-not-made : goal.returns-then-not-made

@@ -1,7 +1,6 @@
 -- `is_behind`: the three tests are those of `good_span`, in its order; the first that fails decides.
 use native.Mathlib.Omega.{arith}
 use Rattle.record.proofs.Refused18.{span-empty, span-far, span-near}
-use borrow.Author.Rules.{rules}
 use Rattle.record.proofs.tests.is_behind.Goals as goal
 
 pub returns-then-s-eq0 : goal.returns-then-s-eq0

@@ -10,7 +10,6 @@ use Rattle.record.specs.Records.{is_written}
 use Rattle.numbers.specs.declared.tests.Kind.TheVariants.{Zero}
 use Rattle.numbers.proofs.Rest.{rest_of}
 use Rattle.record.proofs.SlotsUsed.{used-nine}
-use borrow.Author.Rules.{rules}
 use Rattle.record.proofs.tests.is_written.Goals as goal
 
 pub returns-then-not-are_of : goal.returns-then-not-are_of

@@ -1,14 +1,13 @@
 use native.Mathlib.Omega.{arith}
 use Rattle.record.specs.Records.{bad_of}
-use Prim.Native.Nat.{◌+◌, ◌-◌}
 use mathlib.Core.Path.{◌≡◌, sym, ap, ◌∙◌}
-use lib.ListN.{length, take, length-map, length-take}
+use lib.ListN.{length, length-take}
 use lib.Seq.{get_or-take}
 use Rattle.rules.specs.Pipeline.Record.{span_end, good_in, first_bad}
 use Rattle.rules.specs.declared.Step.{Step}
 use Rattle.laws_lists.specs.Tests.{not_so, not_left}
 use Rattle.record.proofs.Refused18.{bad-long, bad-few, bad-next, bad-here, bad-none}
-use Rattle.numbers.proofs.Rest.{Rest, rest_all, rest-next, rest-here, rest_end}
+use Rattle.numbers.proofs.Rest.{rest_all, rest-next, rest-here, rest_end}
 use borrow.Author.Rules.{rules}
 use Rattle.record.proofs.tests.refusal18.Goals as goal
 use Rattle.record.proofs.tests.refusal18.Goals.{Start}

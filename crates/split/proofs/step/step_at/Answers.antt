@@ -3,7 +3,6 @@
 use mathlib.Core.Path.{sym}
 use lib.Seq.{length-take-le}
 use Rattle.split.proofs.StepText.{step-first, step-second, step-done}
-use borrow.Author.Rules.{rules}
 use Rattle.split.proofs.step.step_at.Goals as goal
 
 pub words_at-o-requires : goal.words_at-o-requires

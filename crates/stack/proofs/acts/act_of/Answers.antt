@@ -1,6 +1,5 @@
 -- `act_of`: each arm knows its direction, and what the action does there is what `forward` or `inverse` ensures.
 use Rattle.rules.specs.Pipeline.Running.{act_of}
-use borrow.Author.Rules.{rules}
 use Rattle.stack.proofs.acts.act_of.Goals as goal
 
 pub returns-in-Forward : goal.returns-in-Forward

@@ -4,7 +4,6 @@ use native.Mathlib.Omega.{arith}
 use Rattle.stack.proofs.LastAction.{the_last}
 use lib.Seq.{length-take-le}
 use Rattle.stack.proofs.Directions.{forward-push, forward-pop, forward-flip, forward-roll, forward-unroll, forward-swap, forward-drop, roll-rule, unroll-rule}
-use borrow.Author.Rules.{rules}
 use Rattle.stack.proofs.acts.forward.Goals as goal
 
 pub slice_bounds-rolling-end : goal.slice_bounds-rolling-end

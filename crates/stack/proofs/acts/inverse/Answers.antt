@@ -5,7 +5,6 @@ use native.Mathlib.Omega.{arith}
 use Rattle.stack.proofs.LastAction.{the_last}
 use lib.Seq.{length-take-le}
 use Rattle.stack.proofs.Directions.{inverse-push, inverse-pop, inverse-flip, inverse-roll, inverse-unroll, inverse-swap, inverse-drop, roll-rule, unroll-rule}
-use borrow.Author.Rules.{rules}
 use Rattle.stack.proofs.acts.inverse.Goals as goal
 
 pub slice_bounds-unrolling-end : goal.slice_bounds-unrolling-end

@@ -3,7 +3,6 @@ use mathlib.Core.Path.{sym, ◌∙◌}
 use native.Mathlib.Omega.{arith}
 use Rattle.rules.specs.Operators.Arguments.{arg}
 use Rattle.stack.proofs.RollActs.{rolling-minus, rolling-plus}
-use borrow.Author.Rules.{rules}
 use Rattle.stack.proofs.acts.rolling.Goals as goal
 
 pub overflow_sub-result : goal.overflow_sub-result

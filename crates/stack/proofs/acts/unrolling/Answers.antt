@@ -4,7 +4,7 @@ use mathlib.Core.Path.{sym, ◌∙◌}
 use native.Mathlib.Omega.{arith}
 use Rattle.rules.specs.Operators.Arguments.{arg}
 use Rattle.stack.proofs.RollActs.{unrolling-minus, unrolling-plus}
-use borrow.Author.Rules.{rules, Fits-under}
+use borrow.Author.Rules.{Fits-under}
 use Rattle.stack.proofs.acts.unrolling.Goals as goal
 
 pub overflow_add-result : goal.overflow_add-result

@@ -2,7 +2,6 @@
 use Rattle.stack.proofs.SomePlaces.{places-so}
 use mathlib.Core.Path.{refl, ◌∙◌}
 use Rattle.rules.specs.Operators.Stack.{is_places}
-use borrow.Author.Rules.{rules}
 use Rattle.stack.proofs.arguments.is_places.Goals as goal
 
 pub returns-then-l-eq0 : goal.returns-then-l-eq0

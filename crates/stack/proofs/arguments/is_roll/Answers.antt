@@ -3,7 +3,6 @@ use mathlib.Core.Path.{refl, sym, ◌∙◌}
 use borrow.Author.Tests.{eq-eqb, ne_eqb}
 use Rattle.rules.specs.Operators.Stack.{is_roll}
 use Rattle.rules.specs.Operators.Arguments.{arg}
-use borrow.Author.Rules.{rules}
 use Rattle.stack.proofs.arguments.is_roll.Goals as goal
 
 pub returns-then-l-ne2 : goal.returns-then-l-ne2

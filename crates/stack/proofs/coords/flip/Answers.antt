@@ -1,7 +1,6 @@
 -- `flip`: with too few columns every number becomes NaN, as the act says; with enough, `flip_columns` does what the act does.
 use Rattle.stack.proofs.AllOrNone.{flip-few}
 use Rattle.stack.proofs.Flipped.{flip-acted}
-use borrow.Author.Rules.{rules}
 use Rattle.stack.proofs.coords.flip.Goals as goal
 
 pub returns-then-depth-args : goal.returns-then-depth-args

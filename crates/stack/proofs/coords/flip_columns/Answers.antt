@@ -1,5 +1,5 @@
 use lib.Seq.{paste}
-use Rattle.stack.proofs.Flipped.{Flipping, flip-none, flip-turn, flip-end}
+use Rattle.stack.proofs.Flipped.{flip-none, flip-turn, flip-end}
 use Rattle.laws_steps.specs.Lengths.{tuples-length}
 use Rattle.columns.proofs.InStore.{under}
 use Rattle.rules.specs.Pipeline.Tuples.{tuples, stored, column}
@@ -7,7 +7,6 @@ use native.Mathlib.Omega.{arith}
 use lib.ListN.{length, take, drop}
 use Prim.Native.Nat.{ℕ, ◌-◌, ◌*◌, ◌/◌}
 use mathlib.Core.Path.{◌≡◌, refl, ap, ◌∙◌}
-use borrow.Author.Rules.{rules}
 use Rattle.stack.proofs.coords.flip_columns.Goals as goal
 
 pub loop-j-init : goal.loop-j-init

@@ -1,7 +1,6 @@
 -- `pop_all`: with too few columns every number becomes NaN, as the act says; with enough it is what the operator `pop` does, which finds
 -- none too few.
 use Rattle.stack.proofs.AllOrNone.{pop-all-few, pop-all-acted}
-use borrow.Author.Rules.{rules}
 use Rattle.stack.proofs.coords.pop_all.Goals as goal
 
 pub returns-then-depth-args : goal.returns-then-depth-args

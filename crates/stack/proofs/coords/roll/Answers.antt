@@ -3,7 +3,6 @@
 use native.Mathlib.Omega.{arith}
 use Rattle.stack.proofs.AllOrNone.{roll-few}
 use Rattle.stack.proofs.Rolled.{roll-acted}
-use borrow.Author.Rules.{rules}
 use Rattle.stack.proofs.coords.roll.Goals as goal
 
 pub returns-then-depth-m : goal.returns-then-depth-m

@@ -4,7 +4,6 @@ use Rattle.stack.proofs.Rolled.{roll-end}
 use Rattle.columns.proofs.InStore.{not-over}
 use Prim.Native.Nat.{◌-◌}
 use native.Mathlib.Omega.{arith}
-use borrow.Author.Rules.{rules}
 use Rattle.stack.proofs.coords.roll_columns.Goals as goal
 
 pub reverse-requires-2 : goal.reverse-requires-2

@@ -5,7 +5,6 @@ use native.Mathlib.Omega.{arith}
 use lib.ListN.{length}
 use Rattle.columns.proofs.InStore.{under}
 use Rattle.stack.proofs.Swapped.{swap-few, swap-end, swap-acted}
-use borrow.Author.Rules.{rules}
 use Rattle.stack.proofs.coords.swap.Goals as goal
 
 pub returns-then-depth-lt2 : goal.returns-then-depth-lt2
@@ -21,7 +20,7 @@ overflow_mul-depth-2 c =
     omega (arith, under (c.args.depth - 1) c.args.depth (length c.args.xs.now / 4) (omega arith))
 
 pub exchange-requires : goal.exchange-requires
-exchange-requires c = 
+exchange-requires c =
     let n = length c.args.xs.now / 4 in record { n_bound = under (c.args.depth - 2) (c.args.depth - 1) n (omega arith); n_in_bounds = omega (arith, under (c.args.depth - 1) c.args.depth n (omega arith)) }
 
 pub returns : goal.returns

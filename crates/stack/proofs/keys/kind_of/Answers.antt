@@ -4,7 +4,6 @@ use Rattle.rules.specs.Text.Ascii.{ascii}
 use Rattle.rules.specs.Operators.Keys.{flag, numbered}
 use Rattle.rules.specs.Operators.Stack.{action_keys}
 use Rattle.laws_records.specs.KeyKinds.{kind-here, kind-next, kind-end}
-use borrow.Author.Rules.{rules}
 use Rattle.stack.proofs.keys.kind_of.Goals as goal
 
 pub returns-then-is_same : goal.returns-then-is_same

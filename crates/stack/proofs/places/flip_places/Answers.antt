@@ -1,7 +1,4 @@
-use Prim.Native.Nat.{◌-◌}
-use lib.ListN.{length}
-use Rattle.stack.proofs.TracedFlip.{Flips, flips-none, flips-turn, flips-end}
-use borrow.Author.Rules.{rules}
+use Rattle.stack.proofs.TracedFlip.{flips-none, flips-turn, flips-end}
 use Rattle.stack.proofs.places.flip_places.Goals as goal
 
 pub loop-i-init : goal.loop-i-init

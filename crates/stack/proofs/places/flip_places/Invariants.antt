@@ -2,8 +2,7 @@
 -- measure.
 use Prim.Native.Nat.{◌-◌}
 use lib.ListN.{length}
-use Rattle.stack.proofs.TracedFlip.{Flips, flips-none, flips-turn, flips-end}
-use borrow.Author.Rules.{rules}
+use Rattle.stack.proofs.TracedFlip.{Flips}
 use Rattle.stack.proofs.places.flip_places.Given as goal
 
 abbrev pub invariant-loop-i : goal.invariant-loop-i

@@ -1,6 +1,4 @@
-use Prim.Native.Nat.{◌-◌}
-use Rattle.stack.proofs.TracedRoll.{Pasting, paste_none, paste-turn, pastes-all}
-use borrow.Author.Rules.{rules}
+use Rattle.stack.proofs.TracedRoll.{paste_none, paste-turn, pastes-all}
 use Rattle.stack.proofs.places.paste.Goals as goal
 
 pub loop-i-init : goal.loop-i-init

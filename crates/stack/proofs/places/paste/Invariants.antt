@@ -1,8 +1,7 @@
 -- `paste`: the first i columns of `from` stand where they belong, the others of r are as they were (`Pasting`). What is left of n is the
 -- measure.
 use Prim.Native.Nat.{◌-◌}
-use Rattle.stack.proofs.TracedRoll.{Pasting, paste_none, paste-turn, pastes-all}
-use borrow.Author.Rules.{rules}
+use Rattle.stack.proofs.TracedRoll.{Pasting}
 use Rattle.stack.proofs.places.paste.Given as goal
 
 abbrev pub invariant-loop-i : goal.invariant-loop-i

@@ -1,7 +1,6 @@
 -- `roll_places`: the first k of the top m go behind the others: those others are pasted to the front, then the first k behind them. What
 -- full turns n has does not matter (`rolls-all`).
 use Rattle.stack.proofs.TracedRoll.{rolls-all}
-use borrow.Author.Rules.{rules}
 use Rattle.stack.proofs.places.roll_places.Goals as goal
 
 pub returns : goal.returns

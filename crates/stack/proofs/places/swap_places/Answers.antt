@@ -1,6 +1,5 @@
 -- `swap_places`: a top above 62 means fewer than two columns, and nothing is exchanged; else the two columns at the top are.
 use Rattle.stack.proofs.TracedRoll.{swaps-few, swaps-some}
-use borrow.Author.Rules.{rules}
 use Rattle.stack.proofs.places.swap_places.Goals as goal
 
 pub returns-then-top-gt62 : goal.returns-then-top-gt62

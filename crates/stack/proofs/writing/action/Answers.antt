@@ -5,7 +5,6 @@ use Rattle.numbers.proofs.InTurn.{room_as, as_written}
 use Rattle.numbers.proofs.Listed.{put_written}
 use Rattle.stack.proofs.LastAction.{the_last}
 use Rattle.stack.proofs.Texts.{text-push, text-pop, text-flip, text-roll, text-unroll, text-swap, text-drop}
-use borrow.Author.Rules.{rules}
 use Rattle.stack.proofs.writing.action.Goals as goal
 
 pub put-requires : goal.put-requires

@@ -1,7 +1,6 @@
 -- `write_words`: the text is the action's name and key, and then the numbers with commas between; a swap and a drop have none, so theirs
 -- ends there.
 use Rattle.stack.proofs.Texts.{action-room, list-room, words-written}
-use borrow.Author.Rules.{rules}
 use Rattle.stack.proofs.writing.write_words.Goals as goal
 
 pub action-e-requires : goal.action-e-requires

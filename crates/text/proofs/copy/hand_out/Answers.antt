@@ -2,7 +2,6 @@
 -- buffer's front on and leaves the rest.
 use mathlib.Core.Path.{refl}
 use Rattle.laws_text.specs.Entry.{lends-no-room, lends-text}
-use borrow.Author.Rules.{rules}
 use Rattle.text.proofs.copy.hand_out.Goals as goal
 
 pub returns-then-out-answer : goal.returns-then-out-answer

@@ -1,7 +1,7 @@
 use mathlib.Core.List.{◌++◌, ◌∷◌}
-use Prim.Native.Nat.{◌≤◌, ◌-◌, ◌+◌}
+use Prim.Native.Nat.{◌+◌}
 use native.Mathlib.Omega.{arith}
-use lib.ListN.{length, take, drop, get_or, drop_of_length-le}
+use lib.ListN.{take, drop, get_or, drop_of_length-le}
 use Rattle.text.proofs.Wrote.{Sofar, sofar-at, sofar-byte, sofar-length, sofar-room, sofar-end, drop-next}
 use borrow.Author.Rules.{rules}
 use Rattle.text.proofs.copy.put.Goals as goal

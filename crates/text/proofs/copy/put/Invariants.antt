@@ -1,11 +1,9 @@
 -- `put`: the first j bytes of src are written from `at` on, and the others are to come (`Sofar`). Each turn writes one, so what is left of
 -- src is the measure.
-use mathlib.Core.List.{◌++◌, ◌∷◌}
-use Prim.Native.Nat.{◌≤◌, ◌-◌, ◌+◌}
-use native.Mathlib.Omega.{arith}
-use lib.ListN.{length, take, drop, get_or, drop_of_length-le}
-use Rattle.text.proofs.Wrote.{Sofar, sofar-at, sofar-byte, sofar-length, sofar-room, sofar-end, drop-next}
-use borrow.Author.Rules.{rules}
+use mathlib.Core.List.{◌++◌}
+use Prim.Native.Nat.{◌≤◌, ◌-◌}
+use lib.ListN.{length, take, drop}
+use Rattle.text.proofs.Wrote.{Sofar}
 use Rattle.text.proofs.copy.put.Given as goal
 
 abbrev pub invariant-loop-j : goal.invariant-loop-j

@@ -1,10 +1,7 @@
 use mathlib.Core.Path.{◌∙◌}
-use Prim.Native.Nat.{◌-◌}
 use native.Mathlib.Omega.{arith}
-use lib.ListN.{length}
-use Rattle.text.proofs.Replaced.{Replacing, replacing-none, replacing-order, replacing-part-room, replacing-fits, replacing-room, replacing-again, replacing-end}
+use Rattle.text.proofs.Replaced.{replacing-none, replacing-order, replacing-part-room, replacing-fits, replacing-room, replacing-again, replacing-end}
 use Rattle.text.proofs.Wrote.{sofar-length}
-use borrow.Author.Rules.{rules}
 use Rattle.text.proofs.copy.replace_from.Goals as goal
 
 pub loop-k-init : goal.loop-k-init

@@ -2,7 +2,6 @@
 use mathlib.Core.Path.{refl, sym, ◌∙◌}
 use borrow.Author.Tests.{lt-ltb, le-ltb, not-true, not-false}
 use Rattle.laws_text.specs.Entry.{first_refusal}
-use borrow.Author.Rules.{rules}
 use Rattle.text.proofs.domain.first_refusal.Goals as goal
 
 pub returns-then-text-gt-MOST : goal.returns-then-text-gt-MOST

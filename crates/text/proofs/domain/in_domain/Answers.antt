@@ -1,9 +1,6 @@
 use mathlib.Core.Path.{sym, ◌∙◌}
-use Prim.Native.Nat.{◌-◌}
 use native.Mathlib.Omega.{arith}
-use lib.ListN.{length}
-use Rattle.text.proofs.InDomain.{Scanning, scanning-from, scanning-on, scanning-ascii, scanning-fits, scanning-digit, scanning-stop, scanning-end}
-use borrow.Author.Rules.{rules}
+use Rattle.text.proofs.InDomain.{scanning-from, scanning-on, scanning-ascii, scanning-fits, scanning-digit, scanning-stop, scanning-end}
 use Rattle.text.proofs.domain.in_domain.Goals as goal
 
 pub loop-i-init : goal.loop-i-init

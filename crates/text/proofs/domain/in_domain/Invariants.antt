@@ -1,11 +1,8 @@
 -- `in_domain`: what stands before i is in the domain, so the bytes from i on decide (`Scanning`). A turn passes an ASCII byte, or a whole
 -- digit and the ASCII behind it; what is left of s is the measure.
-use mathlib.Core.Path.{sym, ◌∙◌}
 use Prim.Native.Nat.{◌-◌}
-use native.Mathlib.Omega.{arith}
 use lib.ListN.{length}
-use Rattle.text.proofs.InDomain.{Scanning, scanning-from, scanning-on, scanning-ascii, scanning-fits, scanning-digit, scanning-stop, scanning-end}
-use borrow.Author.Rules.{rules}
+use Rattle.text.proofs.InDomain.{Scanning}
 use Rattle.text.proofs.domain.in_domain.Given as goal
 
 abbrev pub invariant-loop-i : goal.invariant-loop-i

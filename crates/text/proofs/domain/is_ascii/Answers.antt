@@ -1,6 +1,4 @@
-use Prim.Native.Nat.{◌-◌}
-use Rattle.text.proofs.InDomain.{Clearing, clearing-none, clearing-next, clearing-not, clearing-end}
-use borrow.Author.Rules.{rules}
+use Rattle.text.proofs.InDomain.{clearing-none, clearing-next, clearing-not, clearing-end}
 use Rattle.text.proofs.domain.is_ascii.Goals as goal
 
 pub loop-j-init : goal.loop-j-init

@@ -1,8 +1,7 @@
 -- `is_ascii`: every byte up to j is ASCII, or it is said that not every one is (`Clearing`). Each turn passes one byte: `to - j` is the
 -- measure.
 use Prim.Native.Nat.{◌-◌}
-use Rattle.text.proofs.InDomain.{Clearing, clearing-none, clearing-next, clearing-not, clearing-end}
-use borrow.Author.Rules.{rules}
+use Rattle.text.proofs.InDomain.{Clearing}
 use Rattle.text.proofs.domain.is_ascii.Given as goal
 
 abbrev pub invariant-loop-j : goal.invariant-loop-j

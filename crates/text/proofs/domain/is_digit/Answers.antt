@@ -3,7 +3,6 @@
 use mathlib.Core.Path.{sym}
 use borrow.Author.Tests.{eq-eqb, ne_eqb, lt-leb, le-leb}
 use Rattle.text.proofs.InDomain.{digit-at, digit-short}
-use borrow.Author.Rules.{rules}
 use Rattle.text.proofs.domain.is_digit.Goals as goal
 
 pub returns-then-s-i-lt3 : goal.returns-then-s-i-lt3

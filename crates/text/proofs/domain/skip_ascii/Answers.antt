@@ -1,8 +1,4 @@
-use Prim.Native.Nat.{◌-◌}
-use lib.ListN.{length}
-use Rattle.text.specs.Domain.{Clear}
 use Rattle.text.proofs.InDomain.{clear_none, clear-on}
-use borrow.Author.Rules.{rules}
 use Rattle.text.proofs.domain.skip_ascii.Goals as goal
 
 pub loop-i-init : goal.loop-i-init

@@ -3,8 +3,6 @@
 use Prim.Native.Nat.{◌-◌}
 use lib.ListN.{length}
 use Rattle.text.specs.Domain.{Clear}
-use Rattle.text.proofs.InDomain.{clear_none, clear-on}
-use borrow.Author.Rules.{rules}
 use Rattle.text.proofs.domain.skip_ascii.Given as goal
 
 abbrev pub invariant-loop-i : goal.invariant-loop-i

@@ -1,7 +1,5 @@
 use mathlib.Core.Path.{sym, ◌∙◌}
-use Rattle.text.proofs.Trimmed.{Ending, ending-none, ending-cut, ending_here, ending-end}
-use Rattle.text.specs.Places.{cut_by}
-use borrow.Author.Rules.{rules}
+use Rattle.text.proofs.Trimmed.{ending-none, ending-cut, ending_here, ending-end}
 use Rattle.text.proofs.ends.end_of.Goals as goal
 
 pub loop-k-init : goal.loop-k-init

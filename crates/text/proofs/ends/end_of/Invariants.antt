@@ -1,8 +1,6 @@
 -- `end_of`: the first k bytes trim to what s trims to, since each byte from k on goes (`Ending`). k itself is the measure.
-use mathlib.Core.Path.{sym, ◌∙◌}
-use Rattle.text.proofs.Trimmed.{Ending, ending-none, ending-cut, ending_here, ending-end}
+use Rattle.text.proofs.Trimmed.{Ending}
 use Rattle.text.specs.Places.{cut_by}
-use borrow.Author.Rules.{rules}
 use Rattle.text.proofs.ends.end_of.Given as goal
 
 abbrev pub invariant-loop-k : goal.invariant-loop-k

@@ -1,5 +1,4 @@
 -- `is_cut`: each arm knows which edge it has, and there `cut_by` is just the arm's test.
-use borrow.Author.Rules.{rules}
 use Rattle.text.proofs.ends.is_cut.Goals as goal
 
 pub returns-in-White : goal.returns-in-White

@@ -1,9 +1,5 @@
 use mathlib.Core.Path.{sym, ◌∙◌}
-use Prim.Native.Nat.{◌-◌}
-use lib.ListN.{length}
-use Rattle.text.proofs.Trimmed.{Starting, starting-none, starting-cut, starting-here, starting-end}
-use Rattle.text.specs.Places.{cut_by}
-use borrow.Author.Rules.{rules}
+use Rattle.text.proofs.Trimmed.{starting-none, starting-cut, starting-here, starting-end}
 use Rattle.text.proofs.ends.start_of.Goals as goal
 
 pub loop-i-init : goal.loop-i-init

@@ -1,10 +1,8 @@
 -- `start_of`: what stands from i on trims to what s trims to, since each byte before i goes (`Starting`). What is left of s is the measure.
-use mathlib.Core.Path.{sym, ◌∙◌}
 use Prim.Native.Nat.{◌-◌}
 use lib.ListN.{length}
-use Rattle.text.proofs.Trimmed.{Starting, starting-none, starting-cut, starting-here, starting-end}
+use Rattle.text.proofs.Trimmed.{Starting}
 use Rattle.text.specs.Places.{cut_by}
-use borrow.Author.Rules.{rules}
 use Rattle.text.proofs.ends.start_of.Given as goal
 
 abbrev pub invariant-loop-i : goal.invariant-loop-i

@@ -2,7 +2,6 @@
 use mathlib.Core.Path.{sym}
 use lib.Seq.{length-take-le}
 use Rattle.text.proofs.Trimmed.{trimmed-is}
-use borrow.Author.Rules.{rules}
 use Rattle.text.proofs.ends.trim.Goals as goal
 
 pub slice_bounds-result-end : goal.slice_bounds-result-end

@@ -1,6 +1,5 @@
 -- `is_lead`: nothing but white space stands behind the modifiers in front just where all words are modifiers (`lead-all`).
 use Rattle.text.proofs.Lead.{lead-all}
-use borrow.Author.Rules.{rules}
 use Rattle.text.proofs.modifiers.is_lead.Goals as goal
 
 pub returns : goal.returns

@@ -2,7 +2,6 @@
 use mathlib.Core.Path.{sym, ◌∙◌}
 use Rattle.rules.specs.Text.Split.{modifier}
 use Rattle.rules.specs.Text.Ascii.{ascii}
-use borrow.Author.Rules.{rules}
 use Rattle.text.proofs.modifiers.is_modifier.Goals as goal
 
 pub returns-then-is_same : goal.returns-then-is_same

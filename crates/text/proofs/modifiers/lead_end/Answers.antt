@@ -1,9 +1,6 @@
 use mathlib.Core.Path.{sym, ◌∙◌}
-use Prim.Native.Nat.{◌-◌}
 use native.Mathlib.Omega.{arith}
-use lib.ListN.{length}
-use Rattle.text.proofs.Lead.{Leads, leads-none, leads-longer, leads-more, leads-here, leads-end}
-use borrow.Author.Rules.{rules}
+use Rattle.text.proofs.Lead.{leads-none, leads-longer, leads-more, leads-here, leads-end}
 use Rattle.text.proofs.modifiers.lead_end.Goals as goal
 
 pub loop-k-init : goal.loop-k-init

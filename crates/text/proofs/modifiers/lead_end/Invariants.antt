@@ -1,11 +1,8 @@
 -- `lead_end`: up to k stand modifiers alone, and a word ends there (`Leads`). A turn passes a modifier more, which has a byte at least, so
 -- what is left of s is the measure. The first word that is none, or the end of s, is where those in front end.
-use mathlib.Core.Path.{sym, ◌∙◌}
 use Prim.Native.Nat.{◌-◌}
-use native.Mathlib.Omega.{arith}
 use lib.ListN.{length}
-use Rattle.text.proofs.Lead.{Leads, leads-none, leads-longer, leads-more, leads-here, leads-end}
-use borrow.Author.Rules.{rules}
+use Rattle.text.proofs.Lead.{Leads}
 use Rattle.text.proofs.modifiers.lead_end.Given as goal
 
 abbrev pub invariant-loop-k : goal.invariant-loop-k

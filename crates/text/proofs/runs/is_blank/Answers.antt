@@ -1,8 +1,5 @@
 use mathlib.Core.Path.{sym, ◌∙◌}
-use Prim.Native.Nat.{◌-◌}
-use lib.ListN.{length}
-use Rattle.text.proofs.RunEnd.{Blank, blank_none, blank-white, blank-not, blank-end}
-use borrow.Author.Rules.{rules}
+use Rattle.text.proofs.RunEnd.{blank_none, blank-white, blank-not, blank-end}
 use Rattle.text.proofs.runs.is_blank.Goals as goal
 
 pub loop-i-init : goal.loop-i-init

@@ -1,9 +1,7 @@
 -- `is_blank`: before i stands white space alone, so the bytes from i on decide (`Blank`). What is left of s is the measure.
-use mathlib.Core.Path.{sym, ◌∙◌}
 use Prim.Native.Nat.{◌-◌}
 use lib.ListN.{length}
-use Rattle.text.proofs.RunEnd.{Blank, blank_none, blank-white, blank-not, blank-end}
-use borrow.Author.Rules.{rules}
+use Rattle.text.proofs.RunEnd.{Blank}
 use Rattle.text.proofs.runs.is_blank.Given as goal
 
 abbrev pub invariant-loop-i : goal.invariant-loop-i

@@ -1,7 +1,6 @@
 -- `is_of`: each arm knows which kind it has, and there `is_of` is just the arm's test.
 use mathlib.Core.Path.{ap}
 use mathlib.Core.Bool.{not}
-use borrow.Author.Rules.{rules}
 use Rattle.text.proofs.runs.is_of.Goals as goal
 
 pub returns-in-Piece : goal.returns-in-Piece

@@ -1,8 +1,5 @@
-use Prim.Native.Nat.{◌-◌}
 use native.Mathlib.Omega.{arith}
-use lib.ListN.{length}
-use Rattle.text.proofs.RunEnd.{Same, same-unlike, same_none, same_more, same_differs, same_end}
-use borrow.Author.Rules.{rules}
+use Rattle.text.proofs.RunEnd.{same-unlike, same_none, same_more, same_differs, same_end}
 use Rattle.text.proofs.runs.is_same.Goals as goal
 
 pub returns-then-a-b : goal.returns-then-a-b

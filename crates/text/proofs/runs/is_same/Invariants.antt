@@ -1,10 +1,8 @@
 -- `is_same`: texts of unlike length differ. Of others the first i bytes are alike, so those from i on decide (`Same`); what is left of a is
 -- the measure.
 use Prim.Native.Nat.{◌-◌}
-use native.Mathlib.Omega.{arith}
 use lib.ListN.{length}
-use Rattle.text.proofs.RunEnd.{Same, same-unlike, same_none, same_more, same_differs, same_end}
-use borrow.Author.Rules.{rules}
+use Rattle.text.proofs.RunEnd.{Same}
 use Rattle.text.proofs.runs.is_same.Given as goal
 
 abbrev pub invariant-loop-i : goal.invariant-loop-i

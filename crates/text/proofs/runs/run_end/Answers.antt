@@ -1,9 +1,5 @@
 use mathlib.Core.Path.{sym, ◌∙◌}
-use Prim.Native.Nat.{◌-◌}
-use lib.ListN.{length}
-use Rattle.text.specs.Runs.{is_of}
-use Rattle.text.proofs.RunEnd.{Scan, scan-none, scan-next, scan-here, scan-end}
-use borrow.Author.Rules.{rules}
+use Rattle.text.proofs.RunEnd.{scan-none, scan-next, scan-here, scan-end}
 use Rattle.text.proofs.runs.run_end.Goals as goal
 
 pub loop-i-init : goal.loop-i-init

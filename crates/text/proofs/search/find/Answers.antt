@@ -1,10 +1,6 @@
 use mathlib.Core.Path.{sym, ◌∙◌}
-use Prim.Native.Nat.{◌-◌}
 use native.Mathlib.Omega.{arith}
-use lib.ListN.{length}
-use Rattle.text.specs.Places.{Passed}
 use Rattle.text.proofs.Finds.{passed-next, passed-other, passed_on, passed_here, passed-end}
-use borrow.Author.Rules.{rules}
 use Rattle.text.proofs.search.find.Goals as goal
 
 pub loop-i-init : goal.loop-i-init

@@ -1,12 +1,8 @@
 -- `find`: no `old` begins from `from` up to i (`Passed`). A turn passes the place i, and what `skip` passes behind it, or ends where `old`
 -- stands. What is left of src is the measure.
-use mathlib.Core.Path.{sym, ◌∙◌}
 use Prim.Native.Nat.{◌-◌}
-use native.Mathlib.Omega.{arith}
 use lib.ListN.{length}
 use Rattle.text.specs.Places.{Passed}
-use Rattle.text.proofs.Finds.{passed-next, passed-other, passed_on, passed_here, passed-end}
-use borrow.Author.Rules.{rules}
 use Rattle.text.proofs.search.find.Given as goal
 
 abbrev pub invariant-loop-i : goal.invariant-loop-i

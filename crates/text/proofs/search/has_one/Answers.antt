@@ -1,7 +1,4 @@
-use mathlib.Core.List.{[], ◌∷◌}
-use Prim.Native.Nat.{◌-◌}
-use Rattle.text.proofs.Finds.{Seeking, seeking-none, seeking-found, seeking-one, seeking-end}
-use borrow.Author.Rules.{rules}
+use Rattle.text.proofs.Finds.{seeking-none, seeking-found, seeking-one, seeking-end}
 use Rattle.text.proofs.search.has_one.Goals as goal
 
 pub loop-j-init : goal.loop-j-init

@@ -2,8 +2,7 @@
 -- the measure.
 use mathlib.Core.List.{[], ◌∷◌}
 use Prim.Native.Nat.{◌-◌}
-use Rattle.text.proofs.Finds.{Seeking, seeking-none, seeking-found, seeking-one, seeking-end}
-use borrow.Author.Rules.{rules}
+use Rattle.text.proofs.Finds.{Seeking}
 use Rattle.text.proofs.search.has_one.Given as goal
 
 abbrev pub invariant-loop-j : goal.invariant-loop-j

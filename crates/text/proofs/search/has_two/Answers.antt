@@ -1,8 +1,5 @@
-use mathlib.Core.List.{[], ◌∷◌}
-use Prim.Native.Nat.{◌-◌}
 use native.Mathlib.Omega.{arith}
-use Rattle.text.proofs.Finds.{Seeking, seeking-none, seeking-found, seeking-two, seeking-end}
-use borrow.Author.Rules.{rules}
+use Rattle.text.proofs.Finds.{seeking-none, seeking-found, seeking-two, seeking-end}
 use Rattle.text.proofs.search.has_two.Goals as goal
 
 pub loop-j-init : goal.loop-j-init

@@ -2,9 +2,7 @@
 -- is the measure.
 use mathlib.Core.List.{[], ◌∷◌}
 use Prim.Native.Nat.{◌-◌}
-use native.Mathlib.Omega.{arith}
-use Rattle.text.proofs.Finds.{Seeking, seeking-none, seeking-found, seeking-two, seeking-end}
-use borrow.Author.Rules.{rules}
+use Rattle.text.proofs.Finds.{Seeking}
 use Rattle.text.proofs.search.has_two.Given as goal
 
 abbrev pub invariant-loop-j : goal.invariant-loop-j

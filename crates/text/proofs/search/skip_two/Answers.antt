@@ -1,8 +1,4 @@
-use Prim.Native.Nat.{◌-◌}
-use lib.ListN.{length}
-use Rattle.text.specs.Places.{Passed}
 use Rattle.text.proofs.Finds.{passed_none, passed_on, passed-by, starts-two}
-use borrow.Author.Rules.{rules}
 use Rattle.text.proofs.search.skip_two.Goals as goal
 
 pub loop-i-init : goal.loop-i-init

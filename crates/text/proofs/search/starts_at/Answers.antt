@@ -1,7 +1,5 @@
 use mathlib.Core.Path.{sym}
-use Prim.Native.Nat.{◌-◌}
-use lib.ListN.{length}
-use Rattle.text.proofs.Finds.{Matching, matching-none, matching-short, matching-other, matching-more, matching-all}
+use Rattle.text.proofs.Finds.{matching-none, matching-short, matching-other, matching-more, matching-all}
 use borrow.Author.Rules.{rules}
 use Rattle.text.proofs.search.starts_at.Goals as goal
 

@@ -1,9 +1,7 @@
 -- `starts_at`: the first j bytes of `old` stand at `at`, so the others decide (`Matching`). What is left of `old` is the measure.
-use mathlib.Core.Path.{sym}
 use Prim.Native.Nat.{◌-◌}
 use lib.ListN.{length}
-use Rattle.text.proofs.Finds.{Matching, matching-none, matching-short, matching-other, matching-more, matching-all}
-use borrow.Author.Rules.{rules}
+use Rattle.text.proofs.Finds.{Matching}
 use Rattle.text.proofs.search.starts_at.Given as goal
 
 abbrev pub invariant-loop-j : goal.invariant-loop-j

@@ -1,11 +1,8 @@
 use mathlib.Core.Path.{sym, ◌∙◌}
-use Prim.Native.Nat.{◌-◌}
 use native.Mathlib.Omega.{arith}
-use lib.ListN.{length}
 use Rattle.text.proofs.Wrote.{sofar-length}
-use Rattle.text.proofs.Squeezed.{Squeezing, squeezing-none, squeezing-white, squeezing-after, squeezing-word-room}
+use Rattle.text.proofs.Squeezed.{squeezing-none, squeezing-white, squeezing-after, squeezing-word-room}
 use Rattle.text.proofs.Squeezed.{squeezing-word, squeezing-space-room, squeezing-space-room-2, squeezing-space, squeezing-end}
-use borrow.Author.Rules.{rules}
 use Rattle.text.proofs.white.squeeze_into.Goals as goal
 
 pub loop-i-init : goal.loop-i-init

@@ -3,7 +3,6 @@ use Rattle.write.proofs.Marks.{mark_set, mark-not}
 use Rattle.numbers.proofs.Listed.{put_written}
 use Rattle.numbers.proofs.InTurn.{room_as, as_written, none_written}
 use mathlib.Core.Path.{sym}
-use borrow.Author.Rules.{rules}
 use Rattle.write.proofs.words.marked.Goals as goal
 
 pub put-requires : goal.put-requires

@@ -1,6 +1,5 @@
 -- `marks`: the text of the marks is that of each of the three behind the one before, so the calls write it part by part.
 use Rattle.write.proofs.Marks.{first-mark, mark-second, mark-third, marks-written}
-use borrow.Author.Rules.{rules}
 use Rattle.write.proofs.words.marks.Goals as goal
 
 pub marked-a-requires : goal.marked-a-requires

@@ -1,10 +1,10 @@
 -- `step`: a record's text is its operator's words and then its marks (`writing`); a record that passes `made` has arguments that keep their
 -- rule, and no more of them than slots.
 use mathlib.Core.Path.{◌≡◌}
-use mathlib.Core.Path.{sym, ◌∙◌}
+use mathlib.Core.Path.{sym}
 use Prim.Native.Nat.{◌≤◌}
 use native.Mathlib.Omega.{arith}
-use lib.ListN.{length, length-map}
+use lib.ListN.{length}
 use lib.Seq.{length-take-le}
 use Rattle.rules.specs.Pipeline.Record.{operator, args}
 use Rattle.laws_records.specs.MadeSo.{made_so}

@@ -4,7 +4,6 @@ use Prim.Native.Nat.{◌<◌}
 use native.Mathlib.Omega.{arith}
 use Rattle.numbers.proofs.InTurn.{room_as, as_written}
 use Rattle.write.proofs.OperatorTexts.{flags-rule, order-text, documented-rule, documented-text, adapt-rule, adapt-text}
-use borrow.Author.Rules.{rules}
 use Rattle.write.proofs.words.words.Goals as goal
 
 pub write_words-requires : goal.write_words-requires
@@ -17,7 +16,7 @@ pub write_words-requires-in-0 : goal.write_words-requires-in-0
 write_words-requires-in-0 c = record { operator_bound = omega arith; l_value = flags-rule _ _ (omega arith) c.requires.l_value; room = c.requires.room }
 
 pub write_words-requires-in_default : goal.write_words-requires-in_default
-write_words-requires-in_default c = 
+write_words-requires-in_default c =
     let over : 8 < c.args.operator = omega arith in record { l_value = adapt-rule _ _ over c.in_default.in_default-own.rest.0.1 c.in_default.in_default-own.rest.1 c.requires.l_value; room = room_as (sym (adapt-text _ _ over c.in_default.in_default-own.rest.0.1 c.in_default.in_default-own.rest.1)) c.requires.room }
 
 pub returns-in-9 : goal.returns-in-9

@@ -1,0 +1,2 @@
+-- The proof of every promise of specs/.
+pub mod Kept
