@@ -1,6 +1,6 @@
 /* Sakondreno: coordinate pipelines, read, checked and run.
  *
- * Link with libsakondreno.a (`rt staticlib sakondreno` makes it in target/staticlib; for x86-64).
+ * Link with libsakondreno.a (tools/staticlib makes it in target/staticlib; for x86-64).
  *
  * WHO OWNS WHAT. Every call works in storage that the caller lends for the length of the call: it keeps no pointer and
  * allocates nothing. A pointer must be valid for the length given behind it, and what a call writes to must not overlap

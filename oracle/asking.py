@@ -11,7 +11,7 @@ import sys
 HERE = os.path.dirname(os.path.abspath(__file__))
 TOP = os.path.dirname(HERE)
 ORACLE = os.path.join(TOP, "target/oracle/oracle")
-ANSWERS = os.path.join(TOP, "target/bin/answers")
+ANSWERS = os.path.join(TOP, "crates/answers/out/answers")
 NATIVE = os.path.join(TOP, "target/native/answers")
 MODEL = os.path.join(TOP, "model/model.py")
 SUBSCRIPT = re.compile(rb"\xe2\x82[\x80-\x89]")
@@ -46,7 +46,7 @@ def rust(lines):
 
 
 def answers_command():
-    """The program is for x86-64: elsewhere it runs under the kit's emulator, as `rt` runs it."""
+    """The program, which `rt run` in crates/answers builds, is for x86-64: elsewhere it runs under an emulator, where the kit has one."""
     if platform.machine() == "x86_64":
         return [ANSWERS]
     kit = os.environ.get("RATTLE_HOME") or os.path.dirname(os.path.dirname(os.path.realpath(shutil.which("rt"))))
