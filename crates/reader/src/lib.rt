@@ -1,6 +1,5 @@
 // The walk over the steps of a normalised text: a reader that knows the text and its place in it. It is the one walk that there is; in the
-// Rust it is the `split` and the `filter` of `split_into_steps`, src/token/mod.rs. The two functions here are proved by hand. Whoever calls
-// the second, whose parameters are plain, needs no such proof.
+// Rust it is the `split` and the `filter` of `split_into_steps`, src/token/mod.rs. `next_from` is the same with plain parameters.
 #![tactic(auto)]
 
 mod walk;

@@ -1,5 +1,5 @@
 // A row of step records that the caller lends, and the table of 64 by value: the one read from the other, and the one
-// written from the other. The two functions over the row are proved by hand; what they call goes by value.
+// written from the other. What the two functions over the row call goes by value.
 #![tactic(auto)]
 
 ghost use Rattle.std.specs.Prelude.{◌≡◌};
