@@ -97,7 +97,7 @@ pub record Calls (w : World) : Type 1 where
       (λ l before r after. Lends (write (listed before.0)) before.1.0.now r after.1.0.now)
   pub write-step-keeps : Keeps w calls.write_step.ended calls-code.write_step.Symbol.code calls-code.write_step.Symbol.name
       (λ l before r after. Lends (write (before.0 ∷ [])) before.1.0.now r after.1.0.now)
-  -- the same for C and Rust, in the words of plain records
+  -- the same in the words of plain records: the functions that crates/sakondreno_c exports for C and Rust. Its proofs/Exports.antt says the same of the exports' own code
   pub sakondreno-normalise-keeps : Keeps w calls.sakondreno_normalise.ended calls-code.sakondreno_normalise.Symbol.code calls-code.sakondreno_normalise.Symbol.name
       (λ l before r after. Promised replied normalise before.0.now before.1.0.now r after.1.0.now)
   pub sakondreno-definition-keeps : Keeps w calls.sakondreno_definition.ended calls-code.sakondreno_definition.Symbol.code calls-code.sakondreno_definition.Symbol.name

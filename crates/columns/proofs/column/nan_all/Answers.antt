@@ -9,8 +9,5 @@ pub loop-k-preserved : goal.loop-k-preserved
 loop-k-preserved c =
     each_turn c.loop-k.invariant c.loop-k-test.true refl c.no_coord.ensures c.set_coord.auto.xs c.set_coord.ensures
 
--- ?? same_length : tie.Need-same-length invariant-loop decreases-loop
--- same_length c = c.before.loop.invariant.same_length
-
 pub returns : goal.returns
 returns c = each-end c.loop-k.invariant c.loop-k-test.false

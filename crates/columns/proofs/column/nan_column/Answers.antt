@@ -12,8 +12,5 @@ loop-k-preserved c =
     each_turn c.loop-k.invariant c.loop-k-test.true c.get_coord-c.ensures (c.with_number.ensures ∙ ap (λ (x : Float). put c.args.i x c.get_coord-c.result) c.not_a_number.ensures)
     c.set_coord.auto.xs c.set_coord.ensures
 
--- ?? same_length : tie.Need-same-length invariant-loop decreases-loop
--- same_length c = c.before.loop.invariant.same_length
-
 pub returns : goal.returns
 returns c = each-end c.loop-k.invariant c.loop-k-test.false

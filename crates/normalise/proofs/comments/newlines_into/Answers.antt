@@ -22,9 +22,6 @@ replace_into-n-requires c = record { nonzero = omega arith; src_in_bounds = once
 pub slice_bounds-replace_into-end-3 : goal.slice_bounds-replace_into-end-3
 slice_bounds-replace_into-end-3 c = wrote-fits c.replace_into-n.ensures
 
--- ?? slice-aggregate-replace-into-3 : tie.Need-slice-aggregate-replace-into-3
--- slice-aggregate-replace-into-3 c = wrote-counts c.before.before.before.replace-into.ensures
-
 pub replace_into-requires : goal.replace_into-requires
 replace_into-requires c = record { nonzero = omega arith; src_in_bounds = twice-room c.args.text.now c.replace_into-n.ensures c.requires.text_in_bounds_2 }
 

@@ -9,9 +9,6 @@ pub returns-then-a-eq1 : goal.returns-then-a-eq1
 unfolding ascii
 returns-then-a-eq1 c = fate-a-last (sym c.has_key.ensures ∙ c.if-has_key.true) c.if-a-eq1.true
 
--- ?? sub-t12 : tie.Need-overflow-sub-t12
--- sub-t12 c = omega arith
-
 pub returns-then-a-gt1 : goal.returns-then-a-gt1
 unfolding ascii
 returns-then-a-gt1 c = fate-a-more (sym c.has_key.ensures ∙ c.if-has_key.true) c.if-a-gt1.true
@@ -24,9 +21,6 @@ pub returns-then-rf-eq1 : goal.returns-then-rf-eq1
 unfolding ascii
 returns-then-rf-eq1 c =
     fate-rf-last (sym c.has_key.ensures ∙ c.if-has_key.false) (sym c.has_key-2.ensures ∙ c.if-has_key-2.true) c.if-rf-eq1.true
-
--- ?? sub-t17 : tie.Need-overflow-sub-t17
--- sub-t17 c = omega arith
 
 pub returns-then-rf-gt1 : goal.returns-then-rf-gt1
 unfolding ascii
