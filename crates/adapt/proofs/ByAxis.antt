@@ -1,7 +1,7 @@
 -- The documented mode: the outputs and codes that two words make, and the test of eight arguments, by what the code has found out.
 use mathlib.Core.Path.{◌≡◌, refl, sym}
 use Prim.Native.Nat.{ℕ, zero, suc, ◌+◌, ◌-◌, ◌≤◌, ◌<◌}
-use mathlib.Core.Bool.{Bool, beq, true, false, not, ◌&&◌, xor}
+use mathlib.Core.Bool.{Bool, beq, not, ◌&&◌, xor}
 use mathlib.Core.List.{List, [], ◌∷◌}
 use native.Mathlib.Omega.{arith}
 use borrow.Author.Tests.{eq-eqb, le-leb, lt-leb}
@@ -77,38 +77,6 @@ module _ (v w : Word) where
       → a ∷ b ∷ c ∷ d ∷ e ∷ f ∷ g ∷ h ∷ [] ≡ combined_by_axis (word_as v) (word_as w)
   unfolding combined_by_axis
   by-axis-so p q r s t u x y = rw (p, q, r, s, t, u, x, y)
-
--- ---- four codes
-
--- of a list of four, all by each
-four-codes : (l : List ℤ) → length l ≡ 4
-    → all_of is_code l ≡ (is_code (get_or l 0 (pos 0)) && (is_code (get_or l 1 (pos 0)) && (is_code (get_or l 2 (pos 0)) && (is_code (get_or l 3 (pos 0)) && true))))
-unfolding all_of
-four-codes (a ∷ b ∷ c ∷ d ∷ []) h = refl
-four-codes [] h = absurd (omega (arith, h))
-four-codes (a ∷ []) h = absurd (omega (arith, h))
-four-codes (a ∷ b ∷ []) h = absurd (omega (arith, h))
-four-codes (a ∷ b ∷ c ∷ []) h = absurd (omega (arith, h))
-four-codes (a ∷ b ∷ c ∷ d ∷ e ∷ l) h = absurd (omega (arith, h))
-
-and-true : (a : Bool) → (a && true) ≡ a
-and-true true = refl
-and-true false = refl
-
-module _ (l : List ℤ) (four : length l ≡ 4) {a : Bool} (e : a ≡ is_code (get_or l 0 (pos 0))) where
-  pub codes-1 : a ≡ false → false ≡ all_of is_code l
-  codes-1 h = sym (rw (four-codes l four, ← e, h) refl)
-
-  module _ (h : a ≡ true) {b : Bool} (f : b ≡ is_code (get_or l 1 (pos 0))) where
-    pub codes-2 : b ≡ false → false ≡ all_of is_code l
-    codes-2 k = sym (rw (four-codes l four, ← e, h, ← f, k) refl)
-
-    module _ (k : b ≡ true) {c : Bool} (g : c ≡ is_code (get_or l 2 (pos 0))) where
-      pub codes-3 : c ≡ false → false ≡ all_of is_code l
-      codes-3 m = sym (rw (four-codes l four, ← e, h, ← f, k, ← g, m) refl)
-
-      pub codes-4 : c ≡ true → {d : Bool} → d ≡ is_code (get_or l 3 (pos 0)) → d ≡ all_of is_code l
-      codes-4 m {d} n = sym (rw (four-codes l four, ← e, h, ← f, k, ← g, m, ← n) (and-true d))
 
 -- ---- all eight
 

@@ -1,17 +1,17 @@
--- A loop that looks for the first of its kind answers its place, counted from 1: so a letter is found among letters, and a
--- size among axes.
-use mathlib.Core.Path.{◌≡◌, refl, sym, ap, ◌∙◌}
-use Prim.Native.Nat.{ℕ, suc, ◌+◌, ◌≤◌, ◌<◌}
+-- The place of the first of its kind, counted from 1: so a letter is found among letters, and a size among axes.
+use mathlib.Core.Path.{◌≡◌, refl, sym, ◌∙◌}
+use Prim.Native.Nat.{ℕ, suc, ◌+◌, ◌≤◌}
 use mathlib.Core.Bool.{Bool, true, false}
 use mathlib.Core.List.{List, [], ◌∷◌}
-use native.Mathlib.Numerals.{add-one}
 use native.Mathlib.Omega.{arith}
 use lib.Dec.{eqb}
 use lib.IntN.{ℤ}
-use lib.ListN.{length, drop, get_or}
+use lib.ListN.{length}
 use Rattle.rules.specs.Operators.Arguments.{size}
-use Rattle.rules.specs.Operators.Adapt.{place_in, position}
-use Rattle.numbers.proofs.Rest.{Rest, rest-next, rest-here, rest_end}
+use Rattle.rules.specs.Operators.Adapt as adapt
+use Rattle.std.specs.Prelude.{Option, Some, None, cond, ltb}
+use Rattle.std.proofs.lemmas.Bool.Decides.{nat_tests}
+use Rattle.std.specs.List.{position, position_or_len}
 
 -- what answers the place of the first that passes a test, counted from i, and 0 where none does
 pub record Finds {A : Type 0} (test : A → Bool) (find : ℕ → List A → ℕ) : Type 0 where
@@ -20,20 +20,30 @@ pub record Finds {A : Type 0} (test : A → Bool) (find : ℕ → List A → ℕ
   pub further : (i : ℕ) (x : A) (l : List A) → test x ≡ false → find i (x ∷ l) ≡ find (suc i) l
 
 module _ {A : Type 0} {test : A → Bool} {find : ℕ → List A → ℕ} (f : Finds test find) where
-  module _ {l : List A} {i whole : ℕ} where
-    -- it is the next
-    pub place_here : (d : A) → Rest (find (suc i)) l i whole → i < length l → test (get_or l i d) ≡ true → i + 1 ≡ whole
-    place_here d r h e = rest-here d r h (f.here (suc i) _ _ e ∙ sym (add-one i))
+  -- counted from 1 it is one more than the library's place
+  found-from : (i : ℕ) (l : List A) → find (suc i) l ≡ cond (ltb (position_or_len test l) (length l)) (suc i + position_or_len test l) 0
+  found-from i [] = f.nowhere (suc i)
+  found-from i (x ∷ l) = go (test x) refl (found-from (suc i) l)
+    where
+      go : (b : Bool) → test x ≡ b → find (suc (suc i)) l ≡ cond (ltb (position_or_len test l) (length l)) (suc (suc i) + position_or_len test l) 0
+          → find (suc i) (x ∷ l) ≡ cond (ltb (position_or_len test (x ∷ l)) (suc (length l))) (suc i + position_or_len test (x ∷ l)) 0
+      go true e h = let k = f.here (suc i) x l e in rw e (grind (arith, nat_tests))
+      go false e h = let k = f.further (suc i) x l e in rw e (grind (arith, nat_tests))
 
-    -- it is further on
-    pub place-on : (d : A) → Rest (find (suc i)) l i whole → i < length l → test (get_or l i d) ≡ false → Rest (find (suc (i + 1))) l (i + 1) whole
-    place-on d r h e =
-        rest-next (find (suc (i + 1))) d r h
-        (f.further (suc i) _ _ e ∙ ap (λ (k : ℕ). find (suc k) (drop (suc i) l)) (sym (add-one i)))
+  module _ {l : List A} {r : Option ℕ} (e : r ≡ position test l) where
+    pub found : {i : ℕ} → r ≡ Some i → i + 1 ≡ find 1 l
+    found {i} h = go (ltb (position_or_len test l) (length l)) (sym h ∙ e) (found-from 0 l)
+      where
+        go : (b : Bool) → Some i ≡ cond b (Some (position_or_len test l)) None → find 1 l ≡ cond b (1 + position_or_len test l) 0 → i + 1 ≡ find 1 l
+        go true k w = let m : i ≡ position_or_len test l = cc in omega (arith, w, m)
+        go false k w = absurd (cc k)
 
-    -- it is nowhere
-    pub place_none : Rest (find (suc i)) l i whole → length l ≤ i → 0 ≡ whole
-    place_none r h = sym (f.nowhere (suc i)) ∙ rest_end r h
+    pub not_found : r ≡ None → 0 ≡ find 1 l
+    not_found h = go (ltb (position_or_len test l) (length l)) (sym h ∙ e) (found-from 0 l)
+      where
+        go : (b : Bool) → None ≡ cond b (Some (position_or_len test l)) None → find 1 l ≡ cond b (1 + position_or_len test l) 0 → 0 ≡ find 1 l
+        go true k w = absurd (cc k)
+        go false k w = sym w
 
   -- a place is at most the length
   most-from : (i : ℕ) (l : List A) → find (suc i) l ≤ i + length l
@@ -48,11 +58,11 @@ module _ {A : Type 0} {test : A → Bool} {find : ℕ → List A → ℕ} (f : F
   place-most l = omega (arith, most-from 0 l)
 
 -- a letter
-pub finds-letter : (b : ℕ) → Finds (eqb b) (λ i. place_in i b)
-unfolding place_in
+pub finds-letter : (b : ℕ) → Finds (eqb b) (λ i. adapt.place_in i b)
+unfolding adapt.place_in
 finds-letter b = record { nowhere = λ i. refl; here = λ i x l e. rw e; further = λ i x l e. rw e }
 
 -- a size
-pub finds-size : (n : ℕ) → Finds (λ (x : ℤ). eqb n (size x)) (λ i. position i n)
-unfolding position
+pub finds-size : (n : ℕ) → Finds (λ (x : ℤ). eqb n (size x)) (λ i. adapt.position i n)
+unfolding adapt.position
 finds-size n = record { nowhere = λ i. refl; here = λ i x l e. rw e; further = λ i x l e. rw e }

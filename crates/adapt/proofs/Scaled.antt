@@ -5,7 +5,7 @@ use mathlib.Core.Bool.{Bool, true, false}
 use mathlib.Core.List.{List, [], ◌∷◌, map}
 use native.Mathlib.Omega.{arith}
 use borrow.Author.Tests.{eqb-true}
-use lib.ListN.{length, take}
+use lib.ListN.{length, take, get_or}
 use lib.Dec.{eqb}
 use lib.IntN.{ℤ}
 use lib.Ieee.{Float, binary64, mul, div}
@@ -19,7 +19,6 @@ use Rattle.laws_lists.specs.Tests.{and_left, and_right}
 use Rattle.laws_records.specs.Operators.Adapt.Words.{Sized, order-sized}
 use Rattle.columns.specs.Coords.{slot, slot_at, slots_of, picked, placed}
 use Rattle.adapt.specs.Factors.{staying, all_staying, mults, overs, scaled_by, scaled, unscaled, scaled_if, factors_for, factors_by_axis}
-use Rattle.columns.specs.declared.slots.Slots.{Slots}
 use Rattle.columns.proofs.BySlot.{slot-number, slot-put}
 
 -- the first four arguments
@@ -96,8 +95,8 @@ module _ (l : List ℤ) (h : Ordered l) where
   places-sized = order-sized (arg 1 l) (arg 2 l) (arg 3 l) (arg 4 l) (rw (fours l h.long) at h.order)
 
   -- the slots of a step
-  abbrev slots : Slots
-  slots = record { s1 = slot (post l 1); s2 = slot (post l 2); s3 = slot (post l 3); s4 = slot (post l 4) }
+  abbrev slots : List ℕ
+  slots = slot (post l 1) ∷ slot (post l 2) ∷ slot (post l 3) ∷ slot (post l 4) ∷ []
 
   slots-made : slots_of (take 4 l) ≡ slots
   unfolding slots_of slot_at post
@@ -142,7 +141,7 @@ module _ (l : List ℤ) (h : Ordered l) where
     unfolding unscaled scaled_by placed overs mults adapted_by_axis number
     by-axis-unscaled = sent-one 4 (sent-one 3 (sent-one 2 (sent-one 1 refl)))
 
-  still-made : all_staying (slots.s1 + 1) (slots.s2 + 1) (slots.s3 + 1) (slots.s4 + 1) (mults l) ≡ noop l
+  still-made : all_staying (slot (post l 1) + 1) (slot (post l 2) + 1) (slot (post l 3) + 1) (slot (post l 4) + 1) (mults l) ≡ noop l
   unfolding all_staying staying noop stays mults post
   still-made =
       let s = places-sized in
@@ -158,8 +157,8 @@ map-own : (f : Coord → Coord) → ((c : Coord) → c ≡ f c) → (ts : List C
 map-own f e [] = refl
 map-own f e (t ∷ ts) = λ i. e t i ∷ map-own f e ts i
 
-module _ (l : List ℤ) (is : is_adapt l ≡ true) (o : Slots) (m : Coord) (b : Bool) (ts : List Coord) (named : o ≡ slots_of (take 4 l))
-    (made : m ≡ mults l) (still : b ≡ all_staying (o.s1 + 1) (o.s2 + 1) (o.s3 + 1) (o.s4 + 1) m) where
+module _ (l : List ℤ) (is : is_adapt l ≡ true) (o : List ℕ) (m : Coord) (b : Bool) (ts : List Coord) (named : o ≡ slots_of (take 4 l))
+    (made : m ≡ mults l) (still : b ≡ all_staying (get_or o 0 0 + 1) (get_or o 1 0 + 1) (get_or o 2 0 + 1) (get_or o 3 0 + 1) m) where
   h : Ordered l
   h = crates-ordered l is
 
@@ -167,7 +166,7 @@ module _ (l : List ℤ) (is : is_adapt l ≡ true) (o : Slots) (m : Coord) (b : 
   same = named ∙ slots-made l h
 
   noop-is : noop l ≡ b
-  noop-is = sym (still ∙ (λ i. all_staying ((same i).s1 + 1) ((same i).s2 + 1) ((same i).s3 + 1) ((same i).s4 + 1) (made i)) ∙ still-made l h)
+  noop-is = sym (still ∙ (λ i. all_staying (get_or (same i) 0 0 + 1) (get_or (same i) 1 0 + 1) (get_or (same i) 2 0 + 1) (get_or (same i) 3 0 + 1) (made i)) ∙ still-made l h)
 
   by-noop : (back : Bool) (c : Coord) → adapted_if b back l c ≡ adapted back l c
   unfolding adapted
@@ -192,7 +191,7 @@ module _ (l : List ℤ) (is : is_adapt l ≡ true) (o : Slots) (m : Coord) (b : 
 
 -- ---- in the documented mode
 
-module _ (l : List ℤ) (is : is_documented l ≡ true) (o : Slots) (m : Coord) (ts : List Coord) (named : o ≡ slots_of (take 4 l)) (made : m ≡ mults l) where
+module _ (l : List ℤ) (is : is_documented l ≡ true) (o : List ℕ) (m : Coord) (ts : List Coord) (named : o ≡ slots_of (take 4 l)) (made : m ≡ mults l) where
   axis-slots : o ≡ slots l (documented-ordered l is)
   axis-slots = named ∙ slots-made l (documented-ordered l is)
 

@@ -1,8 +1,8 @@
 -- A word is read by its letters and its ending: the first four bytes name its axes, and what is behind them its angle.
+use Rattle.std.specs.Prelude.{Option, None, Some}
 use mathlib.Core.Path.{◌≡◌, refl, sym, ap, ◌∙◌}
 use Prim.Native.Nat.{ℕ, ◌≤◌, ◌<◌}
 use mathlib.Core.Bool.{true, false, ◌&&◌, false≢true}
-use mathlib.Core.Option.{Option, none, some}
 use mathlib.Core.List.{List, [], ◌∷◌, map}
 use native.Mathlib.Omega.{arith}
 use borrow.Author.Tests.{lt-ltb, le-ltb}
@@ -17,9 +17,7 @@ use Rattle.rules.specs.Operators.Arguments.{is_order}
 use Rattle.rules.specs.Operators.Adapt.{place_in, axis, ending, word_of, word}
 use Rattle.laws_lists.specs.Tests.{never}
 use Rattle.adapt.specs.declared.words.Word.{Word}
-use Rattle.adapt.specs.declared.words.Ending.{Ending}
-use Rattle.adapt.specs.declared.words.Ending.TheVariants.{Angle, Other}
-use Rattle.adapt.specs.Words.{angle_of, Ends, plain_word, word_as, word_is, IsRead}
+use Rattle.adapt.specs.Words.{Ends, plain_word, word_as, word_is, IsRead}
 
 -- ---- an axis
 
@@ -58,49 +56,48 @@ not-nil [] h = absurd (h refl)
 not-nil (x ∷ t) h = refl
 
 module _ (t : Bytes) where
-  ends-in : (k : ℕ) → k ≤ 2 → ending t ≡ some k → Ends t (Angle k)
-  unfolding angle_of
+  ends-in : (k : ℕ) → k ≤ 2 → ending t ≡ Some k → Ends t (Some k)
   ends-in k h e = record { is = sym e; small = λ j f. let g : k ≡ j = cc f in omega arith }
 
-  pub ends-deg : same t (ascii "_deg") ≡ true → Ends t (Angle 1)
+  pub ends-deg : same t (ascii "_deg") ≡ true → Ends t (Some 1)
   unfolding ending
   ends-deg a = ends-in 1 (lit≤ tt) (rw a)
 
   module _ (a : same t (ascii "_deg") ≡ false) where
-    pub ends-gon : same t (ascii "_gon") ≡ true → Ends t (Angle 2)
+    pub ends-gon : same t (ascii "_gon") ≡ true → Ends t (Some 2)
     unfolding ending
     ends-gon b = ends-in 2 (lit≤ tt) (rw (a, b))
 
     module _ (b : same t (ascii "_gon") ≡ false) where
-      pub ends-none : length t ≡ 0 → Ends t (Angle 0)
+      pub ends-none : length t ≡ 0 → Ends t (Some 0)
       unfolding ending
       ends-none h = ends-in 0 (lit≤ tt) (rw (a, b, same-nil t h))
 
       module _ (h : length t ≡ 0 → ⊥) where
-        pub ends-rad : same t (ascii "_rad") ≡ true → Ends t (Angle 0)
+        pub ends-rad : same t (ascii "_rad") ≡ true → Ends t (Some 0)
         unfolding ending
         ends-rad c = ends-in 0 (lit≤ tt) (rw (a, b, not-nil t h, c))
 
         module _ (c : same t (ascii "_rad") ≡ false) where
-          pub ends-any : same t (ascii "_any") ≡ true → Ends t (Angle 0)
+          pub ends-any : same t (ascii "_any") ≡ true → Ends t (Some 0)
           unfolding ending
           ends-any d = ends-in 0 (lit≤ tt) (rw (a, b, not-nil t h, c, d))
 
-          pub ends-other : same t (ascii "_any") ≡ false → Ends t Other
-          unfolding ending angle_of
+          pub ends-other : same t (ascii "_any") ≡ false → Ends t None
+          unfolding ending
           ends-other d = record { is = sym (rw (a, b, not-nil t h, c, d)); small = λ k f. absurd (never (cc f)) }
 
 -- ---- a word
 
 -- a text that is no word, read as such
-not-word : (target : Option _) (a : List ℤ) (k : ℕ) → target ≡ none → IsRead target (record { is = false; axes = a; angle = k })
+not-word : (target : Option _) (a : List ℤ) (k : ℕ) → target ≡ None → IsRead target (record { is = false; axes = a; angle = k })
 unfolding word_is
 not-word target a k e = record { is = sym e; ready = λ f. absurd (false≢true f) }
 
-unordered-word : (l : List ℤ) (o : Option ℕ) → (eqb (length l) 4 && is_order l) ≡ false → word_of l o ≡ none
+unordered-word : (l : List ℤ) (o : Option ℕ) → (eqb (length l) 4 && is_order l) ≡ false → word_of l o ≡ None
 unfolding word_of
-unordered-word l none e = refl
-unordered-word l (some k) e = rw e
+unordered-word l None e = refl
+unordered-word l (Some k) e = rw e
 
 short-axes : (t : Bytes) → length t < 4 → eqb (length (map axis (take 4 t))) 4 ≡ false
 short-axes [] h = refl
@@ -120,16 +117,16 @@ module _ (t : Bytes) where
     pub word-unordered : {a : List ℤ} {k : ℕ} → is_order axes ≡ false → IsRead (plain_word t) (record { is = false; axes = a; angle = k })
     word-unordered {a} {k} o = not-word (plain_word t) a k (rw (← are) (unordered-word axes (ending (drop 4 t)) (rw (four-axes, o))))
 
-    module _ (o : is_order axes ≡ true) {r : Ending} {rest : Bytes} (behind : rest ≡ drop 4 t) (e : Ends rest r) where
-      ending-is : ending (drop 4 t) ≡ angle_of r
+    module _ (o : is_order axes ≡ true) {r : Option ℕ} {rest : Bytes} (behind : rest ≡ drop 4 t) (e : Ends rest r) where
+      ending-is : ending (drop 4 t) ≡ r
       ending-is = ap ending (sym behind) ∙ sym e.is
 
-      pub word-unended : {a : List ℤ} {k : ℕ} → r ≡ Other → IsRead (plain_word t) (record { is = false; axes = a; angle = k })
-      unfolding word_of angle_of
+      pub word-unended : {a : List ℤ} {k : ℕ} → r ≡ None → IsRead (plain_word t) (record { is = false; axes = a; angle = k })
+      unfolding word_of
       word-unended {a} {k} f = not-word (plain_word t) a k (rw (ending-is, f))
 
-      pub word-so : {angle : ℕ} → r ≡ Angle angle → IsRead (plain_word t) (record { is = true; axes = axes; angle = angle })
-      unfolding word_of angle_of word_is word_as
+      pub word-so : {angle : ℕ} → r ≡ Some angle → IsRead (plain_word t) (record { is = true; axes = axes; angle = angle })
+      unfolding word_of word_is word_as
       word-so {angle} f =
           record {
             is = sym (rw (ending-is, f, ← are, four-axes, o));

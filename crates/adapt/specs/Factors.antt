@@ -5,7 +5,6 @@ use Rattle.std.specs.Float.Ieee.{mul, div, eq}
 use Rattle.rules.specs.Operators.Adapt.{one, mult}
 use Rattle.rules.specs.declared.Coord.{Coord}
 use Rattle.columns.specs.Coords.{picked, placed}
-use Rattle.columns.specs.declared.slots.Slots.{Slots}
 
 -- is the number at i the input's own, times 1?
 unfoldable pub staying : ℕ → Float → ℕ → Bool
@@ -40,15 +39,15 @@ scaled_by m c =
     }
 
 -- forward: output i is the number at slot i times factor i
-unfoldable pub scaled : Slots → Coord → Coord → Coord
+unfoldable pub scaled : List ℕ → Coord → Coord → Coord
 scaled o m c = scaled_by m (picked o c)
 
 -- inverse: number i times factor i goes to slot i
-unfoldable pub unscaled : Slots → Coord → Coord → Coord
+unfoldable pub unscaled : List ℕ → Coord → Coord → Coord
 unscaled o m c = placed o (scaled_by m c) c
 
 -- forward or back
-unfoldable pub scaled_if : Bool → Slots → Coord → Coord → Coord
+unfoldable pub scaled_if : Bool → List ℕ → Coord → Coord → Coord
 scaled_if back o m c = cond back (unscaled o m c) (scaled o m c)
 
 -- the factors of a direction in the documented mode: back, that of a number is 1 over its own
@@ -56,5 +55,5 @@ unfoldable pub factors_by_axis : Bool → Coord → Coord
 factors_by_axis back m = cond back (overs m) m
 
 -- the factors of a direction: back, that of a number is 1 over that of its place
-unfoldable pub factors_for : Bool → Slots → Coord → Coord
+unfoldable pub factors_for : Bool → List ℕ → Coord → Coord
 factors_for back o m = cond back (picked o (overs m)) m

@@ -1,22 +1,14 @@
 -- The words of `adapt`, in the words of the code.
-use Rattle.std.specs.Prelude.{◌≡◌, ℕ, ◌≤◌, true, cond, map, length, take, drop}
-use Rattle.std.proofs.Math.Option.{Option, none, some}
+use Rattle.std.specs.Prelude.{◌≡◌, ℕ, ◌≤◌, true, cond, map, length, take, drop, Option, None, Some}
 use Rattle.rules.specs.Text.Bytes.{Bytes}
 use Rattle.rules.specs.Operators.Arguments.{is_order}
 use Rattle.rules.specs.Operators.Adapt as adapt
 use Rattle.adapt.specs.declared.words.Word.{Word}
-use Rattle.adapt.specs.declared.words.Ending.{Ending}
-use Rattle.adapt.specs.declared.words.Ending.TheVariants.{Angle, Other}
-
--- the angle of an ending, if it is one
-unfoldable pub angle_of : Ending → Option ℕ
-angle_of (Angle k) = some k
-angle_of Other = none
 
 -- what reading an ending gives
-pub record Ends (t : Bytes) (r : Ending) : Type 0 where
-  pub is : angle_of r ≡ adapt.ending t
-  pub small : (k : ℕ) → r ≡ Angle k → k ≤ 2
+pub record Ends (t : Bytes) (r : Option ℕ) : Type 0 where
+  pub is : r ≡ adapt.ending t
+  pub small : (k : ℕ) → r ≡ Some k → k ≤ 2
 
 -- "four letters, each axis once, and an ending or none"
 abbrev pub plain_word : Bytes → Option adapt.Word
@@ -27,7 +19,7 @@ unfoldable pub word_as : Word → adapt.Word
 word_as w = record { axes = w.axes; angle = w.angle }
 
 unfoldable pub word_is : Word → Option adapt.Word
-word_is w = cond w.is (some (word_as w)) none
+word_is w = cond w.is (Some (word_as w)) None
 
 -- what is needed of a word: four axes, each once, and one of the three angles
 pub record Ready (w : Word) : Type 0 where

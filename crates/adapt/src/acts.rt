@@ -12,22 +12,10 @@ pub fn act_of(args: [i32; 8], n: usize, direction: Direction, mode: Mode) -> Doi
     requires args_value { is_adapt_in mode (take n args) ≡ true }
     ensures { Does (act_of direction (adapt_in mode) (take n args)) result }
 {
-    match direction {
-        Direction::Forward => Doing {
-            act: Act::Adapts {
-                mode: mode,
-                back: false,
-            },
-            args: args,
-            n: n,
-        },
-        Direction::Inverse => Doing {
-            act: Act::Adapts {
-                mode: mode,
-                back: true,
-            },
-            args: args,
-            n: n,
-        },
+    let back = matches!(direction, Direction::Inverse);
+    Doing {
+        act: Act::Adapts { mode, back },
+        args,
+        n,
     }
 }

@@ -3,11 +3,10 @@ ghost use Rattle.std.specs.Prelude.{◌≡◌, true, map};
 ghost use Rattle.rules.specs.Operators.Adapt.{is_adapt, adapted};
 ghost use Rattle.rules.specs.Operators.Documented.{is_documented, adapted_by_axis, is_adapt_in, adapted_in};
 ghost use Rattle.rules.specs.Pipeline.Tuples.{tuples};
-ghost use Rattle.columns.specs.Coords.{Within};
 ghost use Rattle.adapt.specs.Factors.{scaled_by, scaled_if, factors_for, factors_by_axis};
 
 use crate::factors::{is_noop, mults_of, overs_of};
-use columns::{Slots, get_coord, pick, place, set_coord, slots_of};
+use columns::{Slots, each_coord, pick, place, slots_of};
 use rules::{Coord, Mode};
 
 // Each number of a coordinate times its factor.
@@ -24,8 +23,7 @@ fn scaled_by(m: Coord, c: Coord) -> Coord
 
 // One coordinate: forward, output i is the number at slot i times factor i; back, number i times factor i goes to slot i.
 fn scaled(c: Coord, back: bool, o: Slots, m: Coord) -> Coord
-    requires { Within o }
-    ensures { result ≡ scaled_if back o m c }
+    ensures { result ≡ scaled_if back o.at m c }
 {
     if back {
         return place(c, o, scaled_by(m, c));
@@ -35,8 +33,7 @@ fn scaled(c: Coord, back: bool, o: Slots, m: Coord) -> Coord
 
 // The factors of a direction: back, that of a number is 1 over that of its place.
 fn factors_for(back: bool, o: Slots, m: Coord) -> Coord
-    requires { Within o }
-    ensures { result ≡ factors_for back o m }
+    ensures { result ≡ factors_for back o.at m }
 {
     if back {
         return pick(overs_of(m), o);
@@ -56,16 +53,9 @@ fn factors_by_axis(back: bool, m: Coord) -> Coord
 
 // Every coordinate of a list, by slots and factors that are made once.
 fn scale_all(xs: &mut [f64], back: bool, o: Slots, f: Coord)
-    requires { Within o }
-    ensures { tuples xs.new ≡ map (scaled_if back o f) (tuples xs.old) }
+    ensures { tuples xs.new ≡ map (scaled_if back o.at f) (tuples xs.old) }
 {
-    let n = xs.len() / 4;
-    let mut k = 0;
-    while k < n {
-        let c = get_coord(xs, k);
-        set_coord(xs, k, scaled(c, back, o, f));
-        k += 1;
-    }
+    each_coord(xs, |c| scaled(c, back, o, f));
 }
 
 // In the crate's mode. A no-op touches nothing.
@@ -75,7 +65,8 @@ fn adapt_crate(xs: &mut [f64], back: bool, args: [i32; 8])
 {
     let o = slots_of(&args[..4]);
     let m = mults_of(args);
-    if is_noop(o.s1 + 1, o.s2 + 1, o.s3 + 1, o.s4 + 1, m) {
+    let [first, second, third, fourth] = o.at;
+    if is_noop(first + 1, second + 1, third + 1, fourth + 1, m) {
         return;
     }
     scale_all(xs, back, o, factors_for(back, o, m));

@@ -1,5 +1,5 @@
 // The documented mode: the eight arguments that two words make, which ties sign and angle to an axis, and the test of them.
-ghost use Rattle.std.specs.Prelude.{◌≡◌, ◌+◌, ◌<◌, length};
+ghost use Rattle.std.specs.Prelude.{◌≡◌, ◌+◌, ◌<◌};
 ghost use Rattle.rules.specs.Text.Lists.{all_of};
 ghost use Rattle.rules.specs.Operators.Adapt.{is_code};
 ghost use Rattle.rules.specs.Operators.Documented.{output_by_axis, angle_by_axis, combined_by_axis, is_pair, two_alike, is_documented};
@@ -7,7 +7,7 @@ ghost use Rattle.adapt.specs.Words.{word_as, Ready};
 
 use crate::arguments::is_code;
 use crate::words::{Word, code_of, position_of};
-use numbers::{is_order, minus_at, signed, size_at};
+use numbers::{is_minus, is_order, signed, size_of};
 
 // Output i, counted from 0: the place among the axes of `from` that holds axis i of `to`, turned where that axis is turned in one word and
 // not in the other.
@@ -19,9 +19,9 @@ fn output_by_axis(from: Word, to: Word, i: usize) -> i32
 {
     let a = from.axes;
     let b = to.axes;
-    let place = position_of(size_at(&b[..], i), &a[..]);
+    let place = position_of(size_of(b[i]), &a);
     let at = place - 1;
-    signed(minus_at(&a[..], at) != minus_at(&b[..], i), place)
+    signed(is_minus(a[at]) != is_minus(b[i]), place)
 }
 
 // The code of its factor: that of the two angles, if the axis is one of the two that carry an angle, else 0.
@@ -31,8 +31,7 @@ fn angle_by_axis(from: Word, to: Word, i: usize) -> i32
     requires i_bound { i < 4 }
     ensures { result ≡ angle_by_axis (word_as from) (word_as to) (i + 1) }
 {
-    let b = to.axes;
-    if 2 < size_at(&b[..], i) {
+    if 2 < size_of(to.axes[i]) {
         return 0;
     }
     code_of(from, to)
@@ -59,52 +58,19 @@ pub fn combined_by_axis(from: Word, to: Word) -> [i32; 8]
 fn is_pair(a: usize, b: usize, c: usize, d: usize) -> bool
     ensures { result ≡ is_pair a b c d }
 {
-    if a != b {
-        return false;
-    }
-    if c != 0 {
-        return false;
-    }
-    d == 0
+    a == b && c == 0 && d == 0
 }
 
 // Is that so of some two of the four?
 fn two_alike(a: usize, b: usize, c: usize, d: usize) -> bool
     ensures { result ≡ two_alike a b c d }
 {
-    if is_pair(a, b, c, d) {
-        return true;
-    }
-    if is_pair(a, c, b, d) {
-        return true;
-    }
-    if is_pair(a, d, b, c) {
-        return true;
-    }
-    if is_pair(b, c, a, d) {
-        return true;
-    }
-    if is_pair(b, d, a, c) {
-        return true;
-    }
-    is_pair(c, d, a, b)
-}
-
-// The codes of four factors' sizes.
-fn are_codes(l: &[i32]) -> bool
-    requires { length l.now ≡ 4 }
-    ensures { result ≡ all_of is_code l.now }
-{
-    if !is_code(l, 0) {
-        return false;
-    }
-    if !is_code(l, 1) {
-        return false;
-    }
-    if !is_code(l, 2) {
-        return false;
-    }
-    is_code(l, 3)
+    is_pair(a, b, c, d)
+        || is_pair(a, c, b, d)
+        || is_pair(a, d, b, c)
+        || is_pair(b, c, a, d)
+        || is_pair(b, d, a, c)
+        || is_pair(c, d, a, b)
 }
 
 // An order of four, and the codes of four factors' sizes, two alike and the others 0.
@@ -120,5 +86,12 @@ pub fn is_documented(l: &[i32]) -> bool
     if !are_codes(&l[4..]) {
         return false;
     }
-    two_alike(size_at(l, 4), size_at(l, 5), size_at(l, 6), size_at(l, 7))
+    two_alike(size_of(l[4]), size_of(l[5]), size_of(l[6]), size_of(l[7]))
+}
+
+// The codes of factors' sizes.
+fn are_codes(l: &[i32]) -> bool
+    ensures { result ≡ all_of is_code l.now }
+{
+    l.iter().all(|x| is_code(*x))
 }

@@ -1,5 +1,5 @@
 // The text of `adapt` in the documented mode: e and n stand in `from` where the angle does, and `to` has the same axes at the outputs.
-ghost use Rattle.std.specs.Prelude.{◌≡◌, true, ◌&&◌, map, max, ◌<◌, eqb, length, get_or, pos};
+ghost use Rattle.std.specs.Prelude.{◌≡◌, true, ◌&&◌, map, eqb, length};
 ghost use Rattle.rules.specs.Text.Lists.{all_of};
 ghost use Rattle.rules.specs.Text.Bytes.{joined};
 ghost use Rattle.rules.specs.Operators.Adapt.{axis};
@@ -13,16 +13,13 @@ ghost use Rattle.adapt.specs.Text.{axis_from};
 
 use crate::words::{axes_of, position_of};
 use crate::writing::words;
-use numbers::{minus_at, signed, size_at};
+use numbers::{axis_of, is_minus, signed, size_of};
 
 // Are both 0?
 fn both_zero(a: usize, b: usize) -> bool
     ensures { result ≡ (eqb a 0 && eqb b 0) }
 {
-    if a != 0 {
-        return false;
-    }
-    b == 0
+    a == 0 && b == 0
 }
 
 // The axes of `from`, by the codes of the four input places.
@@ -52,7 +49,7 @@ fn code_from(l: &[i32], p: usize) -> usize
     requires { length l.now ≡ 8 }
     ensures { result ≡ code_from l.now p }
 {
-    size_at(l, 3 + position_of(p, &l[..4]))
+    size_of(l[3 + position_of(p, &l[..4])])
 }
 
 // The axes of `from`.
@@ -68,15 +65,14 @@ fn axes_from(l: &[i32]) -> [i32; 4]
     )
 }
 
-// The axis of output i: that of the input place which it takes, or the same turned.
-fn axis_from(from: &[i32], l: &[i32], i: usize) -> i32
+// The axis of an output: that of the input place which it takes, or the same turned.
+fn axis_from(from: &[i32], x: i32) -> i32
     requires from_len { length from.now ≡ 4 }
     requires from_value { all_of is_axis from.now ≡ true }
-    requires l_value { all_of is_axis l.now ≡ true }
-    requires i_in_bounds { i < length l.now }
-    ensures { result ≡ axis_from from.now (get_or l.now i (pos 0)) }
+    requires x_value { is_axis x ≡ true }
+    ensures { result ≡ axis_from from.now x }
 {
-    signed(minus_at(l, i), size_at(from, size_at(l, i) - 1))
+    signed(is_minus(x), size_of(from[axis_of(x)]))
 }
 
 // The axes of `to`: those of the outputs.
@@ -88,21 +84,11 @@ fn axes_to(from: &[i32], l: &[i32]) -> [i32; 4]
     ensures { result ≡ map (axis_from from.now) l.now }
 {
     [
-        axis_from(from, l, 0),
-        axis_from(from, l, 1),
-        axis_from(from, l, 2),
-        axis_from(from, l, 3),
+        axis_from(from, l[0]),
+        axis_from(from, l[1]),
+        axis_from(from, l[2]),
+        axis_from(from, l[3]),
     ]
-}
-
-// The greater of two.
-fn greater(a: usize, b: usize) -> usize
-    ensures { result ≡ max a b }
-{
-    if a <= b {
-        return b;
-    }
-    a
 }
 
 // The one code that is not 0, if there is one.
@@ -110,10 +96,8 @@ fn code_in(l: &[i32]) -> usize
     requires { length l.now ≡ 8 }
     ensures { result ≡ code_of l.now }
 {
-    greater(
-        greater(size_at(l, 4), size_at(l, 5)),
-        greater(size_at(l, 6), size_at(l, 7)),
-    )
+    let front = size_of(l[4]).max(size_of(l[5]));
+    front.max(size_of(l[6]).max(size_of(l[7])))
 }
 
 // The name and both words.
@@ -123,6 +107,6 @@ pub fn write_documented(l: &[i32], out: &mut [u8], o: usize) -> usize
     ensures { WroteAt (joined (operator_words Documented l.now)) out.old o result out.new }
 {
     let from = axes_from(l);
-    let to = axes_to(&from[..], &l[..4]);
-    words(code_in(l), &from[..], &to[..], out, o)
+    let to = axes_to(&from, &l[..4]);
+    words(code_in(l), &from, &to, out, o)
 }

@@ -10,16 +10,15 @@ use columns::turned;
 use numbers::{is_minus, size_of};
 use rules::Coord;
 
+// Stays: the number is a part of a code, which stands in a record that C fills.
 // An angle in radians: 0 is 1, 1 is a degree, 2 is a gon.
 fn angle_of(k: usize) -> f64
     ensures { result ≡ angle k }
 {
-    if k == 0 {
-        1.0
-    } else if k == 1 {
-        3.141592653589793 / 180.0
-    } else {
-        3.141592653589793 / 200.0
+    match k {
+        0 => 1.0,
+        1 => 3.141592653589793 / 180.0,
+        _ => 3.141592653589793 / 200.0,
     }
 }
 
@@ -72,14 +71,8 @@ pub fn overs_of(m: Coord) -> Coord
 pub fn is_noop(p1: usize, p2: usize, p3: usize, p4: usize, m: Coord) -> bool
     ensures { result ≡ all_staying p1 p2 p3 p4 m }
 {
-    if !is_staying(p1, m.a, 1) {
-        return false;
-    }
-    if !is_staying(p2, m.b, 2) {
-        return false;
-    }
-    if !is_staying(p3, m.c, 3) {
-        return false;
-    }
-    is_staying(p4, m.d, 4)
+    is_staying(p1, m.a, 1)
+        && is_staying(p2, m.b, 2)
+        && is_staying(p3, m.c, 3)
+        && is_staying(p4, m.d, 4)
 }

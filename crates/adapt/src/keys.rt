@@ -7,14 +7,14 @@ use rules::Kind;
 use text::is_same;
 
 // What a key takes, if it is one of them.
-pub fn kind_of(key: &[u8]) -> Kind
+pub fn kind_of(key: &[u8]) -> Option<Kind>
     ensures { result ≡ kind_in word_keys key.now }
 {
     if is_same(key, b"from") {
-        return Kind::Word;
+        return Some(Kind::Word);
     }
     if is_same(key, b"to") {
-        return Kind::Word;
+        return Some(Kind::Word);
     }
-    Kind::Lacking
+    None
 }

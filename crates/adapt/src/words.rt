@@ -3,9 +3,11 @@ ghost use Rattle.std.specs.Prelude.{◌≡◌, map, ◌+◌, ◌≤◌, ◌<◌,
 ghost use Rattle.rules.specs.Operators.Adapt.{place_in, axis, word, position, output_of, angles, combined};
 ghost use Rattle.adapt.specs.Words.{Ends, plain_word, word_as, IsRead, Ready};
 
-use numbers::{is_order, minus_at, signed, size_at};
+use numbers::{is_minus, is_order, signed, size_of};
 use text::is_same;
 
+// Stays: the contracts of `word_of` and `between` speak of this record, and `prepare` goes by them; the angle is the number that a code of
+// arguments is made of, which stands in a record.
 // A word of `adapt`: four axes with their signs, and an angle (0 radians, 1 degrees, 2 gons), if it is one.
 #[derive(Clone, Copy, Drop)]
 pub struct Word {
@@ -14,25 +16,14 @@ pub struct Word {
     pub angle: u8,
 }
 
-// What a word ends in: an angle, or what is no ending.
-#[derive(Clone, Copy, Drop)]
-enum Ending {
-    Angle(u8),
-    Other,
-}
-
 // The place of b among the letters, counted from 1; 0 where it is not there.
 fn letter_in(b: u8, letters: &[u8]) -> usize
     ensures { result ≡ place_in 1 b letters.now }
 {
-    let mut i = 0;
-    while i < letters.len() {
-        if letters[i] == b {
-            return i + 1;
-        }
-        i += 1;
+    match letters.iter().position(|x| b == *x) {
+        Some(i) => i + 1,
+        None => 0,
     }
-    0
 }
 
 // The axis that a letter is: e n u f are axes 1 to 4, w s d p the same axes turned; another byte is none, 0. (The Rust has a
@@ -56,25 +47,25 @@ pub fn axes_of(t: &[u8]) -> [i32; 4]
 }
 
 // The angle that a word's ending names: none and `_rad` and `_any` are radians.
-fn ending_of(t: &[u8]) -> Ending
+fn ending_of(t: &[u8]) -> Option<u8>
     ensures { Ends t.now result }
 {
     if is_same(t, b"_deg") {
-        return Ending::Angle(1);
+        return Some(1);
     }
     if is_same(t, b"_gon") {
-        return Ending::Angle(2);
+        return Some(2);
     }
-    if t.len() == 0 {
-        return Ending::Angle(0);
+    if t.is_empty() {
+        return Some(0);
     }
     if is_same(t, b"_rad") {
-        return Ending::Angle(0);
+        return Some(0);
     }
     if is_same(t, b"_any") {
-        return Ending::Angle(0);
+        return Some(0);
     }
-    Ending::Other
+    None
 }
 
 // "four letters, each axis once, and an ending or none"
@@ -90,17 +81,16 @@ fn letters(t: &[u8]) -> Word
         return none;
     }
     let axes = axes_of(t);
-    if !is_order(&axes[..]) {
+    if !is_order(&axes) {
         return none;
     }
-    let ending = ending_of(&t[4..]);
-    match ending {
-        Ending::Angle(angle) => Word {
+    match ending_of(&t[4..]) {
+        Some(angle) => Word {
             is: true,
-            axes: axes,
-            angle: angle,
+            axes,
+            angle,
         },
-        Ending::Other => none,
+        None => none,
     }
 }
 
@@ -118,14 +108,10 @@ pub fn word_of(t: &[u8]) -> Word
 pub fn position_of(size: usize, l: &[i32]) -> usize
     ensures { result ≡ position 1 size l.now }
 {
-    let mut i = 0;
-    while i < l.len() {
-        if size_at(l, i) == size {
-            return i + 1;
-        }
-        i += 1;
+    match l.iter().position(|x| size == size_of(*x)) {
+        Some(i) => i + 1,
+        None => 0,
     }
-    0
 }
 
 // post[i] with the sign of mult[i], i counted from 0: the place among the axes of `from` that holds axis i of `to`; turned
@@ -138,8 +124,8 @@ fn output(from: Word, to: Word, i: usize) -> i32
 {
     let a = from.axes;
     let b = to.axes;
-    let place = position_of(size_at(&b[..], i), &a[..]);
-    signed(minus_at(&a[..], i) != minus_at(&b[..], i), place)
+    let place = position_of(size_of(b[i]), &a);
+    signed(is_minus(a[i]) != is_minus(b[i]), place)
 }
 
 // The code of the factor that goes from one angle to the other, 0 where they are the same.

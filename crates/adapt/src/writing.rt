@@ -1,5 +1,5 @@
 // Its text: the name, and the words `from` and `to`.
-ghost use Rattle.std.specs.Prelude.{◌≡◌, true, map, ◌<◌, length, get_or, pos};
+ghost use Rattle.std.specs.Prelude.{◌≡◌, true, map};
 ghost use Rattle.rules.specs.Text.Lists.{all_of};
 ghost use Rattle.text.specs.Wrote.{WroteAt};
 ghost use Rattle.rules.specs.Operators.Adapt.{letter, ending_of, is_adapt};
@@ -10,28 +10,19 @@ ghost use Rattle.rules.specs.Operators.Descriptions.{Adapt};
 ghost use Rattle.rules.specs.Pipeline.Write.{operator_words};
 ghost use Rattle.adapt.specs.Text.{word_text, words_text};
 
-use numbers::{minus_at, put_byte, size_at};
+use numbers::{axis_of, is_minus, put_byte, size_of};
 use text::put;
 
-// Byte i of s.
-fn byte_at(s: &[u8], i: usize) -> u8
-    requires { i < length s.now }
-    ensures { result ≡ get_or s.now i 0 }
+// The letter of an axis with its sign.
+fn letter(x: i32) -> u8
+    requires { is_axis x ≡ true }
+    ensures { result ≡ letter x }
 {
-    s[i]
-}
-
-// The letter of number i of l, an axis with its sign.
-fn letter(l: &[i32], i: usize) -> u8
-    requires i_in_bounds { i < length l.now }
-    requires l_value { all_of is_axis l.now ≡ true }
-    ensures { result ≡ letter (get_or l.now i (pos 0)) }
-{
-    let m = size_at(l, i);
-    if minus_at(l, i) {
-        return byte_at(b"wsdp", m - 1);
+    let k = axis_of(x);
+    if is_minus(x) {
+        return b"wsdp"[k];
     }
-    byte_at(b"enuf", m - 1)
+    b"enuf"[k]
 }
 
 // The letters of the axes in l.
@@ -41,16 +32,14 @@ fn letters(l: &[i32], out: &mut [u8], o: usize) -> usize
     ensures { WroteAt (map letter l.now) out.old o result out.new }
 {
     let mut e = o;
-    let mut i = 0;
-    while i < l.len() {
-        let b = letter(l, i);
-        e = put_byte(b, out, e);
-        i += 1;
+    for x in l {
+        e = put_byte(letter(*x), out, e);
     }
     e
 }
 
 // The ending of an angle: none for radians.
+// Stays: the number is a part of a code, which stands in a record that C fills.
 fn ending(angle: usize, out: &mut [u8], o: usize) -> usize
     requires { Room (ending_of angle) o out.old }
     ensures { WroteAt (ending_of angle) out.old o result out.new }
@@ -93,5 +82,5 @@ pub fn write_words(l: &[i32], out: &mut [u8], o: usize) -> usize
     ensures { WroteAt (joined (operator_words Adapt l.now)) out.old o result out.new }
 {
     let from = [1, 2, 3, 4];
-    words(size_at(l, 4), &from[..], &l[..4], out, o)
+    words(size_of(l[4]), &from, &l[..4], out, o)
 }

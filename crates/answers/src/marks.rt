@@ -2,7 +2,6 @@
 // `mark_of`.
 use answers_wire::{part, parts};
 use rules::{Mode, Reading};
-use text::is_same;
 
 // In which reading and in which mode.
 #[derive(Clone, Copy, Drop)]
@@ -11,38 +10,27 @@ pub struct Way {
     pub mode: Mode,
 }
 
-#[derive(Clone, Copy, Drop)]
-pub enum Mark {
-    Is(Way),
-    Not,
+impl Way {
+    fn new(reading: Reading, mode: Mode) -> Self {
+        Way { reading, mode }
+    }
 }
 
 // The mark of a word; a word without one takes the crate's reading and mode.
-pub fn read_mark(word: &[u8]) -> Mark {
+pub fn read_mark(word: &[u8]) -> Option<Way> {
     match parts(word, b'/') {
-        1 => marked(Reading::Crate, Mode::Crate),
+        1 => Some(Way::new(Reading::Crate, Mode::Crate)),
         2 => mark_of(part(word, b'/', 1)),
-        _ => Mark::Not,
+        _ => None,
     }
 }
 
 // `p` takes PROJ's reading, and `d` the documented mode.
-fn mark_of(letters: &[u8]) -> Mark {
-    if is_same(letters, b"p") {
-        return marked(Reading::Proj, Mode::Crate);
+fn mark_of(letters: &[u8]) -> Option<Way> {
+    match letters {
+        b"p" => Some(Way::new(Reading::Proj, Mode::Crate)),
+        b"d" => Some(Way::new(Reading::Crate, Mode::Documented)),
+        b"pd" => Some(Way::new(Reading::Proj, Mode::Documented)),
+        _ => None,
     }
-    if is_same(letters, b"d") {
-        return marked(Reading::Crate, Mode::Documented);
-    }
-    if is_same(letters, b"pd") {
-        return marked(Reading::Proj, Mode::Documented);
-    }
-    Mark::Not
-}
-
-fn marked(reading: Reading, mode: Mode) -> Mark {
-    Mark::Is(Way {
-        reading: reading,
-        mode: mode,
-    })
 }

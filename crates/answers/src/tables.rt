@@ -1,12 +1,12 @@
 // The requests on step tables: a table is checked, run or written. A request that is new is a variant of `TableCall`, its
 // word in `table_call` and its answer in `answer_table`; it is then one on a text, and with `rows-` in front one on records.
-ghost use Rattle.std.specs.Prelude.{◌≤◌};
-
+use crate::ask::Unanswered;
 use crate::checks::answer_check;
 use crate::given::Source;
+use crate::rooms::Rooms;
 use crate::runs::answer_run;
 use crate::writes::answer_write;
-use text::is_same;
+use answers_say::Output;
 
 #[derive(Clone, Copy, Drop)]
 pub enum TableCall {
@@ -15,45 +15,28 @@ pub enum TableCall {
     Write,
 }
 
-#[derive(Clone, Copy, Drop)]
-pub enum Called {
-    Is(TableCall),
-    Not,
-}
-
 // Which of them a word names.
-pub fn table_call(word: &[u8]) -> Called {
-    if is_same(word, b"check") {
-        return Called::Is(TableCall::Check);
+pub fn table_call(word: &[u8]) -> Option<TableCall> {
+    match word {
+        b"check" => Some(TableCall::Check),
+        b"run" => Some(TableCall::Run),
+        b"write" => Some(TableCall::Write),
+        _ => None,
     }
-    if is_same(word, b"run") {
-        return Called::Is(TableCall::Run);
-    }
-    if is_same(word, b"write") {
-        return Called::Is(TableCall::Write);
-    }
-    Called::Not
 }
 
 // The answer to a request on a table.
-pub fn answer_table(
-    rt: &impl Print,
-    which: TableCall,
+// Stays: cases in place of function pointers are a rule of the project.
+pub fn answer_table<P: Print>(
+    out: &mut Output<P>,
+    call: TableCall,
     source: Source,
     line: &[u8],
-    text: &mut [u8; 65536],
-    lent: &mut [u8; 131088],
-    list: &mut [f64; 262164],
-    store: &mut [f64; 262164],
-    out: &mut [u8; 65536],
-    at: usize,
-) -> usize
-    requires { at ≤ 65536 }
-    ensures { result ≤ 65536 }
-{
-    match which {
-        TableCall::Check => answer_check(rt, source, line, text, out, at),
-        TableCall::Run => answer_run(rt, source, line, text, list, store, out, at),
-        TableCall::Write => answer_write(rt, source, line, text, lent, out, at),
+    rooms: &mut Rooms,
+) -> Result<(), Unanswered> {
+    match call {
+        TableCall::Check => answer_check(out, source, line, rooms.text),
+        TableCall::Run => answer_run(out, source, line, rooms.text, rooms.list, rooms.store),
+        TableCall::Write => answer_write(out, source, line, rooms.text, rooms.lent),
     }
 }

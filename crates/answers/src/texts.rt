@@ -1,13 +1,13 @@
 // The requests that take a text and answer a text: the calls on a text, and what the program `steps` prints of one. A
-// request that is new is a variant of `TextCall`, its word in `asked_text` and its call in `call`.
-ghost use Rattle.std.specs.Prelude.{◌≡◌, ◌≤◌, length};
-
-use answers_say::{MOST_ROOM, say_byte, say_lent, say_ok, say_what};
-use answers_wire::{Natural, Text};
+// request that is new is a variant of `TextCall`, its word in `asked_text` and its call in `call_on`.
+use crate::ask::{Unanswered, expect_fields};
+use crate::rooms::MOST_ROOM;
+use answers_say::{Lent, Output, say_lent};
+use answers_wire::{field, read_natural, read_text};
 use normalise::{definition, normalise};
 use parameters::parameters;
 use proj::translate;
-use rules::{Mode, Reading, Written};
+use rules::{Mode, Reading, Refusal};
 use split::split;
 
 // The calls that take a text and write a text into lent storage.
@@ -21,88 +21,54 @@ pub enum TextCall {
 }
 
 // Makes the call that was asked for.
-fn call(which: TextCall, text: &[u8], lent: &mut [u8]) -> Written {
-    match which {
-        TextCall::Normalise => normalise(text, lent),
-        TextCall::Split => split(text, lent),
-        TextCall::Parameters => parameters(text, lent),
-        TextCall::Translate => translate(text, lent),
-        TextCall::Definition => definition(text, lent),
+// Stays: cases in place of function pointers are a rule of the project.
+fn call_on(call: TextCall, text: &[u8], room: &mut [u8]) -> Result<usize, Refusal> {
+    match call {
+        TextCall::Normalise => normalise(text, room),
+        TextCall::Split => split(text, room),
+        TextCall::Parameters => parameters(text, room),
+        TextCall::Translate => translate(text, room),
+        TextCall::Definition => definition(text, room),
     }
 }
 
-// Lends exactly `room` bytes, and calls with the first n of the text.
-fn lend(which: TextCall, text: &[u8], n: usize, lent: &mut [u8], room: usize) -> Written
-    requires n_in_bounds { n ≤ length text.now }
-    requires room_in_bounds { room ≤ length lent.old }
-{
-    call(which, &text[0..n], &mut lent[0..room])
-}
-
 // `CALL ROOM TEXT`.
-pub fn answer_text(
-    rt: &impl Print,
-    which: TextCall,
+pub fn answer_text<P: Print>(
+    out: &mut Output<P>,
+    call: TextCall,
     line: &[u8],
     text: &mut [u8; 65536],
     lent: &mut [u8; 131088],
-    out: &mut [u8; 65536],
-    at: usize,
-) -> usize
-    requires { at ≤ 65536 }
-    ensures { result ≤ 65536 }
-{
-    let Natural::Is(room) = answers_wire::read_natural(answers_wire::field(line, 1), MOST_ROOM)
-    else {
-        return say_what(rt, out, at);
-    };
-    let Text::Is(n) = answers_wire::read_text_of(line, 3, 2, text) else {
-        return say_what(rt, out, at);
-    };
-    say_lent(rt, lend(which, text, n, lent, room), room, lent, out, at)
-}
-
-// Room for all that can be printed.
-fn print_room() -> [u8; 139264]
-    ensures { 139264 ≡ length result }
-{
-    [0; 139264]
+) -> Result<(), Unanswered> {
+    expect_fields(line, 3)?;
+    let room = read_natural(field(line, 1), MOST_ROOM).ok_or(Unanswered::NoRequest)?;
+    let text = read_text(field(line, 2), text).ok_or(Unanswered::NoRequest)?;
+    let lent = Lent::new(lent, room);
+    let written = call_on(call, text, lent.room);
+    say_lent(out, written, lent);
+    Ok(())
 }
 
 // `steps TEXT`.
-pub fn answer_steps(
-    rt: &impl Print,
+pub fn answer_steps<P: Print>(
+    out: &mut Output<P>,
     line: &[u8],
     text: &mut [u8; 65536],
-    out: &mut [u8; 65536],
-    at: usize,
-) -> usize
-    requires { at ≤ 65536 }
-    ensures { result ≤ 65536 }
-{
-    let Text::Is(n) = answers_wire::read_text_of(line, 2, 1, text) else {
-        return say_what(rt, out, at);
-    };
-    say_shown(rt, text, n, out, at)
+) -> Result<(), Unanswered> {
+    expect_fields(line, 2)?;
+    let text = read_text(field(line, 1), text).ok_or(Unanswered::NoRequest)?;
+    say_shown(out, text);
+    Ok(())
 }
 
-// `ok TEXT`, of the first n bytes.
-fn say_shown(rt: &impl Print, text: &[u8], n: usize, out: &mut [u8; 65536], at: usize) -> usize
-    requires at_bound { at ≤ 65536 }
-    requires n_in_bounds { n ≤ length text.now }
-    ensures { result ≤ 65536 }
-{
-    let mut a = streams::large_buffer();
-    let mut b = streams::large_buffer();
-    let mut room = print_room();
-    let long = show::show(
-        &text[0..n],
-        Reading::Crate,
-        Mode::Crate,
-        &mut a,
-        &mut b,
-        &mut room,
-    );
-    let told = say_ok(rt, &room, long, out, at);
-    say_byte(rt, b'\n', out, told)
+// `ok TEXT`.
+fn say_shown<P: Print>(out: &mut Output<P>, text: &[u8]) {
+    let mut a = [0; 65536];
+    let mut b = [0; 65536];
+    // Room for all that can be printed.
+    let mut room = [0; 139264];
+    let n = show::show(text, Reading::Crate, Mode::Crate, &mut a, &mut b, &mut room);
+    out.say("ok ");
+    out.hex(&room[..n]);
+    out.say('\n');
 }

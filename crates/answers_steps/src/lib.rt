@@ -9,5 +9,5 @@ mod spelled;
 
 pub use checks::say_foretold;
 pub use records::{MOST_STEPS, first, is_untouched, say_table, untouched};
-pub use runs::{GUARD, UNTOUCHED_NUMBER, say_ran};
-pub use spelled::{count_rows, read_rows};
+pub use runs::{UNTOUCHED_NUMBER, say_ran};
+pub use spelled::read_rows;

@@ -1,10 +1,6 @@
 // A table that is lent, and its records, said as `NAME:MARKS:ARGS@FROM+LENGTH`.
-ghost use Rattle.std.specs.Prelude.{◌≤◌};
-
-use answers_say::{
-    end_line, say, say_byte, say_comma, say_counted, say_number, say_numbers, say_signed, say_sizes,
-};
-use numbers::{is_minus, size_of};
+use answers_say::{Output, end_line};
+use numbers::size_of;
 use rules::{
     ADAPT, AXISSWAP, CRATE, DOCUMENTED, POP, PROJ, PUSH, STACK_DROP, STACK_FLIP, STACK_POP,
     STACK_PUSH, STACK_ROLL, STACK_SWAP, STACK_UNROLL, Span, Step, Table,
@@ -20,281 +16,154 @@ const ARG: i32 = -1431655766;
 
 const PLACE: u32 = 0xaaaaaaaa;
 
-// ---- the lent table
-
-fn untouched_step() -> Step {
-    let args = [ARG; 8];
-    let span = Span {
+const UNTOUCHED_STEP: Step = Step {
+    operator: BYTE,
+    n: BYTE,
+    inv: BYTE,
+    omit_fwd: BYTE,
+    omit_inv: BYTE,
+    reading: BYTE,
+    args: [ARG; 8],
+    span: Span {
         from: PLACE,
         length: PLACE,
-    };
-    Step {
-        operator: BYTE,
-        n: BYTE,
-        inv: BYTE,
-        omit_fwd: BYTE,
-        omit_inv: BYTE,
-        reading: BYTE,
-        args: args,
-        span: span,
-    }
-}
+    },
+};
+
+// ---- the lent table
 
 // A row of n records to lend. All that a table has room for are untouched.
 pub fn untouched(n: usize) -> Table {
-    let s = untouched_step();
-    let steps = [s; 64];
-    Table { steps: steps, n: n }
+    Table {
+        steps: [UNTOUCHED_STEP; 64],
+        n,
+    }
 }
 
-fn is_untouched_step(s: Step) -> bool {
-    if (s.operator ^ BYTE) | (s.n ^ BYTE) | (s.reading ^ BYTE) != 0 {
-        return false;
-    }
-    if (s.inv ^ BYTE) | (s.omit_fwd ^ BYTE) | (s.omit_inv ^ BYTE) != 0 {
-        return false;
-    }
-    let span = s.span;
-    if (span.from ^ PLACE) | (span.length ^ PLACE) != 0 {
-        return false;
-    }
-    let args = s.args;
-    are_untouched(args)
-}
-
-fn are_untouched(args: [i32; 8]) -> bool {
-    let mut i = 0;
-    while i < 8 {
-        if args[i] != ARG {
-            return false;
+fn is_untouched_step(step: &Step) -> bool {
+    let marks = matches!(
+        step,
+        Step {
+            operator: BYTE,
+            n: BYTE,
+            inv: BYTE,
+            omit_fwd: BYTE,
+            omit_inv: BYTE,
+            reading: BYTE,
+            span: Span {
+                from: PLACE,
+                length: PLACE
+            },
+            ..
         }
-        i += 1;
-    }
-    true
+    );
+    marks && step.args == [ARG; 8]
 }
 
 // Is a table that was lent as a row of n still so, and each record behind the first `from` as it was?
-pub fn is_untouched(table: Table, from: usize, n: usize) -> bool {
-    if table.n != n {
-        return false;
-    }
-    let mut i = from;
-    while i < MOST_STEPS {
-        if !is_untouched_step(table.steps[i]) {
-            return false;
-        }
-        i += 1;
-    }
-    true
+pub fn is_untouched(table: &Table, from: usize, n: usize) -> bool {
+    table.n == n && table.steps.iter().skip(from).all(is_untouched_step)
 }
 
 // The first n records, as a table of their own.
-pub fn first(table: Table, n: usize) -> Table {
-    let steps = table.steps;
-    Table { steps: steps, n: n }
+pub fn first(table: &Table, n: usize) -> Table {
+    Table { n, ..*table }
 }
 
 // ---- a record
 
 // NAME, or `?` where the number is no operator's.
-fn say_name(rt: &impl Print, operator: u8, out: &mut [u8; 65536], at: usize) -> usize
-    requires { at ≤ 65536 }
-    ensures { result ≤ 65536 }
-{
+fn name_of(operator: u8) -> &'static str {
     match operator {
-        PUSH => say(rt, b"push", out, at),
-        POP => say(rt, b"pop", out, at),
-        STACK_PUSH => say(rt, b"stack.push", out, at),
-        STACK_POP => say(rt, b"stack.pop", out, at),
-        STACK_FLIP => say(rt, b"stack.flip", out, at),
-        STACK_ROLL => say(rt, b"stack.roll", out, at),
-        STACK_UNROLL => say(rt, b"stack.unroll", out, at),
-        STACK_SWAP => say(rt, b"stack.swap", out, at),
-        STACK_DROP => say(rt, b"stack.drop", out, at),
-        AXISSWAP => say(rt, b"axisswap", out, at),
-        ADAPT => say(rt, b"adapt", out, at),
-        DOCUMENTED => say(rt, b"documented", out, at),
-        _ => say_byte(rt, b'?', out, at),
+        PUSH => "push",
+        POP => "pop",
+        STACK_PUSH => "stack.push",
+        STACK_POP => "stack.pop",
+        STACK_FLIP => "stack.flip",
+        STACK_ROLL => "stack.roll",
+        STACK_UNROLL => "stack.unroll",
+        STACK_SWAP => "stack.swap",
+        STACK_DROP => "stack.drop",
+        AXISSWAP => "axisswap",
+        ADAPT => "adapt",
+        DOCUMENTED => "documented",
+        _ => "?",
     }
-}
-
-// A mark's letter, where it is set.
-fn say_mark(rt: &impl Print, mark: u8, letter: u8, out: &mut [u8; 65536], at: usize) -> usize
-    requires { at ≤ 65536 }
-    ensures { result ≤ 65536 }
-{
-    if mark == 0 {
-        return at;
-    }
-    say_byte(rt, letter, out, at)
 }
 
 // The letter of PROJ's reading; none of the crate's; `?` where the number is no reading's.
-fn say_reading(rt: &impl Print, reading: u8, out: &mut [u8; 65536], at: usize) -> usize
-    requires { at ≤ 65536 }
-    ensures { result ≤ 65536 }
-{
+fn letter_of(reading: u8) -> &'static str {
     match reading {
-        CRATE => at,
-        PROJ => say_byte(rt, b'p', out, at),
-        _ => say_byte(rt, b'?', out, at),
+        CRATE => "",
+        PROJ => "p",
+        _ => "?",
     }
 }
 
 // MARKS: a letter for each that is set, and the reading's; or `-`.
-fn say_marks(
-    rt: &impl Print,
-    inv: u8,
-    omit_fwd: u8,
-    omit_inv: u8,
-    reading: u8,
-    out: &mut [u8; 65536],
-    at: usize,
-) -> usize
-    requires { at ≤ 65536 }
-    ensures { result ≤ 65536 }
-{
-    if inv | omit_fwd | omit_inv | (reading ^ CRATE) == 0 {
-        return say_byte(rt, b'-', out, at);
+fn say_marks<P: Print>(out: &mut Output<P>, step: &Step) {
+    let marks = [(step.inv, 'i'), (step.omit_fwd, 'f'), (step.omit_inv, 'o')];
+    if step.reading == CRATE && marks.iter().all(|(mark, _)| *mark == 0) {
+        out.say('-');
     }
-    let first = say_mark(rt, inv, b'i', out, at);
-    let second = say_mark(rt, omit_fwd, b'f', out, first);
-    let third = say_mark(rt, omit_inv, b'o', out, second);
-    say_reading(rt, reading, out, third)
-}
-
-// Whole numbers joined by commas, `-` where there are none.
-fn say_list(rt: &impl Print, l: &[i32], out: &mut [u8; 65536], at: usize) -> usize
-    requires { at ≤ 65536 }
-    ensures { result ≤ 65536 }
-{
-    if l.len() == 0 {
-        return say_byte(rt, b'-', out, at);
+    for (mark, letter) in &marks {
+        if *mark != 0 {
+            out.say(*letter);
+        }
     }
-    let mut o = at;
-    let mut i = 0;
-    while i < l.len() {
-        let x = l[i];
-        let parted = say_comma(rt, i, out, o);
-        o = say_signed(rt, is_minus(x), size_of(x), out, parted);
-        i += 1;
-    }
-    o
+    out.say(letter_of(step.reading));
 }
 
 // The arguments of an `adapt` step, in either mode: `noop`, or the four places and the four factors.
-fn say_adapt(rt: &impl Print, args: [i32; 8], out: &mut [u8; 65536], at: usize) -> usize
-    requires { at ≤ 65536 }
-    ensures { result ≤ 65536 }
-{
-    let p1 = size_of(args[0]);
-    let p2 = size_of(args[1]);
-    let p3 = size_of(args[2]);
-    let p4 = size_of(args[3]);
+fn say_adapt<P: Print>(out: &mut Output<P>, args: [i32; 8]) {
+    let [p1, p2, p3, p4, ..] = args.map(|arg| size_of(arg));
     let m = adapt::mults_of(args);
     if adapt::is_noop(p1, p2, p3, p4, m) {
-        return say(rt, b"noop", out, at);
+        out.say("noop");
+    } else {
+        out.say(format_args!("{p1},{p2},{p3},{p4},"));
+        out.list(&[m.a, m.b, m.c, m.d], |out, x| out.pattern(*x));
     }
-    say_adapted(rt, [p1, p2, p3, p4], [m.a, m.b, m.c, m.d], out, at)
-}
-
-// The four places and the four factors.
-fn say_adapted(
-    rt: &impl Print,
-    post: [usize; 4],
-    mult: [f64; 4],
-    out: &mut [u8; 65536],
-    at: usize,
-) -> usize
-    requires { at ≤ 65536 }
-    ensures { result ≤ 65536 }
-{
-    let placed = say_sizes(rt, &post, out, at);
-    let parted = say_byte(rt, b',', out, placed);
-    say_numbers(rt, &mult, out, parted)
 }
 
 // ARGS: of all but `adapt`, the arguments as they stand in the record.
-fn say_args(
-    rt: &impl Print,
-    operator: u8,
-    args: [i32; 8],
-    n: usize,
-    out: &mut [u8; 65536],
-    at: usize,
-) -> usize
-    requires { at ≤ 65536 }
-    ensures { result ≤ 65536 }
-{
-    if operator == ADAPT || operator == DOCUMENTED {
-        return say_adapt(rt, args, out, at);
+fn say_args<P: Print>(out: &mut Output<P>, step: &Step) {
+    if step.operator == ADAPT || step.operator == DOCUMENTED {
+        say_adapt(out, step.args);
+        return;
     }
-    if 8 < n {
-        return say_byte(rt, b'?', out, at);
+    match step.args.get(..usize::from(step.n)) {
+        Some(args) => out.list(args, |out, arg| out.say(*arg)),
+        None => out.say('?'),
     }
-    say_list(rt, &args[0..n], out, at)
 }
 
 // `FROM+LENGTH`: where a step's text stands.
-pub fn say_span(rt: &impl Print, p: Span, out: &mut [u8; 65536], at: usize) -> usize
-    requires { at ≤ 65536 }
-    ensures { result ≤ 65536 }
-{
-    let begun = say_number(rt, p.from as usize, out, at);
-    let parted = say_byte(rt, b'+', out, begun);
-    say_number(rt, p.length as usize, out, parted)
+pub fn say_span<P: Print>(out: &mut Output<P>, span: Span) {
+    out.say(format_args!("{}+{}", span.from, span.length));
 }
 
 // RECORD: the name, the marks and the arguments, with colons between, and the span behind an `@`.
-fn say_record(rt: &impl Print, s: Step, out: &mut [u8; 65536], at: usize) -> usize
-    requires { at ≤ 65536 }
-    ensures { result ≤ 65536 }
-{
-    let named = say_name(rt, s.operator, out, at);
-    let parted = say_byte(rt, b':', out, named);
-    let marked = say_marks(rt, s.inv, s.omit_fwd, s.omit_inv, s.reading, out, parted);
-    let again = say_byte(rt, b':', out, marked);
-    let args = s.args;
-    let given = say_args(rt, s.operator, args, s.n as usize, out, again);
-    let span = s.span;
-    let placed = say_byte(rt, b'@', out, given);
-    say_span(rt, span, out, placed)
+fn say_record<P: Print>(out: &mut Output<P>, step: &Step) {
+    out.say(format_args!("{}:", name_of(step.operator)));
+    say_marks(out, step);
+    out.say(':');
+    say_args(out, step);
+    out.say('@');
+    say_span(out, step.span);
 }
 
-// The first n records, each behind a space.
-fn say_records(rt: &impl Print, table: Table, n: usize, out: &mut [u8; 65536], at: usize) -> usize
-    requires at_bound { at ≤ 65536 }
-    requires n_bound { n ≤ 64 }
-    ensures { result ≤ 65536 }
-{
-    let mut o = at;
-    let mut i = 0;
-    while i < n {
-        let s = table.steps[i];
-        let parted = say_byte(rt, b' ', out, o);
-        o = say_record(rt, s, out, parted);
-        i += 1;
-    }
-    o
-}
-
-// `ok COUNT` and the records.
-pub fn say_table(
-    rt: &impl Print,
-    table: Table,
-    count: usize,
-    room: usize,
-    out: &mut [u8; 65536],
-    at: usize,
-) -> usize
-    requires at_bound { at ≤ 65536 }
-    requires room_bound { room ≤ 64 }
-    ensures { result ≤ 65536 }
-{
-    let counted = say_counted(rt, b"ok ", count, out, at);
+// `ok COUNT` and the records, each behind a space: of a table that is the first records of a row of `room`.
+pub fn say_table<P: Print>(out: &mut Output<P>, table: &Table, room: usize, kept: bool) {
+    let count = table.n;
+    out.say(format_args!("ok {count}"));
     if room < count {
-        return end_line(rt, false, out, counted);
+        end_line(out, false);
+        return;
     }
-    let told = say_records(rt, table, count, out, counted);
-    end_line(rt, is_untouched(table, count, room), out, told)
+    for step in table.steps.iter().take(count) {
+        out.say(' ');
+        say_record(out, step);
+    }
+    end_line(out, kept);
 }

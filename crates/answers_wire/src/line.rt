@@ -1,50 +1,16 @@
 // A line and its fields, which stand one space apart; and any text cut at each byte of one kind.
-ghost use Rattle.std.specs.Prelude.{◌≤◌, length};
-
-// The place of the first byte b of s, from the place `from` on, or the length.
-pub fn find(s: &[u8], from: usize, b: u8) -> usize
-    requires { from ≤ length s.now }
-    ensures { (from ≤ result) × (result ≤ length s.now) }
-{
-    let mut i = from;
-    while i < s.len() {
-        if s[i] == b {
-            return i;
-        }
-        i += 1;
-    }
-    i
-}
+ghost use Rattle.std.specs.Prelude.{◌≡◌, ◌+◌, ◌==◌, count_by};
 
 // How many parts s has, cut at each byte b: one, and one more for each b.
-pub fn parts(s: &[u8], b: u8) -> usize {
-    let mut n = 1;
-    let mut i = 0;
-    while i < s.len() {
-        if s[i] == b {
-            n += 1;
-            i += 1;
-        } else {
-            i += 1;
-        }
-    }
-    n
+pub fn parts(s: &[u8], b: u8) -> usize
+    ensures { result ≡ count_by (λ x. x == b) s.now + 1 }
+{
+    s.iter().filter(|x| **x == b).count() + 1
 }
 
 // Part k of s, counted from 0; nothing where s has fewer.
 pub fn part(s: &[u8], b: u8, k: usize) -> &[u8] {
-    let mut from = 0;
-    let mut j = 0;
-    while j < k {
-        let cut = find(s, from, b);
-        if cut == s.len() {
-            return &s[cut..];
-        }
-        from = cut + 1;
-        j += 1;
-    }
-    let end = find(s, from, b);
-    &s[from..end]
+    s.split(|x| *x == b).nth(k).unwrap_or(&[])
 }
 
 // How many fields the line has.

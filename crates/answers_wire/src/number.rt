@@ -1,199 +1,86 @@
 // Floating-point numbers by their bit patterns, each of 16 lowercase hex digits. The language has no bits of a NaN: every
 // NaN pattern is read as the same NaN, and a NaN is written `nan`.
-ghost use Rattle.std.specs.Prelude.{◌+◌, ◌≤◌, ◌≡◌, length};
-ghost use Rattle.answers_wire.specs.Bounds.{up_to};
+ghost use Rattle.std.specs.Prelude.{◌≤◌, IfSome};
 
-use crate::hex::hex_glyph;
-use crate::read::{Natural, hex_digit, read_natural};
-use text::{is_same, put};
+use crate::read::{hex_digit, read_natural};
+use std::num::{f64_from_bits_with_nan, f64_to_bits_with_nan};
 
 // The digits of a pattern; with the comma behind them.
 const DIGITS: usize = 16;
 
 const EACH: usize = 17;
 
-// The weight of a pattern's sign, that of its exponent, and the exponent of an infinity or a NaN.
-const SIGN: u64 = 0x8000_0000_0000_0000;
-
-const EXPONENT: u64 = 0x10_0000_0000_0000;
-
-const ONES: u64 = 2047;
-
 // How many numbers the field spells, at most `most`: `-` for none, `zeros:K` for K times +0, or patterns joined by commas.
-pub fn numbers(field: &[u8], most: usize) -> Natural
-    requires { most ≤ 999999999 }
-    ensures { up_to most result }
+pub fn count_numbers(field: &[u8], most: usize) -> Option<usize>
+    ensures { IfSome result (λ n. n ≤ most) }
 {
-    if is_same(field, b"-") {
-        return Natural::Is(0);
+    if field == b"-".as_slice() {
+        return Some(0);
     }
-    if field.len() < 6 {
-        return Natural::Not;
-    }
-    if is_same(&field[..6], b"zeros:") {
-        return read_natural(&field[6..], most);
-    }
-    patterns(field, most)
-}
-
-// How many patterns, joined by commas.
-fn patterns(field: &[u8], most: usize) -> Natural
-    ensures { up_to most result }
-{
-    if field.len() % EACH != DIGITS {
-        return Natural::Not;
+    if let Some(count) = field.strip_prefix(b"zeros:") {
+        return read_natural(count, most);
     }
     let n = field.len() / EACH + 1;
-    if most < n {
-        return Natural::Not;
+    if n <= most && are_patterns(field) {
+        Some(n)
+    } else {
+        None
     }
-    let mut i = 0;
-    while i < n {
-        if !is_pattern(field, i * EACH) {
-            return Natural::Not;
-        }
-        i += 1;
-    }
-    Natural::Is(n)
 }
 
-// Does a pattern stand at `at`, with a comma or the end behind it?
-fn is_pattern(field: &[u8], at: usize) -> bool
-    requires { at + 16 ≤ length field.now }
-{
-    let end = at + DIGITS;
-    if end < field.len() {
-        if field[end] != b',' {
-            return false;
-        }
-    }
-    is_hex(&field[at..end])
+// Is the field patterns joined by commas?
+fn are_patterns(field: &[u8]) -> bool {
+    field.len() % EACH == DIGITS && field.chunks(EACH).all(is_pattern)
 }
 
-// Is each byte a hex digit?
-fn is_hex(s: &[u8]) -> bool {
-    let mut i = 0;
-    while i < s.len() {
-        if 15 < hex_digit(s[i]) {
-            return false;
-        }
-        i += 1;
+// Is this a pattern, with a comma or nothing behind it?
+fn is_pattern(spelled: &[u8]) -> bool {
+    match spelled.split_at_checked(DIGITS) {
+        Some((digits, [] | [b','])) => digits.iter().all(|b| hex_digit(*b).is_some()),
+        _ => false,
     }
-    true
 }
 
 // Puts the numbers that the field spells into out, as many as it holds.
 pub fn read_numbers(field: &[u8], out: &mut [f64]) {
-    let mut i = 0;
-    while i < out.len() {
-        out[i] = number(field, i);
-        i += 1;
+    let mut spelled = field.chunks(EACH);
+    for x in out.iter_mut() {
+        *x = spelled.next().map_or(0.0, number);
     }
 }
 
 // Are these the numbers that the field spells?
 pub fn are_numbers(field: &[u8], s: &[f64]) -> bool {
-    let mut i = 0;
-    while i < s.len() {
-        if !is_same_number(s[i], number(field, i)) {
+    let mut spelled = field.chunks(EACH);
+    for x in s {
+        if !is_same_number(*x, spelled.next().map_or(0.0, number)) {
             return false;
         }
-        i += 1;
     }
     true
-}
-
-// Sets every number to x.
-pub fn fill_numbers(s: &mut [f64], x: f64) {
-    let mut i = 0;
-    while i < s.len() {
-        s[i] = x;
-        i += 1;
-    }
 }
 
 // Is every number x?
 pub fn is_all_number(s: &[f64], x: f64) -> bool {
-    let mut i = 0;
-    while i < s.len() {
-        if !is_same_number(s[i], x) {
-            return false;
-        }
-        i += 1;
-    }
-    true
+    s.iter().all(|y| is_same_number(*y, x))
 }
 
-// Number i of those that the field spells; +0 where it spells no pattern there, as in `zeros:K`.
-fn number(field: &[u8], i: usize) -> f64 {
-    if field.len() / EACH < i {
-        return 0.0;
+// The number of a pattern; +0 where there is none, as in `zeros:K`.
+fn number(spelled: &[u8]) -> f64 {
+    match spelled.first_chunk::<DIGITS>() {
+        Some(digits) => f64_from_bits_with_nan(pattern(digits)),
+        None => 0.0,
     }
-    let at = i * EACH;
-    if field.len() - at < DIGITS {
-        return 0.0;
-    }
-    let end = at + DIGITS;
-    of_pattern(pattern(&field[at..end]))
 }
 
 // The pattern that hex digits spell.
-fn pattern(digits: &[u8]) -> u64 {
-    let mut bits: u64 = 0;
-    let mut i = 0;
-    while i < digits.len() {
-        bits = (bits << 4) | (hex_digit(digits[i]) as u64);
-        i += 1;
-    }
-    bits
-}
-
-// The number of a pattern.
-fn of_pattern(bits: u64) -> f64 {
-    if bits % SIGN / EXPONENT != ONES {
-        return f64::from_bits(bits);
-    }
-    if bits % EXPONENT == 0 {
-        return f64::from_bits(bits);
-    }
-    0.0 / 0.0
-}
-
-// The pattern of a number; of a NaN, one that no other number has.
-fn pattern_of(x: f64) -> u64 {
-    if x == x {
-        return f64::to_bits(x);
-    }
-    u64::MAX
+fn pattern(digits: &[u8; 16]) -> u64 {
+    digits.iter().fold(0, |bits, b| {
+        (bits << 4) | u64::from(hex_digit(*b).unwrap_or(0))
+    })
 }
 
 // Have the two the same pattern, or are they both NaN?
 fn is_same_number(x: f64, y: f64) -> bool {
-    pattern_of(x) == pattern_of(y)
-}
-
-// A number's pattern, or `nan`.
-pub fn put_number(x: f64, out: &mut [u8], at: usize) -> usize
-    requires { at + 16 ≤ length out.old }
-    ensures { result ≤ at + 16 }
-{
-    if x == x {
-        return put_pattern(f64::to_bits(x), out, at);
-    }
-    put(b"nan", out, at)
-}
-
-// A pattern's digits, the last one first.
-fn put_pattern(bits: u64, out: &mut [u8], at: usize) -> usize
-    requires { at + 16 ≤ length out.old }
-    ensures { result ≡ at + 16 }
-{
-    let mut rest = bits;
-    let mut i = DIGITS;
-    while 0 < i {
-        i -= 1;
-        out[at + i] = hex_glyph((rest % 16) as u8);
-        rest = rest / 16;
-    }
-    at + DIGITS
+    f64_to_bits_with_nan(x) == f64_to_bits_with_nan(y)
 }

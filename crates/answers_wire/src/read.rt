@@ -1,124 +1,70 @@
 // Numbers and texts as the fields spell them.
-ghost use Rattle.std.specs.Prelude.{◌≤◌};
-ghost use Rattle.answers_wire.specs.Bounds.{up_to, within};
+ghost use Rattle.std.specs.Prelude.{◌+◌, ◌≤◌, IfSome, IsTrue, length};
 
-use crate::line::{field, fields};
-use text::is_same;
+use std::str::from_utf8;
 
-// The most digits of a number.
+// The most digits of a number, and of one with a sign.
 const MOST_DIGITS: usize = 9;
 
-#[derive(Clone, Copy, Drop)]
-pub enum Natural {
-    Is(usize),
-    Not,
-}
-
-// How many bytes the text has.
-#[derive(Clone, Copy, Drop)]
-pub enum Text {
-    Is(usize),
-    Not,
-}
+const MOST_SIGNED: usize = 10;
 
 // A number of one to nine decimal digits that is at most `most`.
-pub fn read_natural(field: &[u8], most: usize) -> Natural
-    requires { most ≤ 999999999 }
-    ensures { up_to most result }
+pub fn read_natural(field: &[u8], most: usize) -> Option<usize>
+    ensures { IfSome result (λ n. n ≤ most) }
 {
-    read_digits(field, MOST_DIGITS, most)
+    if !are_digits(field, MOST_DIGITS) {
+        return None;
+    }
+    let n = from_utf8(field).ok()?.parse().ok()?;
+    if n <= most { Some(n) } else { None }
 }
 
-// A number of one to `digits` decimal digits that is at most `most`.
-pub fn read_digits(s: &[u8], digits: usize, most: usize) -> Natural
-    requires { most ≤ 9999999999 }
-    ensures { up_to most result }
+// A number of one to ten decimal digits, behind a `-` where it is below zero.
+pub fn read_signed(field: &[u8]) -> Option<i64>
+    ensures { IfSome result (λ _. length field.now ≤ 11) }
 {
-    if s.len() == 0 {
-        return Natural::Not;
+    if !are_digits(without_sign(field), MOST_SIGNED) {
+        return None;
     }
-    if digits < s.len() {
-        return Natural::Not;
-    }
-    let mut n: usize = 0;
-    let mut i = 0;
-    while i < s.len() {
-        let d = decimal_digit(s[i]);
-        if 9 < d {
-            return Natural::Not;
-        }
-        n = n * 10 + d;
-        if most < n {
-            return Natural::Not;
-        }
-        i += 1;
-    }
-    Natural::Is(n)
+    from_utf8(field).ok()?.parse().ok()
 }
 
-// The bytes that lowercase hex digits spell, two digits a byte, into out from its first; `-` spells none.
-pub fn read_text(field: &[u8], out: &mut [u8]) -> Text
-    ensures { within out.new result }
+// What stands behind the `-`, where there is one.
+fn without_sign(field: &[u8]) -> &[u8]
+    ensures { length field.now ≤ length result.now + 1 }
 {
-    if is_same(field, b"-") {
-        return Text::Is(0);
-    }
-    let n = field.len() / 2;
-    if n == 0 {
-        return Text::Not;
-    }
-    if n * 2 != field.len() {
-        return Text::Not;
-    }
-    if out.len() < n {
-        return Text::Not;
-    }
-    let mut i = 0;
-    while i < n {
-        let high = hex_digit(field[i * 2]);
-        let low = hex_digit(field[i * 2 + 1]);
-        if 15 < high {
-            return Text::Not;
-        }
-        if 15 < low {
-            return Text::Not;
-        }
-        out[i] = high * 16 + low;
-        i += 1;
-    }
-    Text::Is(n)
+    field.strip_prefix(b"-").unwrap_or(field)
 }
 
-// The text in field k of a line, where the line has `count` fields.
-pub fn read_text_of(line: &[u8], count: usize, k: usize, out: &mut [u8]) -> Text
-    ensures { within out.new result }
+// Are these decimal digits, `most` at most?
+fn are_digits(s: &[u8], most: usize) -> bool
+    ensures { IsTrue result → length s.now ≤ most }
 {
-    if fields(line) != count {
-        return Text::Not;
-    }
-    read_text(field(line, k), out)
+    s.len() <= most && s.iter().all(u8::is_ascii_digit)
 }
 
-// The digit's value, or 10.
-fn decimal_digit(b: u8) -> usize
-    ensures { result ≤ 10 }
-{
-    if b < b'0' {
-        return 10;
+// The bytes that lowercase hex digits spell, two digits a byte, in the first bytes of `room`; `-` spells none.
+pub fn read_text<'a>(field: &[u8], room: &'a mut [u8]) -> Option<&'a [u8]> {
+    if field == b"-".as_slice() {
+        return Some(&[]);
     }
-    if b'9' < b {
-        return 10;
+    if field.is_empty() || field.len() % 2 != 0 {
+        return None;
     }
-    (b - b'0') as usize
+    let text = room.get_mut(..field.len() / 2)?;
+    for (byte, digits) in text.iter_mut().zip(field.chunks_exact(2)) {
+        *byte = hex_digit(digits[0])? * 16 + hex_digit(digits[1])?;
+    }
+    Some(text)
 }
 
-// The digit's value, or 16.
-pub fn hex_digit(b: u8) -> u8
-    ensures { result ≤ 16 }
+// The value of a lowercase hex digit.
+pub fn hex_digit(b: u8) -> Option<u8>
+    ensures { IfSome result (λ d. d ≤ 15) }
 {
     match b {
-        b'0'..=b'9' => b - b'0',
-        b'a'..=b'f' => b - b'a' + 10,
-        _ => 16,
+        b'0'..=b'9' => Some(b - b'0'),
+        b'a'..=b'f' => Some(b - b'a' + 10),
+        _ => None,
     }
 }

@@ -19,8 +19,6 @@ use Rattle.laws_lists.specs.Tests.{and_left, and_right}
 use Rattle.laws_lists.specs.Lists.{map_same}
 use Rattle.columns.specs.Coords.{slot, slot_at, slots_of, picked, placed}
 use Rattle.axisswap.specs.Signs.{turn_at, turns_of, turned_by, ordered, unordered, ordered_by}
-use Rattle.columns.specs.declared.slots.Slots.{Slots}
-use Rattle.axisswap.specs.declared.coords.Turns.{Turns}
 use Rattle.columns.proofs.BySlot.{slot-number, slot-put, put-own, put-above}
 
 -- ---- from what the code tests
@@ -125,7 +123,7 @@ module _ (c : Coord) where
 
 -- ---- forward or back
 
-module _ (l : List ℤ) (h : is_order l ≡ true) (o : Slots) (t : Turns) (slots : o ≡ slots_of l) (signs : t ≡ turns_of l) where
+module _ (l : List ℤ) (h : is_order l ≡ true) (o : List ℕ) (t : List Bool) (slots : o ≡ slots_of l) (signs : t ≡ turns_of l) where
   made_so : (back : Bool) (c : Coord) → ordered_by back o t c ≡ swapped back l c
   unfolding ordered_by
   made_so false c = (λ i. ordered (slots i) (signs i) c) ∙ order-made c l (ruled l h)

@@ -13,16 +13,10 @@ pub fn act_of(args: [i32; 8], n: usize, direction: Direction) -> Doing
     requires args_value { is_order (take n args) ≡ true }
     ensures { Does (act_of direction Axisswap (take n args)) result }
 {
-    match direction {
-        Direction::Forward => Doing {
-            act: Act::Orders { back: false },
-            args: args,
-            n: n,
-        },
-        Direction::Inverse => Doing {
-            act: Act::Orders { back: true },
-            args: args,
-            n: n,
-        },
+    let back = matches!(direction, Direction::Inverse);
+    Doing {
+        act: Act::Orders { back },
+        args,
+        n,
     }
 }

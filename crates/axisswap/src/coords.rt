@@ -3,81 +3,69 @@ ghost use Rattle.std.specs.Prelude.{◌≡◌, true, map};
 ghost use Rattle.rules.specs.Operators.Arguments.{is_order};
 ghost use Rattle.rules.specs.Operators.Axisswap.{swapped};
 ghost use Rattle.rules.specs.Pipeline.Tuples.{tuples};
-ghost use Rattle.columns.specs.Coords.{Within};
 ghost use Rattle.axisswap.specs.Signs.{turn_at, turns_of, turned_by, ordered, unordered, ordered_by};
 
-use columns::{Slots, get_coord, pick, place, set_coord, slots_of, turned};
-use numbers::minus_at;
+use columns::{Slots, each_coord, pick, place, slots_of, turned};
+use numbers::is_minus;
 use rules::Coord;
-
-// For each of four numbers: is its sign turned?
-#[derive(Clone, Copy, Drop)]
-pub struct Turns {
-    pub t1: bool,
-    pub t2: bool,
-    pub t3: bool,
-    pub t4: bool,
-}
 
 // Is argument i of an order, counted from 0, below zero? Past the arguments the sign stays.
 fn turn_at(args: &[i32], i: usize) -> bool
     ensures { result ≡ turn_at args.now i }
 {
-    if i < args.len() {
-        return minus_at(args, i);
+    match args.get(i) {
+        Some(x) => is_minus(*x),
+        None => false,
     }
-    false
 }
 
-// The signs of an order.
-fn turns_of(args: &[i32]) -> Turns
+// For each of the four numbers of an order: is its sign turned?
+fn turns_of(args: &[i32]) -> [bool; 4]
     ensures { result ≡ turns_of args.now }
 {
-    Turns {
-        t1: turn_at(args, 0),
-        t2: turn_at(args, 1),
-        t3: turn_at(args, 2),
-        t4: turn_at(args, 3),
-    }
+    [
+        turn_at(args, 0),
+        turn_at(args, 1),
+        turn_at(args, 2),
+        turn_at(args, 3),
+    ]
 }
 
 // A coordinate with these signs turned.
-fn turned_by(t: Turns, c: Coord) -> Coord
+fn turned_by(t: [bool; 4], c: Coord) -> Coord
     ensures { result ≡ turned_by t c }
 {
     Coord {
-        a: turned(t.t1, c.a),
-        b: turned(t.t2, c.b),
-        c: turned(t.t3, c.c),
-        d: turned(t.t4, c.d),
+        a: turned(t[0], c.a),
+        b: turned(t[1], c.b),
+        c: turned(t[2], c.c),
+        d: turned(t[3], c.d),
     }
 }
 
 // Forward: output i is the number at slot i, with its sign.
-fn forward(c: Coord, o: Slots, t: Turns) -> Coord
-    requires { Within o }
-    ensures { result ≡ ordered o t c }
+fn forward(c: Coord, o: Slots, t: [bool; 4]) -> Coord
+    ensures { result ≡ ordered o.at t c }
 {
     turned_by(t, pick(c, o))
 }
 
 // Inverse: number i goes to slot i, with its sign.
-fn inverse(c: Coord, o: Slots, t: Turns) -> Coord
-    requires { Within o }
-    ensures { result ≡ unordered o t c }
+fn inverse(c: Coord, o: Slots, t: [bool; 4]) -> Coord
+    ensures { result ≡ unordered o.at t c }
 {
     place(c, o, turned_by(t, c))
 }
 
 // One coordinate, forward or back.
-fn swapped(c: Coord, back: bool, o: Slots, t: Turns) -> Coord
-    requires { Within o }
-    ensures { result ≡ ordered_by back o t c }
+fn swapped(c: Coord, back: bool, o: Slots, t: [bool; 4]) -> Coord
+    ensures { result ≡ ordered_by back o.at t c }
 {
     if back {
-        return inverse(c, o, t);
+        inverse(c, o, t)
+    } else {
+        forward(c, o, t)
     }
-    forward(c, o, t)
 }
 
 // Every coordinate of a list: the slots and signs are made once.
@@ -87,11 +75,5 @@ pub fn axisswap(xs: &mut [f64], back: bool, args: &[i32])
 {
     let o = slots_of(args);
     let t = turns_of(args);
-    let n = xs.len() / 4;
-    let mut k = 0;
-    while k < n {
-        let c = get_coord(xs, k);
-        set_coord(xs, k, swapped(c, back, o, t));
-        k += 1;
-    }
+    each_coord(xs, |c| swapped(c, back, o, t));
 }

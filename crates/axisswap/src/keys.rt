@@ -7,11 +7,11 @@ use rules::Kind;
 use text::is_same;
 
 // What a key takes, if it is the one.
-pub fn kind_of(key: &[u8]) -> Kind
+pub fn kind_of(key: &[u8]) -> Option<Kind>
     ensures { result ≡ kind_in order_keys key.now }
 {
     if is_same(key, b"order") {
-        return Kind::Series;
+        return Some(Kind::Series);
     }
-    Kind::Lacking
+    None
 }

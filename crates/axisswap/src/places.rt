@@ -9,7 +9,7 @@ ghost use Rattle.rules.specs.Operators.Acts.{orders};
 ghost use Rattle.columns.specs.Traces.{Whole, Moved};
 
 use columns::Traced;
-use numbers::{axis_at, minus_at};
+use numbers::{axis_of, is_minus};
 use rules::Place;
 
 // A place with its sign turned, or kept.
@@ -22,6 +22,7 @@ fn turned(minus: bool, p: Place) -> Place
     }
 }
 
+// Stays, beside `unordered`: the two differ in which place is read and which is written; one loop for both would ask that at each turn.
 // Forward: output i is the place that the order names, with its sign.
 fn ordered(tuple: [Place; 4], l: &[i32]) -> [Place; 4]
     requires tuple_len { length tuple ≡ 4 }
@@ -30,13 +31,10 @@ fn ordered(tuple: [Place; 4], l: &[i32]) -> [Place; 4]
     ensures { Ordered false l.now tuple result }
 {
     let mut r = tuple;
-    let mut i = 0;
-    while i < l.len() {
-        let k = axis_at(l, i);
+    for (i, x) in l.iter().enumerate() {
+        let k = axis_of(*x);
         let p = tuple[k];
-        let q = turned(minus_at(l, i), p);
-        r[i] = q;
-        i += 1;
+        r[i] = turned(is_minus(*x), p);
     }
     r
 }
@@ -49,13 +47,10 @@ fn unordered(tuple: [Place; 4], l: &[i32]) -> [Place; 4]
     ensures { Ordered true l.now tuple result }
 {
     let mut r = tuple;
-    let mut i = 0;
-    while i < l.len() {
-        let k = axis_at(l, i);
+    for (i, x) in l.iter().enumerate() {
+        let k = axis_of(*x);
         let p = tuple[i];
-        let q = turned(minus_at(l, i), p);
-        r[k] = q;
-        i += 1;
+        r[k] = turned(is_minus(*x), p);
     }
     r
 }
@@ -67,9 +62,10 @@ fn reordered(tuple: [Place; 4], back: bool, l: &[i32]) -> [Place; 4]
     ensures { Ordered back l.now tuple result }
 {
     if back {
-        return unordered(tuple, l);
+        unordered(tuple, l)
+    } else {
+        ordered(tuple, l)
     }
-    ordered(tuple, l)
 }
 
 // The four places of a check: its columns stay.
@@ -78,9 +74,8 @@ pub fn order_places(t: Traced, back: bool, l: &[i32]) -> Traced
     requires l_value { is_order l.now ≡ true }
     ensures { Moved (orders back l.now) t result }
 {
-    let tuple = t.tuple;
-    let out = reordered(tuple, back, l);
-    let mut r = t;
-    r.tuple = out;
-    r
+    Traced {
+        tuple: reordered(t.tuple, back, l),
+        ..t
+    }
 }

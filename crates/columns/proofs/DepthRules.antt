@@ -112,12 +112,6 @@ module _ (d : Doing) (full : length d.args ≡ 8) (few : d.n ≤ 8) where
     unfolding depth_after does grown left deep
     after-pops e = ap (λ (n : ℕ). depth - n) (sym long) ∙ sym (same (take d.n d.args) (too_few (rules.pops (places (take d.n d.args))) depth) _) ∙ by deep e
 
-    pub after-pops-few : d.act ≡ Pops → depth < d.n → 0 ≡ depth_after (doing d) depth
-    after-pops-few e h = none ∙ after-pops e
-      where
-        none : 0 ≡ depth - d.n
-        none = omega arith
-
     pub after-pops_all-few : d.act ≡ PopsAll → depth < d.n → depth ≡ depth_after (doing d) depth
     unfolding depth_after does grown left too_few takes deep
     after-pops_all-few e h = rw (long, lt-ltb depth d.n h) refl ∙ by deep e

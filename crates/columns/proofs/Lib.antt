@@ -2,12 +2,12 @@
 pub mod Acted
 pub mod DepthRules
 pub mod Firsts
-pub mod Four
+pub mod FourNumbers
 pub mod InStore
+pub mod Lent
 pub mod OneNumber
 pub mod Reversals
 pub mod TupleAt
-pub mod TurnedRow
 pub mod Zeros
 pub mod BySlot
 pub mod StoredPlace

@@ -1,20 +1,22 @@
 -- One number of every tuple: read into a column, and stored from one.
 use mathlib.Core.Path.{◌≡◌, refl, sym, ap, ◌∙◌}
 use Prim.Native.Nat.{ℕ, zero, suc, ◌+◌, ◌/◌, ◌<◌, ◌≤◌}
+use mathlib.Core.Bool.{Bool, true, false}
 use mathlib.Core.List.{List, [], ◌∷◌}
 use native.Mathlib.Nat.{le_of_suc-le-suc, not-suc-le-zero}
 use native.Mathlib.Omega.{arith}
-use lib.ListN.{length, get_or, set, take, drop, length-map, length-drop}
-use lib.Seq.{drop-cons, get_or-take, get_or-drop, length-take-le, paste, paste-suc}
-use native.Mathlib.Numerals.{add-one}
+use borrow.Author.Tests.{ltb-true, ltb-false}
+use lib.Dec.{ltb}
+use lib.ListN.{length, get_or, set, drop, length-map, length-set}
+use lib.Seq.{drop-cons, ext_get_or, get_or-set_same, get_or-set_other}
 use lib.Ieee.{Float, nan}
 use Rattle.rules.specs.Operators.Numbers.{number, put}
 use Rattle.rules.specs.Pipeline.Tuples.{tuples, column, stored}
 use Rattle.rules.specs.declared.Coord.{Coord}
 use Rattle.laws_steps.specs.Lengths.{tuples-length}
 use Rattle.columns.specs.Coords.{no_tuple}
-use Rattle.columns.proofs.Firsts.{each_from, firsts_from, firsts_at, firsts-turn, firsts-all}
-use Rattle.columns.proofs.InStore.{paste-after}
+use Rattle.columns.proofs.Firsts.{each_from, firsts_at}
+use Rattle.columns.proofs.EachTuple.{Each, each-end}
 
 -- the number of tuple k in a column
 pub column-at : (i k : ℕ) (ts : List Coord) → k < length ts → number i (get_or ts k no_tuple) ≡ get_or (column i ts) k nan
@@ -28,7 +30,7 @@ unfolding column
 column-length i xs = length-map (tuples xs) _ ∙ tuples-length xs
 
 -- each tuple with its number of a column
-pub each-stored : (i k : ℕ) (v : List Float) (ts : List Coord) → k + length ts ≤ length v
+each-stored : (i k : ℕ) (v : List Float) (ts : List Coord) → k + length ts ≤ length v
     → each_from k (λ t c. put i (get_or v t nan) c) ts ≡ stored i (drop k v) ts
 unfolding each_from stored
 each-stored i k v [] h = refl
@@ -38,41 +40,42 @@ each-stored i k v (t ∷ ts) h =
 
 -- ---- the loops over the tuples
 
--- one number more copied into a store
-pub copy-turn : (s₀ s : List Float) (at : ℕ) (v : List Float) (k : ℕ) (x : Float) → s ≡ paste s₀ at v k → at + k < length s₀ → k < length v → x ≡ get_or v k nan
-    → set s (at + k) x ≡ paste s₀ at v (k + 1)
-copy-turn s₀ s at v k x inv h b e =
-    (λ i. set (inv i) (at + k) (e i)) ∙ paste-suc s₀ at v k nan h b ∙ ap (paste s₀ at v) (sym (add-one k))
+-- what stores number i of each tuple from a column
+abbrev pub storing : ℕ → List Float → ℕ → Coord → Coord
+storing i v k c = put i (get_or v k nan) c
 
--- what stands in a store from a place on
-pub part_at : (n at k : ℕ) (s : List Float) → k < n → get_or s (at + k) nan ≡ get_or (take n (drop at s)) k nan
-part_at n at k s h = sym (get_or-take n (drop at s) k nan h ∙ get_or-drop at s k nan)
+pub stored-end : (i : ℕ) (v : List Float) {k : ℕ} {xs₀ xs : List Float} → Each (storing i v) xs₀ xs k → length v ≡ length xs₀ / 4 → length v ≤ k
+    → tuples xs ≡ stored i v (tuples xs₀)
+stored-end i v {k} {xs₀} {xs} e many h = each-end e (omega (arith, h, many)) ∙ each-stored i 0 v (tuples xs₀) (omega (arith, many, tuples-length xs₀))
 
--- one tuple more stored from it
-pub store-turn : (n at i k : ℕ) (s : List Float) (ts₀ ts ts' : List Coord) → ts ≡ firsts_from 0 k (λ t c. put i (get_or (take n (drop at s)) t nan) c) ts₀ → k < n → k < length ts₀
-    → ts' ≡ set ts k (put i (get_or s (at + k) nan) (get_or ts k no_tuple))
-    → ts' ≡ firsts_from 0 (k + 1) (λ t c. put i (get_or (take n (drop at s)) t nan) c) ts₀
-store-turn n at i k s ts₀ ts ts' inv h b e =
-    firsts-turn k _ ts₀ ts ts' no_tuple _ _ inv b refl (ap (λ (z : Float). put i z (get_or ts k no_tuple)) (part_at n at k s h)) e
+-- a tuple that the loop has not come to
+pub not_yet : {f : ℕ → Coord → Coord} {xs₀ xs : List Float} {k : ℕ} → Each f xs₀ xs k → get_or (tuples xs) k no_tuple ≡ get_or (tuples xs₀) k no_tuple
+not_yet {f} {xs₀} {xs} {k} e = ap (λ (z : List Coord). get_or z k no_tuple) e.changed ∙ firsts_at 0 k f (tuples xs₀) no_tuple
 
-pub store-end : (n at i k : ℕ) (s : List Float) (ts₀ ts : List Coord) → ts ≡ firsts_from 0 k (λ t c. put i (get_or (take n (drop at s)) t nan) c) ts₀ → length ts₀ ≡ n → n ≤ k → at + n ≤ length s
-    → ts ≡ stored i (take n (drop at s)) ts₀
-store-end n at i k s ts₀ ts inv many h room =
-    inv
-    ∙ firsts-all 0 k _ ts₀ (omega arith)
-    ∙ each-stored i 0 (take n (drop at s)) ts₀ (omega (arith, length-take-le n (drop at s) (omega (arith, length-drop at s))))
+-- the first k numbers of a column are those of v, the others as they were
+pub record Copied (v s₀ s : List Float) (k : ℕ) : Type 0 where
+  pub done : (j : ℕ) → j < k → get_or s j nan ≡ get_or v j nan
+  pub rest : (j : ℕ) → k ≤ j → get_or s j nan ≡ get_or s₀ j nan
+  pub same_length : length s ≡ length s₀
 
--- a place that a copy has not come to
-pub not_yet : (s₀ s : List Float) (at : ℕ) (v : List Float) (k : ℕ) → s ≡ paste s₀ at v k → at + k ≤ length s₀ → k ≤ length v → get_or s (at + k) nan ≡ get_or s₀ (at + k) nan
-not_yet s₀ s at v k inv h b = ap (λ (z : List Float). get_or z (at + k) nan) inv ∙ paste-after s₀ at v k nan h b (at + k) (omega arith)
+pub copied_none : (v s : List Float) → Copied v s s 0
+copied_none v s = record { done = λ j h. absurd (omega (arith, h)); rest = λ j h. refl; same_length = refl }
 
--- one number and its column's exchanged: the tuples, and the store
-pub flip-tuples : (n at i k : ℕ) (s₀ s : List Float) (ts₀ ts ts' : List Coord) → ts ≡ firsts_from 0 k (λ t c. put i (get_or (take n (drop at s₀)) t nan) c) ts₀ → k < n → k < length ts₀
-    → get_or s (at + k) nan ≡ get_or s₀ (at + k) nan → ts' ≡ set ts k (put i (get_or s (at + k) nan) (get_or ts k no_tuple))
-    → ts' ≡ firsts_from 0 (k + 1) (λ t c. put i (get_or (take n (drop at s₀)) t nan) c) ts₀
-flip-tuples n at i k s₀ s ts₀ ts ts' inv h b was e =
-    store-turn n at i k s₀ ts₀ ts ts' inv h b (e ∙ ap (λ (x : Float). set ts k (put i x (get_or ts k no_tuple))) was)
+pub copied_turn : {v s₀ s : List Float} {k : ℕ} {x : Float} → Copied v s₀ s k → k < length s → x ≡ get_or v k nan → Copied v s₀ (set s k x) (k + 1)
+copied_turn {v} {s₀} {s} {k} {x} c h e =
+    record { done = λ j l. done j (ltb j k) refl l; rest = λ j l. get_or-set_other s k j x nan (above j l) ∙ c.rest j (omega arith); same_length = length-set s k x ∙ c.same_length }
+  where
+    above : (j : ℕ) → k + 1 ≤ j → j ≡ k → ⊥
+    above j l f = omega arith
 
-pub flip-number : (f : ℕ → Coord → Coord) (i k : ℕ) (ts₀ ts : List Coord) (y : Float) → ts ≡ firsts_from 0 k f ts₀ → k < length ts₀ → y ≡ number i (get_or ts k no_tuple) → y ≡ get_or (column i ts₀) k nan
-flip-number f i k ts₀ ts y inv h e =
-    e ∙ ap (λ (z : List Coord). number i (get_or z k no_tuple)) inv ∙ ap (number i) (firsts_at 0 k f ts₀ no_tuple) ∙ column-at i k ts₀ h
+    done : (j : ℕ) (b : Bool) → ltb j k ≡ b → j < k + 1 → get_or (set s k x) j nan ≡ get_or v j nan
+    done j true f l = let g = ltb-true j k f in get_or-set_other s k j x nan (below g) ∙ c.done j g
+      where
+        below : j < k → j ≡ k → ⊥
+        below g z = omega arith
+    done j false f l =
+        let g : j ≡ k = omega (arith, ltb-false j k f) in
+        ap (λ (z : ℕ). get_or (set s k x) z nan) g ∙ get_or-set_same s k x nan h ∙ e ∙ ap (λ (z : ℕ). get_or v z nan) (sym g)
+
+pub copied-end : {v s₀ s : List Float} {k : ℕ} → Copied v s₀ s k → length v ≡ length s₀ → length s₀ ≤ k → s ≡ v
+copied-end {v} {s₀} {s} {k} c e h = ext_get_or nan s v (c.same_length ∙ sym e) (λ j b. c.done j (omega (arith, b, h, c.same_length)))

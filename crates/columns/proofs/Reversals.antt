@@ -2,103 +2,101 @@
 use mathlib.Core.Path.{◌≡◌, refl, sym, ap, ◌∙◌}
 use Prim.Native.Nat.{ℕ, ◌+◌, ◌-◌, ◌*◌, ◌<◌, ◌≤◌}
 use mathlib.Core.Bool.{Bool, true, false}
-use mathlib.Core.List.{List}
+use mathlib.Core.List.{List, ◌++◌, append_assoc}
 use native.Mathlib.Omega.{arith}
 use borrow.Author.Tests.{ltb-true, ltb-false}
 use lib.Dec.{ltb}
-use lib.ListN.{length, get_or, set, length-set}
-use lib.Seq.{get_or-set_same, get_or-set_other}
+use borrow.Rule.Slice.PartMut.{post_of}
+use lib.ListN.{length, get_or, take, drop, length-drop, get_or-append}
+use lib.Seq.{get_or-take, get_or-drop, get_or-append-add, length-take-le, drop-drop, paste, length-paste}
 use lib.Ieee.{Float, nan}
-use Rattle.columns.specs.Stores.{col, Exchanged, Reversed}
-use Rattle.columns.proofs.InStore.{under, not-over, other-column, col-same}
+use Rattle.columns.specs.Stores.{col, Off, Exchanged, Reversed}
+use Rattle.columns.proofs.InStore.{under, not-over, other-column, col-same, paste-before, paste-in, paste-after}
 
--- ---- numbers exchanged, one after the other
+-- ---- numbers exchanged
 
-module _ (a b : ℕ) (s₀ : List Float) where
-  pub exchange-none : Exchanged a b 0 s₀ s₀
-  exchange-none = record { low = λ t h. absurd (none h); high = λ t h. absurd (none h); apart = λ i p q. refl }
-    where
-      none : {t : ℕ} → t < 0 → ⊥
-      none h = omega arith
+module _ (s : List Float) (a b n : ℕ) (h : a + n ≤ b) (room : b + n ≤ length s) where
+  abbrev x : List Float
+  x = take b s
 
-  pub exchange-turn : (s s₁ s₂ : List Float) (k : ℕ) (x y : Float) → Exchanged a b k s₀ s → a + k < b → b + k < length s
-      → x ≡ get_or s (a + k) nan → y ≡ get_or s (b + k) nan → s₁ ≡ set s (a + k) y → s₂ ≡ set s₁ (b + k) x → Exchanged a b (k + 1) s₀ s₂
-  exchange-turn s s₁ s₂ k x y inv h room ex ey e₁ e₂ =
+  abbrev y : List Float
+  y = drop b s
+
+  -- the two sides as they are left
+  abbrev x' : List Float
+  x' = take a x ++ (take n y ++ drop n (drop a x))
+
+  abbrev y' : List Float
+  y' = take n (drop a x) ++ drop n y
+
+  long-x : length x ≡ b
+  long-x = length-take-le b s (omega arith)
+
+  long-y : n ≤ length y
+  long-y = omega (arith, length-drop b s)
+
+  pasted : x' ≡ paste x a y n
+  pasted = ap (λ (z : List Float). take a x ++ (take n y ++ z)) (drop-drop n a x) ∙ sym (append_assoc (take a x) (take n y) (drop (a + n) x))
+
+  long-x' : length x' ≡ b
+  long-x' = ap length pasted ∙ length-paste x a y n (omega (arith, long-x)) long-y ∙ long-x
+
+  long-mid : length (take n (drop a x)) ≡ n
+  long-mid = length-take-le n (drop a x) (omega (arith, length-drop a x, long-x))
+
+  in-x : (i : ℕ) → i < b → get_or (x' ++ y') i nan ≡ get_or (paste x a y n) i nan
+  in-x i l = get_or-append x' y' nan i (omega (arith, long-x')) ∙ ap (λ (z : List Float). get_or z i nan) pasted
+
+  in-y : (j : ℕ) → get_or (x' ++ y') (b + j) nan ≡ get_or y' j nan
+  in-y j = ap (λ (z : ℕ). get_or (x' ++ y') (z + j) nan) (sym long-x') ∙ get_or-append-add x' y' j nan
+
+  pub exchanged-all : Exchanged a b n s (x' ++ y')
+  exchanged-all =
       record {
-        low = λ t l. low t (ltb t k) refl l;
-        high = λ t l. high t (ltb t k) refl l;
-        apart = λ i p q. two i (λ f. p k (omega arith) f) (λ f. q k (omega arith) f) ∙ inv.apart i (λ t l. p t (omega arith)) (λ t l. q t (omega arith));
+        low = λ t l. in-x (a + t) (omega arith) ∙ paste-in x a y n nan (omega (arith, long-x)) long-y t l ∙ get_or-drop b s t nan;
+        high = λ t l.
+            in-y t
+            ∙ get_or-append (take n (drop a x)) (drop n y) nan t (omega (arith, long-mid))
+            ∙ get_or-take n (drop a x) t nan l
+            ∙ get_or-drop a x t nan
+            ∙ get_or-take b s (a + t) nan (omega arith);
+        apart = λ i p q. apart i p q (ltb i b) (ltb i a) refl refl;
       }
     where
-      differ : (i : ℕ) → b + k < i → i ≡ b + k → ⊥
-      differ i l f = omega arith
-
-      -- a number elsewhere
-      two : (i : ℕ) → (i ≡ a + k → ⊥) → (i ≡ b + k → ⊥) → get_or s₂ i nan ≡ get_or s i nan
-      two i p q =
-          ap (λ (z : List Float). get_or z i nan) e₂
-          ∙ get_or-set_other s₁ (b + k) i x nan q
-          ∙ ap (λ (z : List Float). get_or z i nan) e₁
-          ∙ get_or-set_other s (a + k) i y nan p
-
-      len : length s₁ ≡ length s
-      len = ap length e₁ ∙ length-set s (a + k) y
-
-      at_a : get_or s₂ (a + k) nan ≡ y
-      at_a =
-          ap (λ (z : List Float). get_or z (a + k) nan) e₂
-          ∙ get_or-set_other s₁ (b + k) (a + k) x nan (λ f. less h f)
-          ∙ ap (λ (z : List Float). get_or z (a + k) nan) e₁
-          ∙ get_or-set_same s (a + k) y nan (omega arith)
+      past : (c i : ℕ) → Off c n i → c ≤ i → c + n ≤ i
+      past c i p l = go (ltb i (c + n)) refl
         where
-          less : a + k < b → a + k ≡ b + k → ⊥
-          less l f = omega arith
+          go : (d : Bool) → ltb i (c + n) ≡ d → c + n ≤ i
+          go false f = ltb-false i (c + n) f
+          go true f = absurd (p (i - c) (omega (arith, ltb-true i (c + n) f)) (omega arith))
 
-      at_b : get_or s₂ (b + k) nan ≡ x
-      at_b = ap (λ (z : List Float). get_or z (b + k) nan) e₂ ∙ get_or-set_same s₁ (b + k) x nan (omega (arith, len))
+      apart : (i : ℕ) → Off a n i → Off b n i → (c d : Bool) → ltb i b ≡ c → ltb i a ≡ d → get_or (x' ++ y') i nan ≡ get_or s i nan
+      apart i p q true true f g =
+          let l = ltb-true i b f in
+          in-x i l ∙ paste-before x a y n nan (omega (arith, long-x)) long-y i (ltb-true i a g) ∙ get_or-take b s i nan l
+      apart i p q true false f g =
+          let l = ltb-true i b f in
+          in-x i l ∙ paste-after x a y n nan (omega (arith, long-x)) long-y i (past a i p (ltb-false i a g)) ∙ get_or-take b s i nan l
+      apart i p q false d f g =
+          let j = i - b in
+          let at : i ≡ b + j = omega (arith, ltb-false i b f) in
+          let over : n ≤ j = omega (arith, past b i q (ltb-false i b f)) in
+          let m : j ≡ n + (j - n) = omega arith in
+          let e : j ≡ length (take n (drop a x)) + (j - n) = omega (arith, long-mid) in
+          ap (λ (z : ℕ). get_or (x' ++ y') z nan) at
+          ∙ in-y j
+          ∙ ap (λ (z : ℕ). get_or y' z nan) e
+          ∙ get_or-append-add (take n (drop a x)) (drop n y) (j - n) nan
+          ∙ get_or-drop n y (j - n) nan
+          ∙ ap (λ (z : ℕ). get_or y z nan) (sym m)
+          ∙ get_or-drop b s j nan
+          ∙ ap (λ (z : ℕ). get_or s z nan) (sym at)
 
-      -- both were still in their places
-      was-a : get_or s (a + k) nan ≡ get_or s₀ (a + k) nan
-      was-a = inv.apart (a + k) (λ t l f. one t l f) (λ t l f. other t l f)
-        where
-          one : (t : ℕ) → t < k → a + k ≡ a + t → ⊥
-          one t l f = omega arith
-
-          other : (t : ℕ) → t < k → a + k ≡ b + t → ⊥
-          other t l f = omega arith
-
-      was-b : get_or s (b + k) nan ≡ get_or s₀ (b + k) nan
-      was-b = inv.apart (b + k) (λ t l f. one t l f) (λ t l f. other t l f)
-        where
-          one : (t : ℕ) → t < k → b + k ≡ a + t → ⊥
-          one t l f = omega arith
-
-          other : (t : ℕ) → t < k → b + k ≡ b + t → ⊥
-          other t l f = omega arith
-
-      low : (t : ℕ) (c : Bool) → ltb t k ≡ c → t < k + 1 → get_or s₂ (a + t) nan ≡ get_or s₀ (b + t) nan
-      low t true f l = let g = ltb-true t k f in two (a + t) (λ z. one z g) (λ z. other z g) ∙ inv.low t g
-        where
-          one : a + t ≡ a + k → t < k → ⊥
-          one z g = omega arith
-
-          other : a + t ≡ b + k → t < k → ⊥
-          other z g = omega arith
-      low t false f l =
-          let e : t ≡ k = omega (arith, ltb-false t k f) in
-          ap (λ (z : ℕ). get_or s₂ (a + z) nan) e ∙ at_a ∙ ey ∙ was-b ∙ ap (λ (z : ℕ). get_or s₀ (b + z) nan) (sym e)
-
-      high : (t : ℕ) (c : Bool) → ltb t k ≡ c → t < k + 1 → get_or s₂ (b + t) nan ≡ get_or s₀ (a + t) nan
-      high t true f l = let g = ltb-true t k f in two (b + t) (λ z. one z g) (λ z. other z g) ∙ inv.high t g
-        where
-          one : b + t ≡ a + k → t < k → ⊥
-          one z g = omega arith
-
-          other : b + t ≡ b + k → t < k → ⊥
-          other z g = omega arith
-      high t false f l =
-          let e : t ≡ k = omega (arith, ltb-false t k f) in
-          ap (λ (z : ℕ). get_or s₂ (b + z) nan) e ∙ at_b ∙ ex ∙ was-a ∙ ap (λ (z : ℕ). get_or s₀ (a + z) nan) (sym e)
+-- a part of what stands before b, and as many numbers from b on: each goes where the other was
+pub exchanged-parts : {s low high mid other : List Float} {a b n k : ℕ} → low ≡ take b s → high ≡ drop b s → other ≡ take n high → mid ≡ take k (drop a low) → k ≡ n
+    → a + n ≤ b → b + n ≤ length s → Exchanged a b n s ((take a low ++ (other ++ post_of a k low)) ++ (mid ++ drop n high))
+exchanged-parts {s} {low} {high} {mid} {other} {a} {b} {n} {k} el eh eo em ek h room =
+    rw (eo, em, ek, el, eh) (exchanged-all s a b n h room)
 
 -- ---- two columns exchanged
 

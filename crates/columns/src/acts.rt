@@ -38,10 +38,6 @@ pub fn reversed(args: [i32; 8], n: usize) -> [i32; 8]
     ensures { take n result ≡ reverse (take n args) }
 {
     let mut r = args;
-    let mut i = 0;
-    while i < n {
-        r[i] = args[n - 1 - i];
-        i += 1;
-    }
+    r[..n].reverse();
     r
 }

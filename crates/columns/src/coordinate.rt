@@ -25,14 +25,11 @@ pub fn turned(turns: bool, x: f64) -> f64
 pub fn number_of(c: Coord, i: usize) -> f64
     ensures { result ≡ number i c }
 {
-    if i == 1 {
-        c.a
-    } else if i == 2 {
-        c.b
-    } else if i == 3 {
-        c.c
-    } else {
-        c.d
+    match i {
+        1 => c.a,
+        2 => c.b,
+        3 => c.c,
+        _ => c.d,
     }
 }
 
@@ -40,34 +37,11 @@ pub fn number_of(c: Coord, i: usize) -> f64
 pub fn with_number(c: Coord, i: usize, x: f64) -> Coord
     ensures { result ≡ put i x c }
 {
-    if i == 1 {
-        Coord {
-            a: x,
-            b: c.b,
-            c: c.c,
-            d: c.d,
-        }
-    } else if i == 2 {
-        Coord {
-            a: c.a,
-            b: x,
-            c: c.c,
-            d: c.d,
-        }
-    } else if i == 3 {
-        Coord {
-            a: c.a,
-            b: c.b,
-            c: x,
-            d: c.d,
-        }
-    } else {
-        Coord {
-            a: c.a,
-            b: c.b,
-            c: c.c,
-            d: x,
-        }
+    match i {
+        1 => Coord { a: x, ..c },
+        2 => Coord { b: x, ..c },
+        3 => Coord { c: x, ..c },
+        _ => Coord { d: x, ..c },
     }
 }
 

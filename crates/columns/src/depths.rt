@@ -12,8 +12,7 @@ pub fn takes(d: Doing) -> usize
     requires { d.n ≤ 8 }
     ensures { result ≡ takes (doing d) }
 {
-    let act = d.act;
-    match act {
+    match d.act {
         Act::Pops | Act::PopsAll | Act::Flips => d.n,
         Act::Rolls { m, n: _ } => m,
         _ => 0,
@@ -27,21 +26,10 @@ pub fn depth_after(d: Doing, depth: usize) -> usize
     ensures { result ≡ depth_after (doing d) depth }
 {
     let n = d.n;
-    let act = d.act;
-    match act {
+    match d.act {
         Act::Pushes => n + depth,
-        Act::Pops => {
-            if depth < n {
-                return 0;
-            }
-            depth - n
-        }
-        Act::PopsAll => {
-            if depth < n {
-                return depth;
-            }
-            depth - n
-        }
+        Act::Pops => depth.saturating_sub(n),
+        Act::PopsAll => { if depth < n { depth } else { depth - n } }
         _ => depth,
     }
 }
@@ -51,8 +39,7 @@ pub fn counts_none(d: Doing, depth: usize) -> bool
     requires { d.n ≤ 8 }
     ensures { result ≡ counts_none (doing d) depth }
 {
-    let act = d.act;
-    match act {
+    match d.act {
         Act::Swaps => depth == 0,
         Act::Drops => true,
         _ => depth < takes(d),

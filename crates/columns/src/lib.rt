@@ -6,14 +6,16 @@ mod acts;
 mod column;
 mod coordinate;
 mod depths;
+mod four;
 mod slots;
 mod store;
 mod traced;
 
 pub use acts::{Act, Doing, reversed};
-pub use column::{flip_column, nan_all, nan_column, pop_column, push_column};
+pub use column::{each_coord, flip_column, nan_all, nan_column, pop_column, push_column};
 pub use coordinate::{get_coord, set_coord, turned};
 pub use depths::{counts_none, depth_after, takes};
-pub use slots::{Slots, pick, place, slots_of};
+pub use four::Slots;
+pub use slots::{pick, place, slots_of};
 pub use store::{exchange, reverse, zero_rest};
 pub use traced::Traced;

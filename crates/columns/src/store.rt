@@ -9,14 +9,8 @@ pub fn exchange(store: &mut [f64], a: usize, b: usize, n: usize)
     requires n_in_bounds { b + n ≤ length store.old }
     ensures { Exchanged a b n store.old store.new }
 {
-    let mut k = 0;
-    while k < n {
-        let x = store[a + k];
-        let y = store[b + k];
-        store[a + k] = y;
-        store[b + k] = x;
-        k += 1;
-    }
+    let (low, high) = store.split_at_mut(b);
+    low[a..a + n].swap_with_slice(&mut high[..n]);
 }
 
 // The columns from one up to another in the opposite order.
@@ -26,12 +20,8 @@ pub fn reverse(store: &mut [f64], n: usize, from: usize, to: usize)
     requires n_in_bounds { to * n ≤ length store.old }
     ensures { Reversed n from to store.old store.new }
 {
-    let mut i = from;
-    let mut j = to;
-    while i + 1 < j {
-        j -= 1;
-        exchange(store, i * n, j * n, n);
-        i += 1;
+    for k in 0..(to - from) / 2 {
+        exchange(store, (from + k) * n, (to - 1 - k) * n, n);
     }
 }
 
@@ -41,9 +31,5 @@ pub fn zero_rest(store: &mut [f64], from: usize, to: usize)
     requires to_in_bounds { to ≤ length store.old }
     ensures { store.new ≡ take from store.old ++ (replicate (to - from) (fin false 0 (pos 0)) ++ drop to store.old) }
 {
-    let mut i = from;
-    while i < to {
-        store[i] = 0.0;
-        i += 1;
-    }
+    store[from..to].fill(0.0);
 }

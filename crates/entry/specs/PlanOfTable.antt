@@ -1,14 +1,13 @@
 -- What the call by value leaves in a table of blank records is a plan for every row of that length.
-use Rattle.std.specs.Prelude.{◌≡◌, ℕ, ◌≤◌, min, Bool, true, false, cond, List, ◌++◌, ltb, length, take, drop}
+use Rattle.rules.specs.declared.Refusal.{Refusal}
+use Rattle.std.specs.Prelude.{◌≡◌, ℕ, ◌≤◌, min, Bool, true, false, cond, List, ◌++◌, ltb, length, take, drop, Result, Ok}
 use Rattle.std.proofs.Math.Path.{refl}
 use Rattle.std.proofs.Common.{sym, ap, subst, ◌∙◌, zero-le, append_assoc, arith, length-take, take_at}
 use borrow.Author.Tests.{lt-ltb, le-ltb, ltb-true, ltb-false}
 use Rattle.rules.specs.Text.Bytes.{Bytes}
-use Rattle.rules.specs.Text.Refusal.{Reply, answers, refuses, refuses12, tested, lent, outcome, prepared}
+use Rattle.rules.specs.Text.Refusal.{Reply, answers, refuses, refuses12, tested, lent, outcome, prepared, refusal_at}
 use Rattle.rules.specs.Pipeline.Prepare.{prepare_as}
 use Rattle.rules.specs.declared.Mode.{Mode}
-use Rattle.rules.specs.declared.Prepared.{Prepared}
-use Rattle.rules.specs.declared.Prepared.TheVariants as prepared-is
 use Rattle.rules.specs.declared.Reading.{Reading}
 use Rattle.rules.specs.declared.Step.{Step}
 use Rattle.rules.specs.declared.Table.{Table}
@@ -27,22 +26,22 @@ plan_of q = record { answer = q.answer; steps = q.table.steps; n = count_of q.an
 -- a reply, brought into the blank records and from there into a row
 record Brings (reply : Reply (List Step)) (row : List Step) (p : Plan) : Type 0 where
   fits : Fits p.n row
-  keeps : ◌≡◌ {A = Prepared × List Step} (p.answer, laid p.steps p.n row) (lent prepared reply row)
+  keeps : ◌≡◌ {A = Result ℕ Refusal × List Step} (p.answer, laid p.steps p.n row) (lent prepared reply row)
 
 module _ (row : List Step) where
   -- nothing is written
   leaves : (reply : Reply (List Step)) (number place offset : ℕ) (steps : List Step)
-      → ◌≡◌ {A = Prepared × List Step} (prepared-is.Refused number place offset, row) (lent prepared reply row)
-      → Brings reply row (record { answer = prepared-is.Refused number place offset; steps = steps; n = 0 })
+      → ◌≡◌ {A = Result ℕ Refusal × List Step} (refusal_at number place offset, row) (lent prepared reply row)
+      → Brings reply row (record { answer = refusal_at number place offset; steps = steps; n = 0 })
   leaves reply number place offset steps e =
       record {
         fits = record { held = zero-le; room = zero-le };
-        keeps = ap (λ (l : List Step). (prepared-is.Refused number place offset, l)) (laid_none steps row) ∙ e;
+        keeps = ap (λ (l : List Step). (refusal_at number place offset, l)) (laid_none steps row) ∙ e;
       }
 
   -- all records are written, from the first on
   writes : (xs rest : List Step) → length xs ≤ 64 → length xs ≤ length row
-      → Brings (answers xs) row (record { answer = prepared-is.Steps (length xs); steps = xs ++ rest; n = length xs })
+      → Brings (answers xs) row (record { answer = Ok (length xs); steps = xs ++ rest; n = length xs })
   unfolding laid lent prepared
   writes xs rest few room =
       record {
@@ -53,7 +52,7 @@ module _ (row : List Step) where
 -- of at most 64 records
 brought : (reply : Reply (List Step)) → ((xs : List Step) → reply ≡ answers xs → length xs ≤ 64) → (row : List Step)
     → Brings reply row (plan_of (lent_to reply (emptied (length row))))
-unfolding plan_of lent_to with_row count_of lent prepared
+unfolding plan_of lent_to with_row lent prepared
 brought (refuses number place) few row = leaves row (refuses number place) number place 0 _ refl
 brought (refuses12 place offset) few row = leaves row (refuses12 place offset) 12 place offset _ refl
 brought (answers xs) few row = go (ltb (length front) (length xs)) refl
@@ -68,7 +67,7 @@ brought (answers xs) few row = go (ltb (length front) (length xs)) refl
     small = few xs refl
 
     go : (b : Bool) → ltb (length front) (length xs) ≡ b
-        → Brings (answers xs) row (plan_of (with_row (emptied (length row)) (cond b (prepared-is.Refused 7 0 0, front) (prepared-is.Steps (length xs), xs ++ drop (length xs) front))))
+        → Brings (answers xs) row (plan_of (with_row (emptied (length row)) (cond b (refusal_at 7 0 0, front) (Ok (length xs), xs ++ drop (length xs) front))))
     go true e = leaves row (answers xs) 7 0 0 _ (rw (lt-ltb (length row) (length xs) (omega (arith, size, small, ltb-true (length front) (length xs) e))))
     go false e =
         rw (append_assoc xs (drop (length xs) front) (drop (length row) blanks))

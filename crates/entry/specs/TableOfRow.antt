@@ -1,8 +1,7 @@
 -- The table of 64 that stands for a row: the check and the run find in it what they would find in the row.
-use Rattle.std.specs.Prelude.{◌≡◌, refl, Bool, true, false, List, ltb, drop, Float}
+use Rattle.std.specs.Prelude.{◌≡◌, refl, Bool, true, false, List, ltb, drop, Float, Some}
 use Rattle.std.proofs.Common.{sym, ap, ◌∙◌, append-nil, lt-ltb, ltb-true, ltb-false}
 use Prim.Native.Nat.{◌-◌, ◌≤◌, ◌<◌, min}
-use Rattle.std.proofs.Math.Option.{some}
 use native.Mathlib.Omega.{arith}
 use Rattle.std.proofs.Math.ListN.{length, length-append, length-replicate}
 use Rattle.std.proofs.Math.Seq.{take_all, take_at}
@@ -33,12 +32,12 @@ module _ (row : List Step) where
       rw (m, take_all (length row) (laid row 64 blanks) (rw s (omega arith)), length-append, s, length-replicate (length row - 64) blank) (omega arith)
 
   -- over 64 records: 18 at 0
-  refused-long : (l : List Step) → length l ≡ length row → 64 < length row → refusal18 l ≡ some 0
+  refused-long : (l : List Step) → length l ≡ length row → 64 < length row → refusal18 l ≡ Some 0
   unfolding refusal18
   refused-long l e h = rw (lt-ltb 64 (length l) (rw e h))
 
   -- so whatever is said of a list of records, and is one thing where that is refused, is said of the row
-  stands : {X : Type 0} (said : List Step → X) (refusal : X) → ((l : List Step) → refusal18 l ≡ some 0 → said l ≡ refusal) → said (listed (loaded row)) ≡ said row
+  stands : {X : Type 0} (said : List Step → X) (refusal : X) → ((l : List Step) → refusal18 l ≡ Some 0 → said l ≡ refusal) → said (listed (loaded row)) ≡ said row
   stands said refusal at-18 = go (ltb 64 (length row)) refl
     where
       go : (b : Bool) → ltb 64 (length row) ≡ b → said (listed (loaded row)) ≡ said row

@@ -6,30 +6,16 @@ ghost use Rattle.std.specs.Prelude.{◌≡◌};
 ghost use Rattle.rules.specs.Pipeline.Prepare.{Prepares, PreparesAs};
 ghost use Rattle.rules.specs.Pipeline.Check.{Checks};
 ghost use Rattle.rules.specs.Pipeline.Run.{Runs};
-ghost use Rattle.entry.specs.Plans.{count_of, Plans};
+ghost use Rattle.entry.specs.Plans.{Plans};
 
-use rules::{Direction, Foretold, Mode, Prepared, Ran, Reading, Step};
+use rules::{Direction, Finished, Foretold, Mode, Reading, Refusal, Step};
 
-// What preparing is to answer, and what it is to write over the lent row: the first n of the records.
+// What preparing is to answer, and what it is to write over the lent row: the first n of the records. A refusal writes none.
 #[derive(Clone, Copy, Drop)]
 pub struct Plan {
-    pub answer: Prepared,
+    pub answer: Result<usize, Refusal>,
     pub steps: [Step; 64],
     pub n: usize,
-}
-
-// How many records an answer writes: a refusal writes none.
-fn count_of(answer: Prepared) -> usize
-    ensures { result ≡ count_of answer }
-{
-    match answer {
-        Prepared::Steps(n) => n,
-        Prepared::Refused {
-            number,
-            place,
-            offset,
-        } => 0,
-    }
 }
 
 // Prepares text in a reading and a mode for a row of so many records.
@@ -41,14 +27,19 @@ fn planned(text: &[u8], reading: Reading, mode: Mode, lent: usize) -> Plan
     let table = p.table;
     let steps = table.steps;
     Plan {
-        answer: answer,
-        steps: steps,
-        n: count_of(answer),
+        answer,
+        steps,
+        n: answer.unwrap_or(0),
     }
 }
 
 // Makes step records of a definition in a reading and a mode, from the first of the lent row on.
-pub fn prepare_as(text: &[u8], reading: Reading, mode: Mode, table: &mut [Step]) -> Prepared
+pub fn prepare_as(
+    text: &[u8],
+    reading: Reading,
+    mode: Mode,
+    table: &mut [Step],
+) -> Result<usize, Refusal>
     ensures { PreparesAs reading mode text.now table.old result table.new }
 {
     let p = planned(text, reading, mode, table.len());
@@ -57,7 +48,7 @@ pub fn prepare_as(text: &[u8], reading: Reading, mode: Mode, table: &mut [Step])
 }
 
 // The same in the crate's reading and the crate's mode.
-pub fn prepare(text: &[u8], table: &mut [Step]) -> Prepared
+pub fn prepare(text: &[u8], table: &mut [Step]) -> Result<usize, Refusal>
     ensures { Prepares text.now table.old result table.new }
 {
     prepare_as(text, Reading::Crate, Mode::Crate, table)
@@ -72,7 +63,12 @@ pub fn check(table: &[Step], direction: Direction) -> Foretold
 }
 
 // Runs a step table over a list of tuples, four numbers each, and a store for columns.
-pub fn run(table: &[Step], direction: Direction, tuples: &mut [f64], columns: &mut [f64]) -> Ran
+pub fn run(
+    table: &[Step],
+    direction: Direction,
+    tuples: &mut [f64],
+    columns: &mut [f64],
+) -> Result<Finished, Refusal>
     ensures { Runs direction table.now tuples.old columns.old result tuples.new columns.new }
 {
     let t = rows::load(table);

@@ -1,8 +1,8 @@
 -- The walk of the check over a table: what it has gathered of the steps behind it, and what the verdict hangs on.
+use Rattle.std.specs.Prelude.{Option, None, Some, Result, Ok, Err}
 use mathlib.Core.Path.{◌≡◌, refl, sym, ap, ◌∙◌, subst}
 use Prim.Native.Nat.{ℕ, suc, ◌+◌, ◌≤◌, ◌<◌, max, ◌-◌}
 use mathlib.Core.Bool.{Bool, true, false, cond, not, ◌||◌, or-false}
-use mathlib.Core.Option.{Option, none, some}
 use mathlib.Core.List.{List, [], ◌∷◌, ◌++◌, append_assoc, append-nil}
 use native.Mathlib.Omega.{arith}
 use lib.ListN.{length, get_or, set, take, replicate, length-append, length-drop}
@@ -27,10 +27,7 @@ use Rattle.columns.specs.declared.acts.Doing.{Doing}
 use Rattle.columns.specs.Doings.{doing, Does}
 use Rattle.record.specs.Visits.{visited, left_from}
 use Rattle.record.proofs.RunningOrder.{left-all, left-none, left-next}
-use Rattle.record.specs.declared.tests.Bad.{Bad}
-use Rattle.record.specs.declared.tests.Bad.TheVariants.{At, Nowhere}
-use Rattle.record.specs.Records.{bad_of}
-use Rattle.foretell.specs.declared.acts.Judged.TheVariants.{Few, Many, Goes}
+use Rattle.foretell.specs.declared.acts.Fault.TheVariants.{Few, Many}
 use Rattle.columns.specs.declared.traced.Traced.{Traced}
 use Rattle.columns.specs.Traces.{machine, depth, Whole}
 use Rattle.foretell.specs.Judgement.{Ready, judged}
@@ -164,23 +161,23 @@ module _ {d : Direction} {l : List Step} {k : ℕ} {c : Sofar} (ch : Checking d 
     at-depth = columns-many c ch.gathered.whole
 
     -- a step at fault
-    pub checking-few : judged a (64 - c.traced.top) ≡ Few → verdict (running d l) begin ≡ TooFew (i + 1)
+    pub checking-few : judged a (64 - c.traced.top) ≡ (Err Few) → verdict (running d l) begin ≡ TooFew (i + 1)
     unfolding own
     checking-few j =
         ch.hangs ∙ ap (λ (x : List Numbered). verdict x (machine c.traced)) runs
         ∙ verdict-few own (left_from d (k + 1) l) (machine c.traced) (64 - c.traced.top) at-depth (ap (λ (x : Act). judged x (64 - c.traced.top)) (sym same) ∙ j)
 
-    pub checking-many : judged a (64 - c.traced.top) ≡ Many → verdict (running d l) begin ≡ TooMany (i + 1)
+    pub checking-many : judged a (64 - c.traced.top) ≡ (Err Many) → verdict (running d l) begin ≡ TooMany (i + 1)
     unfolding own
     checking-many j =
         ch.hangs ∙ ap (λ (x : List Numbered). verdict x (machine c.traced)) runs
         ∙ verdict-many own (left_from d (k + 1) l) (machine c.traced) (64 - c.traced.top) at-depth (ap (λ (x : Act). judged x (64 - c.traced.top)) (sym same) ∙ j)
 
     -- a step that goes
-    pub checking-goes : {r : Sofar} {n : ℕ} → length l ≤ 64 → judged a (64 - c.traced.top) ≡ Goes n → Went a n c r → Checking d l (k + 1) r
+    pub checking-goes : {r : Sofar} {n : ℕ} → length l ≤ 64 → judged a (64 - c.traced.top) ≡ Ok n → Went a n c r → Checking d l (k + 1) r
     unfolding own
     checking-goes {r} {n} few j w =
-        let j' : judged (act d s) (64 - c.traced.top) ≡ Goes n = ap (λ (x : Act). judged x (64 - c.traced.top)) (sym same) ∙ j in
+        let j' : judged (act d s) (64 - c.traced.top) ≡ Ok n = ap (λ (x : Act). judged x (64 - c.traced.top)) (sym same) ∙ j in
         let g = goes-is (act d s) (64 - c.traced.top) n j' in
         let w' : Went (act d s) n c r = subst (λ (x : Act). Went x n c r) same w in
         record {
@@ -197,11 +194,11 @@ module _ {d : Direction} {l : List Step} {k : ℕ} {c : Sofar} (ch : Checking d 
 -- ---- the answer
 
 module _ (t : List Step) (l : List Numbered) (k : ℕ) (p : Span) (here : p ≡ span_at k t) where
-  pub answers-few : verdict l begin ≡ TooFew k → only (TooFew k) p ≡ checked none t l
+  pub answers-few : verdict l begin ≡ TooFew k → only (TooFew k) p ≡ checked None t l
   unfolding checked answered
   answers-few e = rw (e, here) refl
 
-  pub answers-many : verdict l begin ≡ TooMany k → only (TooMany k) p ≡ checked none t l
+  pub answers-many : verdict l begin ≡ TooMany k → only (TooMany k) p ≡ checked None t l
   unfolding checked answered
   answers-many e = rw (e, here) refl
 
@@ -232,7 +229,7 @@ told-so c e =
     λ i.
     record { verdict = Passes; span = no_span; run = c.run; depths = c.depths; deepest = c.deepest; left = 64 - c.traced.top; told = not c.adapts; places = e i }
 
-pub answers-told : {d : Direction} {l : List Step} {k : ℕ} {c : Sofar} → Checking d l k c → length l ≤ k → told_of c ≡ checked none l (running d l)
+pub answers-told : {d : Direction} {l : List Step} {k : ℕ} {c : Sofar} → Checking d l k c → length l ≤ k → told_of c ≡ checked None l (running d l)
 unfolding checked answered verdict
 answers-told {d} {l} {k} {c} ch h =
     let nothing = left-none d l k h in
@@ -242,7 +239,7 @@ answers-told {d} {l} {k} {c} ch h =
 
 -- ---- what the next step needs
 
-pub ready-so : {a : Act} {d : Doing} {t : Traced} {n : ℕ} → Does a d → Whole t → judged (doing d) (64 - t.top) ≡ Goes n
+pub ready-so : {a : Act} {d : Doing} {t : Traced} {n : ℕ} → Does a d → Whole t → judged (doing d) (64 - t.top) ≡ Ok n
     → Ready t d.act (take d.n d.args)
 unfolding doing depth
 ready-so {a} {d} {t} {n} does w j =
@@ -251,22 +248,10 @@ ready-so {a} {d} {t} {n} does w j =
 
 -- ---- refusal 18, and the whole
 
-pub checks-refused : {d : Direction} {l : List Step} {k : ℕ} {b : Bad} {r : Foretold} → b ≡ bad_of (refusal18 l) → b ≡ At k → r ≡ only (Refused 18 k) no_span → Checks d l r
-unfolding check checked bad_of
-checks-refused {d} {l} {k} {b} {r} e f g = record { exactly = g ∙ rw (bad-at (refusal18 l) (sym e ∙ f)) refl }
-  where
-    bad-at : (o : Option ℕ) → bad_of o ≡ At k → o ≡ some k
-    bad-at none e = absurd (never (cc e))
-    bad-at (some j) e = cc e
+pub checks-refused : {d : Direction} {l : List Step} {k : ℕ} {b : Option ℕ} {r : Foretold} → b ≡ refusal18 l → b ≡ Some k → r ≡ only (Refused 18 k) no_span → Checks d l r
+unfolding check checked
+checks-refused e f g = record { exactly = g ∙ rw (sym e ∙ f) refl }
 
-pub nowhere-bad : (l : List Step) {b : Bad} → b ≡ bad_of (refusal18 l) → b ≡ Nowhere → refusal18 l ≡ none
-unfolding bad_of
-nowhere-bad l e f = bad-none (refusal18 l) (sym e ∙ f)
-  where
-    bad-none : (o : Option ℕ) → bad_of o ≡ Nowhere → o ≡ none
-    bad-none none e = refl
-    bad-none (some j) e = absurd (never (cc e))
-
-pub checks-so : {d : Direction} {l : List Step} {r : Foretold} → refusal18 l ≡ none → r ≡ checked none l (running d l) → Checks d l r
+pub checks-so : {d : Direction} {l : List Step} {r : Foretold} → refusal18 l ≡ None → r ≡ checked None l (running d l) → Checks d l r
 unfolding check
 checks-so {d} {l} e g = record { exactly = g ∙ rw e refl }

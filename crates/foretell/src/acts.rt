@@ -10,38 +10,34 @@ use columns::{Act, Doing, Traced, depth_after, takes};
 use pushpop::{pop_places, push_places};
 use stack::{flip_places, roll_places, swap_places};
 
-// Of an act at a depth: too few columns, too many after it, or so many.
+// What is wrong with an act at a depth: it finds too few columns, or there are too many after it.
 #[derive(Clone, Copy, Drop)]
-pub enum Judged {
+pub enum Fault {
     Few,
     Many,
-    Goes(usize),
 }
 
-pub fn judge(d: Doing, depth: usize) -> Judged
+// How many columns there are after an act at a depth, if nothing is wrong with it.
+pub fn judge(d: Doing, depth: usize) -> Result<usize, Fault>
     requires n_bound { d.n ≤ 8 }
     requires depth_bound { depth ≤ 64 }
     ensures { result ≡ judged (doing d) depth }
 {
     if depth < takes(d) {
-        return Judged::Few;
+        return Err(Fault::Few);
     }
     let after = depth_after(d, depth);
     if 64 < after {
-        return Judged::Many;
+        return Err(Fault::Many);
     }
-    Judged::Goes(after)
+    Ok(after)
 }
 
 // Is it an `adapt` step's act?
 pub fn is_adapting(d: Doing) -> bool
     ensures { result ≡ adapting (doing d) }
 {
-    let act = d.act;
-    match act {
-        Act::Adapts { mode: _, back: _ } => true,
-        _ => false,
-    }
+    matches!(d.act, Act::Adapts { .. })
 }
 
 // The act on signed places: it finds enough columns, and room. Adapt moves no place.

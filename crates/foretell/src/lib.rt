@@ -3,36 +3,16 @@
 
 mod acts;
 
-ghost use Rattle.std.specs.Prelude.{◌≡◌, cond, not, ◌||◌, max, replicate};
-ghost use Rattle.std.proofs.Math.Option.{none};
+ghost use Rattle.std.specs.Prelude.{◌≡◌, cond, not, ◌||◌, max, replicate, None};
 ghost use Rattle.rules.specs.Pipeline.Record.{refusal18, listed};
 ghost use Rattle.rules.specs.Pipeline.Running.{running};
 ghost use Rattle.rules.specs.Pipeline.Check.{plus, no_place, only, checked, Checks};
 ghost use Rattle.foretell.specs.Steps.{beginning};
 
-use acts::{Judged, is_adapting, judge, step};
+use acts::{Fault, is_adapting, judge, step};
 use columns::Traced;
-use record::{Bad, act_of, is_omitted, refusal18, visited_of};
+use record::{act_of, is_omitted, refusal18, visited_of};
 use rules::{Direction, Foretold, Place, Span, Table, Verdict};
-
-// The deeper of two.
-fn deeper(a: usize, b: usize) -> usize
-    ensures { result ≡ max a b }
-{
-    if a < b {
-        return b;
-    }
-    a
-}
-
-fn either(a: bool, b: bool) -> bool
-    ensures { result ≡ (a || b) }
-{
-    if a {
-        return true;
-    }
-    b
-}
 
 // A place, its sign kept; 0 tells of none.
 fn place(axis: u8) -> Place
@@ -94,8 +74,8 @@ fn told_places(tuple: [Place; 4], adapts: bool) -> [Place; 4]
 
 // The check of records that preparations make. A step at fault is named with its span.
 fn checked(table: Table, direction: Direction) -> Foretold
-    requires { refusal18 (listed table) ≡ none }
-    ensures { result ≡ checked none (listed table) (running direction (listed table)) }
+    requires { refusal18 (listed table) ≡ None }
+    ensures { result ≡ checked None (listed table) (running direction (listed table)) }
 {
     let n = table.n;
     let mut t = begun();
@@ -103,29 +83,22 @@ fn checked(table: Table, direction: Direction) -> Foretold
     let mut run = 0;
     let mut deepest = 0;
     let mut adapts = false;
-    let mut k = 0;
-    while k < n {
+    for k in 0..n {
         let i = visited_of(direction, k, n);
         let s = table.steps[i];
-        let span = s.span;
-        k += 1;
-        if !is_omitted(s, direction) {
-            let d = act_of(s, direction);
-            let judged = judge(d, 64 - t.top);
-            match judged {
-                Judged::Few => {
-                    return only(Verdict::TooFew(i + 1), span);
-                }
-                Judged::Many => {
-                    return only(Verdict::TooMany(i + 1), span);
-                }
-                Judged::Goes(after) => {
-                    t = step(t, d);
-                    depths[run] = after;
-                    run += 1;
-                    deepest = deeper(deepest, after);
-                    adapts = either(adapts, is_adapting(d));
-                }
+        if is_omitted(s, direction) {
+            continue;
+        }
+        let d = act_of(s, direction);
+        match judge(d, 64 - t.top) {
+            Err(Fault::Few) => return only(Verdict::TooFew(i + 1), s.span),
+            Err(Fault::Many) => return only(Verdict::TooMany(i + 1), s.span),
+            Ok(after) => {
+                t = step(t, d);
+                depths[run] = after;
+                run += 1;
+                deepest = deepest.max(after);
+                adapts |= is_adapting(d);
             }
         }
     }
@@ -148,13 +121,13 @@ pub fn check(table: Table, direction: Direction) -> Foretold
     ensures { Checks direction (listed table) result }
 {
     match refusal18(table) {
-        Bad::At(place) => only(
+        Some(place) => only(
             Verdict::Refused {
                 number: 18,
                 place: place,
             },
             Span { from: 0, length: 0 },
         ),
-        Bad::Nowhere => checked(table, direction),
+        None => checked(table, direction),
     }
 }

@@ -1,7 +1,6 @@
 -- The tables that are not refused 18: at most 64 records, each `made`, all of the first one's reading, and their spans rise up to byte 40,960.
-use Rattle.std.specs.Prelude.{◌≡◌, refl, ◌↔◌, ℕ, suc, ◌≤◌, ◌<◌, Bool, true, false, cond, List, [], ◌∷◌, length, leb, ltb, eqb}
+use Rattle.std.specs.Prelude.{◌≡◌, refl, ◌↔◌, ℕ, suc, ◌≤◌, ◌<◌, Bool, true, false, cond, List, [], ◌∷◌, length, leb, ltb, eqb, None, Some}
 use Rattle.std.proofs.Common.{sym, subst, lt-ltb, le-ltb, le-leb, ltb-true, ltb-false, leb-true, eqb-true}
-use Rattle.std.proofs.Math.Option.{none, some}
 use store.Seg.{eqb_same}
 use Rattle.rules.specs.Text.Lists.{all_of}
 use Rattle.rules.specs.Pipeline.Record.{span_end, made, good_span, table_reading, good_in, first_bad, refusal18}
@@ -46,7 +45,7 @@ good-so reading end s h =
 abbrev AllGood : ℕ → ℕ → List Step → Type 0
 AllGood reading end l = (all_of made l ≡ true) × Every (InIt reading) l × Rise 40960 end l
 
-none-bad : (reading end k : ℕ) (l : List Step) → AllGood reading end l → first_bad reading end k l ≡ none
+none-bad : (reading end k : ℕ) (l : List Step) → AllGood reading end l → first_bad reading end k l ≡ None
 unfolding first_bad all_of Every Rise
 none-bad reading end k [] h = refl
 none-bad reading end k (s ∷ l) h =
@@ -54,13 +53,13 @@ none-bad reading end k (s ∷ l) h =
     let first : Good reading end s = record { is_made = and_left (made s) _ h.0; in-it = h.1.0; ahead = r.0; some_bytes = r.1; within = r.2 } in
     rw (good reading end s first) (none-bad reading (span_end s.span) (suc k) l (and_right (made s) _ h.0, h.1.1, r.3))
 
-all-good : (reading end k : ℕ) (l : List Step) → first_bad reading end k l ≡ none → AllGood reading end l
+all-good : (reading end k : ℕ) (l : List Step) → first_bad reading end k l ≡ None → AllGood reading end l
 unfolding first_bad all_of Every Rise
 all-good reading end k [] h = (refl, tt, tt)
 all-good reading end k (s ∷ l) h = go (good_in reading end s) refl h (all-good reading (span_end s.span) (suc k) l)
   where
-    go : (b : Bool) → good_in reading end s ≡ b → cond b (first_bad reading (span_end s.span) (suc k) l) (some k) ≡ none
-        → (first_bad reading (span_end s.span) (suc k) l ≡ none → AllGood reading (span_end s.span) l) → AllGood reading end (s ∷ l)
+    go : (b : Bool) → good_in reading end s ≡ b → cond b (first_bad reading (span_end s.span) (suc k) l) (Some k) ≡ None
+        → (first_bad reading (span_end s.span) (suc k) l ≡ None → AllGood reading (span_end s.span) l) → AllGood reading end (s ∷ l)
     go false e h f = absurd (never (cc h))
     go true e h f =
         let g = good-so reading end s e in
@@ -68,14 +67,14 @@ all-good reading end k (s ∷ l) h = go (good_in reading end s) refl h (all-good
         (rw g.is_made k.0, (g.in-it, k.1), (g.ahead, g.some_bytes, g.within, k.2))
 
 -- A table is not refused 18 exactly when it is such a one.
-pub not-18 : (l : List Step) → (refusal18 l ≡ none) ↔ ((all_of made l ≡ true) × (length l ≤ 64) × Every (InIt (table_reading l)) l × Rise 40960 0 l)
+pub not-18 : (l : List Step) → (refusal18 l ≡ None) ↔ ((all_of made l ≡ true) × (length l ≤ 64) × Every (InIt (table_reading l)) l × Rise 40960 0 l)
 unfolding refusal18
 not-18 l = (
   λ h. go (ltb 64 (length l)) refl h,
   λ h. rw (le-ltb 64 (length l) h.1) (none-bad (table_reading l) 0 1 l (h.0, h.2, h.3)),
 )
   where
-    go : (b : Bool) → ltb 64 (length l) ≡ b → cond b (some 0) (first_bad (table_reading l) 0 1 l) ≡ none
+    go : (b : Bool) → ltb 64 (length l) ≡ b → cond b (Some 0) (first_bad (table_reading l) 0 1 l) ≡ None
         → (all_of made l ≡ true) × (length l ≤ 64) × Every (InIt (table_reading l)) l × Rise 40960 0 l
     go true e h = absurd (never (cc h))
     go false e h = let k = all-good (table_reading l) 0 1 l h in (k.0, ltb-false 64 (length l) e, k.1, k.2)

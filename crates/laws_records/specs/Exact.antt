@@ -1,5 +1,6 @@
 -- `made` holds of exactly the records that preparations make, and each of them has its text: what is promised of writing.
-use Rattle.std.specs.Prelude.{◌≡◌, ◌≤◌, Bool, false, ◌↔◌, List, [], ◌∷◌, ◌++◌, map, length, drop, eqb}
+use Rattle.rules.specs.declared.Refusal.{Refusal}
+use Rattle.std.specs.Prelude.{◌≡◌, ◌≤◌, Bool, false, ◌↔◌, List, [], ◌∷◌, ◌++◌, map, length, drop, eqb, ℕ, Result, Ok}
 use Rattle.std.proofs.Math.Path.{refl, ap, sym}
 use Rattle.std.proofs.Common.{◌∙◌, arith, eqb-true, lit≤}
 use Rattle.std.proofs.Math.Bool.{true}
@@ -18,8 +19,6 @@ use Rattle.rules.specs.declared.Mode.TheVariants as mode-is
 use Rattle.rules.specs.declared.Reading.{Reading}
 use Rattle.rules.specs.declared.Reading.TheVariants.{Crate}
 use Rattle.rules.specs.declared.Step.{Step}
-use Rattle.rules.specs.declared.Prepared.{Prepared}
-use Rattle.rules.specs.declared.Prepared.TheVariants as prepared-is
 use Rattle.laws_text.specs.Entry.{answered}
 use Rattle.laws_records.specs.Made.{split-made, prepared-in, prepared-as, prepare-as-made, tested-answers}
 use Rattle.rules.specs.Pipeline.Write.{table_writing, written_spans}
@@ -43,7 +42,7 @@ alone mode s e h f = record { each = rw h; slots = (e, tt); alike = (number-agai
 -- Where at most 64 records of one reading and of one mode each pass `made`, and a step table has room for them, the call `prepare_as` in that
 -- reading and mode brings exactly these records of their text, with its spans, to its front and leaves the rest.
 pub table-prepares : (r : Reading) (mode : Mode) (l table : List Step) → AllMade r mode l → length l ≤ 64 → length l ≤ length table
-    → PreparesAs r mode (table_writing l) table (prepared-is.Steps (length l)) (with_spans (written_spans l) l ++ drop (length l) table)
+    → PreparesAs r mode (table_writing l) table (Ok (length l)) (with_spans (written_spans l) l ++ drop (length l) table)
 unfolding prepared
 table-prepares r mode l table h few room =
     let many = same_length (with_spans (written_spans l) l) l (same-spanned (written_spans l) l) in
@@ -144,7 +143,7 @@ pub crates-alike : (t : Bytes) (table : List Step) → outcome prepared (prepare
 unfolding outcome tested
 crates-alike t table = rw (prepare-is-crates t) refl
 
-pub crates-prepare : {t : Bytes} {table : List Step} {answer : Prepared} {table' : List Step} → PreparesAs Crate mode-is.Crate t table answer table' ↔ Prepares t table answer table'
+pub crates-prepare : {t : Bytes} {table : List Step} {answer : Result ℕ Refusal} {table' : List Step} → PreparesAs Crate mode-is.Crate t table answer table' ↔ Prepares t table answer table'
 crates-prepare {t} {table} {answer} {table'} = (
   λ p. record { exactly = p.exactly ∙ crates-alike t table },
   λ p. record { exactly = p.exactly ∙ sym (crates-alike t table) },

@@ -1,10 +1,9 @@
 -- A step's table of parameters, from the words that it was made of: the value of each key, and what no parameter is.
-use Rattle.std.specs.Prelude.{◌≡◌, suc, ◌+◌, ◌≤◌, Bool, cond, ◌||◌, length}
+use Rattle.std.specs.Prelude.{◌≡◌, suc, ◌+◌, ◌≤◌, Bool, cond, ◌||◌, length, Option, None, Some}
 use Rattle.std.proofs.Math.Path.{refl, ap}
 use Rattle.std.proofs.Common.{sym, ◌∙◌, le_refl, arith}
 use Rattle.std.proofs.Math.Bool.{true, false}
 use Rattle.std.proofs.lemmas.Bool.{false≢true, not-true}
-use Rattle.std.proofs.Math.Option.{Option, none, some}
 use mathlib.Core.List.{List, [], ◌∷◌, ◌++◌, map}
 use Rattle.rules.specs.Text.Ascii.{ascii, is}
 use Rattle.rules.specs.Text.Lists.{any_of, all_of}
@@ -17,7 +16,6 @@ use Rattle.rules.specs.Pipeline.Prepare.{own_rule, judged14, judged11, named, ju
 use Rattle.rules.specs.declared.Mode.{Mode}
 use Rattle.rules.specs.declared.Step.{Step}
 use Rattle.rules.specs.declared.Name.{Name}
-use Rattle.rules.specs.declared.Named.TheVariants.{Is}
 use Rattle.laws_lists.specs.Tests.{same_self, and_left, and_right, or_left, or_right, same-is}
 use Rattle.laws_records.specs.Settled.{lacks}
 
@@ -36,24 +34,24 @@ apart k p q v w r n true false e f = refl
 apart k p q v w r n false true e f = refl
 apart k p q v w r n false false e f = refl
 
-value-entered : (k : Bytes) (p : Parameter) (l : List Parameter) → value_of k (entered p l) ≡ cond (same k p.key) (some p.value) (value_of k l)
+value-entered : (k : Bytes) (p : Parameter) (l : List Parameter) → value_of k (entered p l) ≡ cond (same k p.key) (Some p.value) (value_of k l)
 unfolding value_of entered_by
 value-entered k p [] = refl
 value-entered k p (q ∷ l) = go (same p.key q.key) (precedes p.key q.key) refl (value-entered k p l)
   where
-    go : (c d : Bool) → same p.key q.key ≡ c → value_of k (entered p l) ≡ cond (same k p.key) (some p.value) (value_of k l)
-        → value_of k (cond c (p ∷ l) (cond d (p ∷ (q ∷ l)) (q ∷ entered p l))) ≡ cond (same k p.key) (some p.value) (cond (same k q.key) (some q.value) (value_of k l))
+    go : (c d : Bool) → same p.key q.key ≡ c → value_of k (entered p l) ≡ cond (same k p.key) (Some p.value) (value_of k l)
+        → value_of k (cond c (p ∷ l) (cond d (p ∷ (q ∷ l)) (q ∷ entered p l))) ≡ cond (same k p.key) (Some p.value) (cond (same k q.key) (Some q.value) (value_of k l))
     go true d e h =
         let s : same k q.key ≡ same k p.key = ap (same k) (sym (same-is p.key q.key e)) in
-        rw s (twice (same k p.key) (some p.value) (some q.value) (value_of k l))
+        rw s (twice (same k p.key) (Some p.value) (Some q.value) (value_of k l))
     go false true e h = refl
     go false false e h =
-        rw h (apart k p.key q.key (some p.value) (some q.value) (value_of k l) e (same k p.key) (same k q.key) refl refl)
+        rw h (apart k p.key q.key (Some p.value) (Some q.value) (value_of k l) e (same k p.key) (same k q.key) refl refl)
 
 -- the last value that parameters give a key, or else r
 unfoldable pub latest : Bytes → List Parameter → Option Bytes → Option Bytes
 latest k [] r = r
-latest k (p ∷ ps) r = latest k ps (cond (same k p.key) (some p.value) r)
+latest k (p ∷ ps) r = latest k ps (cond (same k p.key) (Some p.value) r)
 
 value-all : (k : Bytes) (ps l : List Parameter) → value_of k (entered_all ps l) ≡ latest k ps (value_of k l)
 unfolding entered_all_by latest
@@ -63,7 +61,7 @@ value-all k (p ∷ ps) l = value-all k ps (entered p l) ∙ ap (latest k ps) (va
 latest-append : (k : Bytes) (ps qs : List Parameter) (r : Option Bytes) → latest k (ps ++ qs) r ≡ latest k qs (latest k ps r)
 unfolding latest
 latest-append k [] qs r = refl
-latest-append k (p ∷ ps) qs r = latest-append k ps qs (cond (same k p.key) (some p.value) r)
+latest-append k (p ∷ ps) qs r = latest-append k ps qs (cond (same k p.key) (Some p.value) r)
 
 -- ---- what none of them is
 
@@ -134,7 +132,7 @@ bare w = record { key = w; value = ascii "true" }
 -- what they give a key
 unfoldable pub picked : Bytes → List Flag → Option Bytes → Option Bytes
 picked k [] r = r
-picked k (f ∷ fs) r = picked k fs (cond (same k f.word) (cond f.given (some (ascii "true")) r) r)
+picked k (f ∷ fs) r = picked k fs (cond (same k f.word) (cond f.given (Some (ascii "true")) r) r)
 
 unfoldable pub bare_flags : List Flag → Bool
 bare_flags fs = all_of (λ (f : Flag). lacks (is "=") f.word) fs
@@ -151,11 +149,11 @@ latest-chosen k (f ∷ fs) r h =
   where
     go : (g b : Bool) → same k f.word ≡ b → ((r : Option Bytes) → bare_flags fs ≡ true → latest k (map parameter (chosen fs)) r ≡ picked k fs r)
         → parameter f.word ≡ bare f.word → bare_flags fs ≡ true
-        → latest k (map parameter (cond g (f.word ∷ chosen fs) (chosen fs))) r ≡ picked k fs (cond b (cond g (some (ascii "true")) r) r)
+        → latest k (map parameter (cond g (f.word ∷ chosen fs) (chosen fs))) r ≡ picked k fs (cond b (cond g (Some (ascii "true")) r) r)
     go true b e ih p a =
-        ap (λ (q : Parameter). latest k (map parameter (chosen fs)) (cond (same k q.key) (some q.value) r)) p
-        ∙ ap (λ (c : Bool). latest k (map parameter (chosen fs)) (cond c (some (ascii "true")) r)) e
-        ∙ ih (cond b (some (ascii "true")) r) a
+        ap (λ (q : Parameter). latest k (map parameter (chosen fs)) (cond (same k q.key) (Some q.value) r)) p
+        ∙ ap (λ (c : Bool). latest k (map parameter (chosen fs)) (cond c (Some (ascii "true")) r)) e
+        ∙ ih (cond b (Some (ascii "true")) r) a
     go false true e ih p a = ih r a
     go false false e ih p a = ih r a
 
@@ -184,15 +182,15 @@ module _ (w : Bytes) (own : List Parameter) (fs : List Flag) where
 
   -- the value of a key in it
   unfoldable pub look : Bytes → Option Bytes
-  look k = picked k fs (latest k own (cond (same k (ascii "_name")) (some w) none))
+  look k = picked k fs (latest k own (cond (same k (ascii "_name")) (Some w) None))
 
 module _ (w : Bytes) (own : List Parameter) (fs : List Flag) (b : bare_flags fs ≡ true) where
   pub looked : (k : Bytes) → value_of k (table_from w own fs) ≡ look w own fs k
   unfolding table_from look name
   looked k =
       value-all k (name w ∷ (own ++ map parameter (chosen fs))) []
-      ∙ unfold latest value_of name in (latest-append k own (map parameter (chosen fs)) (cond (same k (ascii "_name")) (some w) none))
-      ∙ latest-chosen k fs (latest k own (cond (same k (ascii "_name")) (some w) none)) b
+      ∙ unfold latest value_of name in (latest-append k own (map parameter (chosen fs)) (cond (same k (ascii "_name")) (Some w) None))
+      ∙ latest-chosen k fs (latest k own (cond (same k (ascii "_name")) (Some w) None)) b
 
   table-faultless : (n : Name) → any_of (faulty n) (name w ∷ own) ≡ false → any_of (λ (f : Flag). faulty n (bare f.word)) fs ≡ false
       → any_of (faulty n) (table_from w own fs) ≡ false
@@ -215,8 +213,8 @@ faultless-judged mode n ps h =
     rw (any-or-left (unknown n) (λ p. astray n p || over n p) ps h, any-or-left (astray n) (over n) ps r, any-or-right (astray n) (over n) ps r)
 
 module _ (mode : Mode) (w : Bytes) (own : List Parameter) (fs : List Flag) (b : bare_flags fs ≡ true) where
-  pub table-judged : (n : Name) (s : Step) → named (look w own fs (ascii "_name")) ≡ Is n → any_of (faulty n) (name w ∷ own) ≡ false
-      → any_of (λ (f : Flag). faulty n (bare f.word)) fs ≡ false → own_rule mode n (table_from w own fs) ≡ some s → judged mode (table_from w own fs) ≡ answers s
+  pub table-judged : (n : Name) (s : Step) → named (look w own fs (ascii "_name")) ≡ Some n → any_of (faulty n) (name w ∷ own) ≡ false
+      → any_of (λ (f : Flag). faulty n (bare f.word)) fs ≡ false → own_rule mode n (table_from w own fs) ≡ Some s → judged mode (table_from w own fs) ≡ answers s
   unfolding judged judged10 judged14
   table-judged n s e o f r =
       rw (looked w own fs b (ascii "_name"), e) (faultless-judged mode n (table_from w own fs) (table-faultless w own fs b n o f) ∙ ap judged14 r)

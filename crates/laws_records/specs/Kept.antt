@@ -1,6 +1,5 @@
 -- A record with its arguments in its slots is `made` where the arguments keep their rule.
-use Rattle.std.specs.Prelude.{◌≡◌, refl, ℕ, zero, suc, ◌-◌, ◌≤◌, Bool, true, false, cond, List, length, replicate, eqb, leb, ℤ, pos}
-use Rattle.std.proofs.Math.Option.{Option, none, some}
+use Rattle.std.specs.Prelude.{◌≡◌, refl, ℕ, zero, suc, ◌-◌, ◌≤◌, Bool, true, false, cond, List, length, replicate, eqb, leb, ℤ, pos, Option, None, Some}
 use Prim.Native.String.{String}
 use Rattle.std.proofs.Common.{le-leb}
 use Rattle.std.proofs.Math.Seq.{take-append_seam, drop-append_seam}
@@ -41,19 +40,19 @@ record-made o ps l k =
     (rw (drop-append_seam l (replicate (8 - length l) (pos 0)), take-append_seam l (replicate (8 - length l) (pos 0)), all-zero (8 - length l), operator-number o, k.nines) k.rule)
 
 -- what parameters choose, with arguments that keep the operator's rule, is such a record
-pub recorded-made : (ps : List Parameter) (r : Option Chosen) → ((c : Chosen) → r ≡ some c → Kept c.operator c.arguments)
-    → (s : Step) → recorded ps r ≡ some s → made s ≡ true
+pub recorded-made : (ps : List Parameter) (r : Option Chosen) → ((c : Chosen) → r ≡ Some c → Kept c.operator c.arguments)
+    → (s : Step) → recorded ps r ≡ Some s → made s ≡ true
 unfolding recorded
-recorded-made ps none k s h = absurd (never (cc h))
-recorded-made ps (some c) k s h =
+recorded-made ps None k s h = absurd (never (cc h))
+recorded-made ps (Some c) k s h =
     let e : record_of c.operator ps c.arguments ≡ s = cc h in
     rw (← e) (record-made c.operator ps c.arguments (k c refl))
 
 -- and its operator is the chosen one
-pub recorded-by : (P : Operator → Type 0) (ps : List Parameter) (r : Option Chosen) → ((c : Chosen) → r ≡ some c → P c.operator)
-    → (s : Step) → recorded ps r ≡ some s → P (operator s)
+pub recorded-by : (P : Operator → Type 0) (ps : List Parameter) (r : Option Chosen) → ((c : Chosen) → r ≡ Some c → P c.operator)
+    → (s : Step) → recorded ps r ≡ Some s → P (operator s)
 unfolding recorded record_of step_with operator
-recorded-by P ps none k s h = absurd (never (cc h))
-recorded-by P ps (some c) k s h =
+recorded-by P ps None k s h = absurd (never (cc h))
+recorded-by P ps (Some c) k s h =
     let e : record_of c.operator ps c.arguments ≡ s = cc h in
     rw (← e, operator-number c.operator) (k c refl)

@@ -1,7 +1,6 @@
 -- Every record that a preparation makes passes `made`, in either reading and mode.
-use Rattle.std.specs.Prelude.{◌≡◌, refl, ℕ, suc, ◌≤◌, Bool, true, false, cond, not, List, [], ◌∷◌, map, length, ltb}
+use Rattle.std.specs.Prelude.{◌≡◌, refl, ℕ, suc, ◌≤◌, Bool, true, false, cond, not, List, [], ◌∷◌, map, length, ltb, Option, None, Some}
 use Rattle.std.proofs.Common.{ap, ◌∙◌, arith, ltb-false}
-use Rattle.std.proofs.Math.Option.{Option, none, some}
 use Rattle.std.proofs.lemmas.List.{length-map}
 use Rattle.rules.specs.Text.Ascii.{ascii}
 use Rattle.rules.specs.Text.Lists.{any_of, all_of}
@@ -19,8 +18,6 @@ use Rattle.rules.specs.declared.Mode.{Mode}
 use Rattle.rules.specs.declared.Reading.{Reading}
 use Rattle.rules.specs.declared.Step.{Step}
 use Rattle.rules.specs.declared.Name.{Name}
-use Rattle.rules.specs.declared.Named.{Named}
-use Rattle.rules.specs.declared.Named.TheVariants.{Is, Not}
 use Rattle.laws_lists.specs.Lists.{Every}
 use Rattle.laws_lists.specs.Tests.{never}
 use Rattle.laws_text.specs.Refusals.{split-few}
@@ -43,8 +40,8 @@ unfolding judged judged10 judged11 judged14
 prepared-made mode ps s h = by10 (named (value_of (ascii "_name") ps)) h
   where
     by14 : (n : Name) (o : Option Step) → Short n ps → own_rule mode n ps ≡ o → judged14 o ≡ answers s → MadeIn mode s
-    by14 n none short e h = absurd (never (cc h))
-    by14 n (some r) short e h =
+    by14 n None short e h = absurd (never (cc h))
+    by14 n (Some r) short e h =
         let z : r ≡ s = cc h in
         let chosen = (wording_of n).chosen mode ps in
         let well = keeps-rule n mode ps short in
@@ -61,9 +58,9 @@ prepared-made mode ps s h = by10 (named (value_of (ascii "_name") ps)) h
     by13 n false false true e h = absurd (never (cc h))
     by13 n false false false e h = by14 n (own_rule mode n ps) (e refl) refl h
 
-    by10 : (o : Named) → judged10 mode o ps ≡ answers s → MadeIn mode s
-    by10 Not h = absurd (never (cc h))
-    by10 (Is n) h =
+    by10 : (o : Option Name) → judged10 mode o ps ≡ answers s → MadeIn mode s
+    by10 None h = absurd (never (cc h))
+    by10 (Some n) h =
         by13 n (any_of (unknown n) ps) (any_of (λ (p : Parameter). misspelt (kind_of n p) p.value) ps) (any_of (λ (p : Parameter). too_long (kind_of n p) p.value) ps) (λ e. e) h
 
 -- what an answer of two calls, one after the other, is made of

@@ -1,7 +1,6 @@
 -- "Refusals: none new": a text that one mode refuses is refused by the other, with the same number at the same place, and 12 with the same
 -- offset. For only an operator's own rule knows the mode, and whether it is broken is a matter of the two words alone.
-use Rattle.std.specs.Prelude.{◌≡◌, ℕ, suc, Bool, true, false, cond, ltb, length}
-use Rattle.std.proofs.Math.Option.{Option, none, some}
+use Rattle.std.specs.Prelude.{◌≡◌, ℕ, suc, Bool, true, false, cond, ltb, length, Option, None, Some}
 use mathlib.Core.List.{List, [], ◌∷◌, map}
 use Rattle.rules.specs.Text.Ascii.{ascii}
 use Rattle.rules.specs.Text.Lists.{any_of}
@@ -22,8 +21,6 @@ use Rattle.rules.specs.declared.Reading.{Reading}
 use Rattle.rules.specs.declared.Step.{Step}
 use Rattle.rules.specs.declared.Name.{Name}
 use Rattle.rules.specs.declared.Name.TheVariants as name-is
-use Rattle.rules.specs.declared.Named.{Named}
-use Rattle.rules.specs.declared.Named.TheVariants.{Is, Not}
 use Rattle.laws_lists.specs.Tests.{never}
 
 -- both answer, or both refuse with the same number at the same place, or with 12 at the same place and offset
@@ -55,9 +52,9 @@ module _ (m k : Mode) where
   adapt-alike ps = go (word_given (value_of (ascii "from") ps)) (word_given (value_of (ascii "to") ps))
     where
       go : (v w : Option Word) → Alike (judged14 (recorded ps (choose (adapt_in m) (between (combined_in m) v w)))) (judged14 (recorded ps (choose (adapt_in k) (between (combined_in k) v w))))
-      go none w = unfold between choose recorded judged14 in refuse 14 0
-      go (some v) none = unfold between choose recorded judged14 in refuse 14 0
-      go (some v) (some w) = unfold between choose recorded judged14 in answer _ _
+      go None w = unfold between choose recorded judged14 in refuse 14 0
+      go (Some v) None = unfold between choose recorded judged14 in refuse 14 0
+      go (Some v) (Some w) = unfold between choose recorded judged14 in answer _ _
 
   own-alike : (n : Name) (ps : List Parameter) → Alike (judged14 (own_rule m n ps)) (judged14 (own_rule k n ps))
   own-alike name-is.Push ps = unfold own_rule in same _
@@ -70,9 +67,9 @@ module _ (m k : Mode) where
   unfolding judged
   judged-alike ps = go (named (value_of (ascii "_name") ps))
     where
-      go : (o : Named) → Alike (judged10 m o ps) (judged10 k o ps)
-      go Not = unfold judged10 in refuse 10 0
-      go (Is n) =
+      go : (o : Option Name) → Alike (judged10 m o ps) (judged10 k o ps)
+      go None = unfold judged10 in refuse 10 0
+      go (Some n) =
           unfold judged10 judged11 in
           if-alike (any_of (unknown n) ps) _ _ _
           (if-alike (any_of (λ (p : Parameter). misspelt (kind_of n p) p.value) ps) _ _ _

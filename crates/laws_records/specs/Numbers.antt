@@ -1,9 +1,8 @@
 -- The digits of a number are read as that number, and a list of numbers as that list.
-use Rattle.std.specs.Prelude.{◌≡◌, ℕ, zero, suc, ◌+◌, ◌-◌, ◌*◌, ◌/◌, ◌%◌, ◌^◌, ◌≤◌, ◌<◌, Bool, false, ◌&&◌, List, [], ◌∷◌, ◌++◌, map, length, leb, ltb, eqb, ℤ, pos, negsuc}
+use Rattle.std.specs.Prelude.{◌≡◌, ℕ, zero, suc, ◌+◌, ◌-◌, ◌*◌, ◌/◌, ◌%◌, ◌^◌, ◌≤◌, ◌<◌, Bool, false, ◌&&◌, List, [], ◌∷◌, ◌++◌, map, length, leb, ltb, eqb, ℤ, pos, negsuc, Some}
 use Rattle.std.proofs.Math.Path.{refl}
 use Rattle.std.proofs.Common.{◌∙◌, div-add-mod', mod-lt, lit≤}
 use Rattle.std.proofs.Math.Bool.{true, not}
-use Rattle.std.proofs.Math.Option.{some}
 use Rattle.std.proofs.Math.Nat.{le_refl}
 use native.Mathlib.Omega.{arith}
 use borrow.Author.Tests.{leb-true, le-leb, ltb-true, ltb-false, not-true}
@@ -15,7 +14,6 @@ use Rattle.rules.specs.Text.Decimal.{digit, digits_to, spelled, plain_form, plai
 use Rattle.rules.specs.Operators.Arguments.{size, wholes, spelling, listing}
 use Rattle.rules.specs.Pipeline.Record.{nine_digits}
 use Rattle.rules.specs.declared.Decimal.{Decimal}
-use Rattle.rules.specs.declared.Number.TheVariants.{Is}
 use Rattle.rules.specs.Text.Numerals.{digits}
 use Rattle.laws_lists.specs.Lists.{all_so, all_append}
 use Rattle.laws_lists.specs.Tests.{and_left, and_right, below, below_at}
@@ -88,7 +86,7 @@ digits-none test h (b ∷ t) a =
 unfoldable pub whole : ℤ → Decimal
 whole x = record { minus = minus x; whole = size x; millionths = 0 }
 
-plain-digits : (m : Bool) (n : ℕ) → n ≤ 999999999 → plain m (digits n) ≡ Is (record { minus = m; whole = n; millionths = 0 })
+plain-digits : (m : Bool) (n : ℕ) → n ≤ 999999999 → plain m (digits n) ≡ Some (record { minus = m; whole = n; millionths = 0 })
 unfolding plain plain_form digits_to spelled
 plain-digits m n h =
     let t = digits n in
@@ -106,7 +104,7 @@ unsigned (b ∷ t) a h =
     let e : eqb b 45 ≡ false = not-true (eqb b 45) (unfold below so digit in digit-so (λ b. not (eqb b 45)) refl b (and_left (digit b) (all_of digit t) a)) in
     rw e
 
-pub decimal-spelling : (x : ℤ) → nine_digits x ≡ true → decimal (spelling x) ≡ Is (whole x)
+pub decimal-spelling : (x : ℤ) → nine_digits x ≡ true → decimal (spelling x) ≡ Some (whole x)
 unfolding spelling whole minus nine_digits
 decimal-spelling (pos n) h =
     let l = leb-true n 999999999 h in
@@ -116,7 +114,7 @@ decimal-spelling (negsuc n) h = unfold ascii decimal in plain-digits true (suc n
 
 -- ---- lists of them
 
-all-spelled : (l : List ℤ) → all_of nine_digits l ≡ true → all_numbers (map spelling l) ≡ some (map whole l)
+all-spelled : (l : List ℤ) → all_of nine_digits l ≡ true → all_numbers (map spelling l) ≡ Some (map whole l)
 unfolding all_of all_numbers number_then
 all-spelled [] h = refl
 all-spelled (x ∷ l) h = rw (decimal-spelling x (and_left (nine_digits x) _ h), all-spelled l (and_right (nine_digits x) _ h))
@@ -198,11 +196,11 @@ module _ (x : ℤ) (l : List ℤ) (h : all_of nine_digits (x ∷ l) ≡ true) wh
   unfolding pieces listing ascii
   listing-pieces = cut-joined (is ",") 44 refl (spelling x) (map spelling l) (spelling-lacks (is ",") (unfold below so firm known any_of ascii in refl) (x ∷ l) h)
 
-  pub listing-series : series (listing (x ∷ l)) ≡ some (map whole (x ∷ l))
+  pub listing-series : series (listing (x ∷ l)) ≡ Some (map whole (x ∷ l))
   unfolding series
   listing-series = rw listing-pieces (all-spelled (x ∷ l) h)
 
   -- they are read as they were, where they keep the rule
-  pub listing-wholes : (rule : List ℤ → Bool) → rule (x ∷ l) ≡ true → wholes rule (series (listing (x ∷ l))) ≡ some (x ∷ l)
+  pub listing-wholes : (rule : List ℤ → Bool) → rule (x ∷ l) ≡ true → wholes rule (series (listing (x ∷ l))) ≡ Some (x ∷ l)
   unfolding wholes
   listing-wholes rule k = rw (listing-series, wholes-whole (x ∷ l), wholes-again (x ∷ l), k)

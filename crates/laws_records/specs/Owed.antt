@@ -1,11 +1,10 @@
 -- What each operator's file of laws owes the rest: by its name, that what its parameters choose keeps the rule on its arguments; by its
 -- number, that the words of its arguments can be read, and that reading them gives the record again. And what these files share.
-use Rattle.std.specs.Prelude.{◌≡◌, ℕ, suc, ◌+◌, ◌≤◌, Bool, cond, ◌&&◌, ◌||◌, ltb, ℤ}
+use Rattle.std.specs.Prelude.{◌≡◌, ℕ, suc, ◌+◌, ◌≤◌, Bool, cond, ◌&&◌, ◌||◌, ltb, ℤ, Option, None, Some}
 use Rattle.std.proofs.Math.Path.{refl}
 use Rattle.std.proofs.Common.{ap, lit≤}
 use Prim.Native.String.{String}
 use Rattle.std.proofs.Math.Bool.{true, false}
-use Rattle.std.proofs.Math.Option.{Option, none, some}
 use mathlib.Core.List.{List, [], ◌∷◌, ◌++◌, map, map-append}
 use native.Mathlib.Omega.{arith}
 use borrow.Author.Tests.{le-ltb, ltb-false}
@@ -58,34 +57,34 @@ both-modes o h k mode-is.Crate = h
 both-modes o h k mode-is.Documented = k
 
 abbrev pub KeepsRule : Name → Type 0
-KeepsRule n = (mode : Mode) (ps : List Parameter) → Short n ps → (c : Chosen) → (wording_of n).chosen mode ps ≡ some c → Well mode c
+KeepsRule n = (mode : Mode) (ps : List Parameter) → Short n ps → (c : Chosen) → (wording_of n).chosen mode ps ≡ Some c → Well mode c
 
 -- the value of a key has passed what every parameter has passed
-value-passed : (test : Parameter → Bool) (k v : Bytes) (ps : List Parameter) → value_of k ps ≡ some v → any_of test ps ≡ false → test (record { key = k; value = v }) ≡ false
+value-passed : (test : Parameter → Bool) (k v : Bytes) (ps : List Parameter) → value_of k ps ≡ Some v → any_of test ps ≡ false → test (record { key = k; value = v }) ≡ false
 unfolding value_of any_of
 value-passed test k v [] h e = absurd (never (cc h))
 value-passed test k v (p ∷ ps) h e = go (same k p.key) refl (value-passed test k v ps) h
   where
-    go : (b : Bool) → same k p.key ≡ b → (value_of k ps ≡ some v → any_of test ps ≡ false → test (record { key = k; value = v }) ≡ false)
-        → cond b (some p.value) (value_of k ps) ≡ some v → test (record { key = k; value = v }) ≡ false
+    go : (b : Bool) → same k p.key ≡ b → (value_of k ps ≡ Some v → any_of test ps ≡ false → test (record { key = k; value = v }) ≡ false)
+        → cond b (Some p.value) (value_of k ps) ≡ Some v → test (record { key = k; value = v }) ≡ false
     go true f ih h = let w : p.value ≡ v = cc h in rw (same-is k p.key f, ← w) (or_left (test p) (any_of test ps) e)
     go false f ih h = ih h (or_right (test p) (any_of test ps) e)
 
 -- the numbers of a series that keep the operator's rule
 module _ (n : Name) (ps : List Parameter) (short : Short n ps) where
-  pub wholes-kept : (o : Operator) (key v : Bytes) → kind_of n (record { key = key; value = v }) ≡ Series → value_of key ps ≡ some v
-      → (l : List ℤ) → wholes (is_args o) (series v) ≡ some l → Kept o l
+  pub wholes-kept : (o : Operator) (key v : Bytes) → kind_of n (record { key = key; value = v }) ≡ Some Series → value_of key ps ≡ Some v
+      → (l : List ℤ) → wholes (is_args o) (series v) ≡ Some l → Kept o l
   unfolding wholes too_long
   wholes-kept o key v k e l h = go (series v) refl h
     where
       few : length (pieces v) ≤ 8
       few = ltb-false 8 (length (pieces v)) (rw k at (value-passed (λ (p : Parameter). too_long (kind_of n p) p.value) key v ps e short))
 
-      go : (r : Option (List Decimal)) → series v ≡ r → wholes (is_args o) r ≡ some l → Kept o l
-      go none f h = absurd (never (cc h))
-      go (some ds) f h = ok (all_of is_whole ds && is_args o (map whole_of ds)) refl h
+      go : (r : Option (List Decimal)) → series v ≡ r → wholes (is_args o) r ≡ Some l → Kept o l
+      go None f h = absurd (never (cc h))
+      go (Some ds) f h = ok (all_of is_whole ds && is_args o (map whole_of ds)) refl h
         where
-          ok : (b : Bool) → (all_of is_whole ds && is_args o (map whole_of ds)) ≡ b → cond b (some (map whole_of ds)) none ≡ some l → Kept o l
+          ok : (b : Bool) → (all_of is_whole ds && is_args o (map whole_of ds)) ≡ b → cond b (Some (map whole_of ds)) None ≡ Some l → Kept o l
           ok false g h = absurd (never (cc h))
           ok true g h =
               let r = series-read v ds f in

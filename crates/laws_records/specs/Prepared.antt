@@ -1,10 +1,10 @@
 -- A prepared table: each record's span is where its text stands, and refusal 18 does not apply, so no check and no run of it is refused 18.
-use Rattle.std.specs.Prelude.{◌≡◌, ℕ, ◌≤◌, Bool, true, false, cond, List, [], ◌∷◌, ◌++◌, map, length, take, drop, ltb, Float}
+use Rattle.rules.specs.declared.Refusal.{Refusal}
+use Rattle.std.specs.Prelude.{◌≡◌, ℕ, ◌≤◌, Bool, true, false, cond, List, [], ◌∷◌, ◌++◌, map, length, take, drop, ltb, Float, None, Result, Ok}
 use Rattle.std.proofs.Common.{ap, sym, ◌∙◌, le_trans}
-use Rattle.std.proofs.Math.Option.{none}
 use Rattle.std.proofs.Math.Seq.{take-append_seam}
 use Rattle.rules.specs.Text.Bytes.{Bytes, joined}
-use Rattle.rules.specs.Text.Refusal.{Reply, answers, refuses, refuses12, tested, lent, outcome, prepared}
+use Rattle.rules.specs.Text.Refusal.{Reply, answers, refuses, refuses12, tested, lent, outcome, prepared, refusal, refusal_at}
 use Rattle.rules.specs.Text.Split.{steps, split_steps}
 use Rattle.rules.specs.Text.Reader.{definition}
 use Rattle.rules.specs.Pipeline.Record.{reading_number, span_end, refusal18}
@@ -15,11 +15,8 @@ use Rattle.rules.specs.Face.Demands.{bytes_at, Rise, Walk}
 use Rattle.rules.specs.declared.Mode.{Mode}
 use Rattle.rules.specs.declared.Reading.{Reading}
 use Rattle.rules.specs.declared.Step.{Step}
-use Rattle.rules.specs.declared.Prepared.{Prepared}
-use Rattle.rules.specs.declared.Prepared.TheVariants as prepared-is
 use Rattle.rules.specs.declared.Direction.{Direction}
 use Rattle.rules.specs.declared.Verdict.TheVariants as verdict-is
-use Rattle.rules.specs.declared.Ran.TheVariants as ran-is
 use Rattle.laws_lists.specs.Tests.{never}
 use Rattle.laws_text.specs.Spans.{spans-count, definition-length, walk-rises, spans-walk, reading-walks}
 use Rattle.laws_text.specs.Texts.{split-worded, walk-texts}
@@ -70,7 +67,7 @@ prepared-rise r mode t l h =
 -- ---- refusal 18
 
 -- It does not apply to them,
-pub never-18 : (r : Reading) (mode : Mode) (t : Bytes) (l : List Step) → tested (prepare_as r mode) t ≡ answers l → refusal18 l ≡ none
+pub never-18 : (r : Reading) (mode : Mode) (t : Bytes) (l : List Step) → tested (prepare_as r mode) t ≡ answers l → refusal18 l ≡ None
 never-18 r mode t l h =
     let k = prepare-as-made r mode t l (tested-answers (prepare_as r mode) t l h) in
     (not-18 l).1 (k.0, k.1, one-reading (reading_number r) l k.2, prepared-rise r mode t l h)
@@ -82,37 +79,37 @@ check-never-18 r mode t l h d number place e = never (cc (never-18 r mode t l h,
 
 -- and no run of them is refused 18.
 pub run-never-18 : (r : Reading) (mode : Mode) (t : Bytes) (l : List Step) → tested (prepare_as r mode) t ≡ answers l
-    → (d : Direction) (xs store : List Float) (place : ℕ) → (runs d l xs store).answer ≡ ran-is.Refused 18 place → ⊥
+    → (d : Direction) (xs store : List Float) (place : ℕ) → (runs d l xs store).answer ≡ refusal 18 place → ⊥
 run-never-18 r mode t l h d xs store place e = never (cc (never-18 r mode t l h, run-refused d l xs store place e))
 
 -- ---- a lent table
 
 -- what the promise of preparing says where it answers: the records stand at the front of the table
 lent-answers : (r : Reply (List Step)) (table table' : List Step) (n : ℕ)
-    → ◌≡◌ {A = Prepared × List Step} (prepared-is.Steps n, table') (lent prepared r table) → r ≡ answers (take n table')
+    → ◌≡◌ {A = Result ℕ Refusal × List Step} (Ok n, table') (lent prepared r table) → r ≡ answers (take n table')
 unfolding lent prepared
-lent-answers (refuses number place) table table' n h = absurd (never (cc (ap (λ (x : Prepared × List Step). x.0) h)))
-lent-answers (refuses12 place offset) table table' n h = absurd (never (cc (ap (λ (x : Prepared × List Step). x.0) h)))
+lent-answers (refuses number place) table table' n h = absurd (never (cc (ap (λ (x : Result ℕ Refusal × List Step). x.0) h)))
+lent-answers (refuses12 place offset) table table' n h = absurd (never (cc (ap (λ (x : Result ℕ Refusal × List Step). x.0) h)))
 lent-answers (answers l) table table' n h = go (ltb (length table) (length l)) h
   where
-    go : (b : Bool) → ◌≡◌ {A = Prepared × List Step} (prepared-is.Steps n, table') (cond b (prepared-is.Refused 7 0 0, table) (prepared-is.Steps (length l), l ++ drop (length l) table))
+    go : (b : Bool) → ◌≡◌ {A = Result ℕ Refusal × List Step} (Ok n, table') (cond b (refusal_at 7 0 0, table) (Ok (length l), l ++ drop (length l) table))
         → answers l ≡ answers (take n table')
-    go true h = absurd (never (cc (ap (λ (x : Prepared × List Step). x.0) h)))
+    go true h = absurd (never (cc (ap (λ (x : Result ℕ Refusal × List Step). x.0) h)))
     go false h =
-        let e : n ≡ length l = cc (ap (λ (x : Prepared × List Step). x.0) h) in
-        let f : table' ≡ l ++ drop (length l) table = ap (λ (x : Prepared × List Step). x.1) h in
+        let e : n ≡ length l = cc (ap (λ (x : Result ℕ Refusal × List Step). x.0) h) in
+        let f : table' ≡ l ++ drop (length l) table = ap (λ (x : Result ℕ Refusal × List Step). x.1) h in
         rw (e, f, take-append_seam l (drop (length l) table))
 
 -- Of a table that preparing answered into, the records that it counts are those of the text. So they are not refused 18.
-pub table-tested : (r : Reading) (mode : Mode) {t : Bytes} {table table' : List Step} {n : ℕ} → PreparesAs r mode t table (prepared-is.Steps n) table'
+pub table-tested : (r : Reading) (mode : Mode) {t : Bytes} {table table' : List Step} {n : ℕ} → PreparesAs r mode t table (Ok n) table'
     → tested (prepare_as r mode) t ≡ answers (take n table')
 unfolding outcome
 table-tested r mode {t} {table} {table'} {n} p = lent-answers (tested (prepare_as r mode) t) table table' n p.exactly
 
-pub table-prepared : (r : Reading) (mode : Mode) {t : Bytes} {table table' : List Step} {n : ℕ} → PreparesAs r mode t table (prepared-is.Steps n) table'
+pub table-prepared : (r : Reading) (mode : Mode) {t : Bytes} {table table' : List Step} {n : ℕ} → PreparesAs r mode t table (Ok n) table'
     → prepare_as r mode t ≡ answers (take n table')
 table-prepared r mode {t} {table} {table'} {n} p = tested-answers (prepare_as r mode) t (take n table') (table-tested r mode p)
 
-pub table-never-18 : (r : Reading) (mode : Mode) {t : Bytes} {table table' : List Step} {n : ℕ} → PreparesAs r mode t table (prepared-is.Steps n) table'
-    → refusal18 (take n table') ≡ none
+pub table-never-18 : (r : Reading) (mode : Mode) {t : Bytes} {table table' : List Step} {n : ℕ} → PreparesAs r mode t table (Ok n) table'
+    → refusal18 (take n table') ≡ None
 table-never-18 r mode {t} {table} {table'} {n} p = never-18 r mode t (take n table') (table-tested r mode p)

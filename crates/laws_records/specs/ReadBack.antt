@@ -1,23 +1,19 @@
 -- What was written is read back: whatever preparing in the table's reading and mode leaves of a text that the call `write` answered, it is
 -- the table, with the spans of that text. (A table that mixes both modes has no such mode: each of its records has a text of its own.)
-use Rattle.std.specs.Prelude.{◌≡◌, ◌↔◌, ℕ, ◌≤◌, Bool, true, false, cond, List, [], ◌∷◌, ◌++◌, length, take, drop, leb, ltb}
+use Rattle.rules.specs.declared.Refusal.{Refusal}
+use Rattle.std.specs.Prelude.{◌≡◌, ◌↔◌, ℕ, ◌≤◌, Bool, true, false, cond, List, [], ◌∷◌, ◌++◌, length, take, drop, leb, ltb, Option, None, Some, Result, Ok}
 use Rattle.std.proofs.Math.Path.{refl}
 use Rattle.std.proofs.Common.{ap}
-use Rattle.std.proofs.Math.Option.{Option, none, some}
 use Rattle.std.proofs.Math.Seq.{take-append_seam}
 use Rattle.rules.specs.Text.Lists.{all_of}
 use Rattle.rules.specs.Text.Bytes.{Bytes}
-use Rattle.rules.specs.Text.Refusal.{Reply, answers, refuses, refuses12, lent, written, Lends}
+use Rattle.rules.specs.Text.Refusal.{Reply, answers, refuses, refuses12, lent, written, Lends, refusal}
 use Rattle.rules.specs.Pipeline.Record.{reading_number, reading_of, with_spans, of_mode, made, table_reading, refusal18}
 use Rattle.rules.specs.Pipeline.Prepare.{PreparesAs}
 use Rattle.rules.specs.Face.Demands.{Rise}
 use Rattle.rules.specs.declared.Mode.{Mode}
 use Rattle.rules.specs.declared.Reading.{Reading}
 use Rattle.rules.specs.declared.Step.{Step}
-use Rattle.rules.specs.declared.Written.{Written}
-use Rattle.rules.specs.declared.Written.TheVariants as written_is
-use Rattle.rules.specs.declared.Prepared.{Prepared}
-use Rattle.rules.specs.declared.Prepared.TheVariants as prepared-is
 use Rattle.laws_text.specs.Once.{once}
 use Rattle.rules.specs.Pipeline.Write.{table_writing, written_spans, written_unless18, write}
 use Rattle.laws_lists.specs.Lists.{Every}
@@ -31,22 +27,22 @@ use Rattle.laws_records.specs.Exact.{table-prepares, Texted, tables-exactly, mad
 -- ---- an answer of `write`
 
 -- it stands at the front of the buffer
-lent-front : (reply : Reply Bytes) (out : Bytes) (r : ℕ) (out' : Bytes) → ◌≡◌ {A = Written × Bytes} (written_is.Wrote r, out') (lent written reply out) → reply ≡ answers (take r out')
+lent-front : (reply : Reply Bytes) (out : Bytes) (r : ℕ) (out' : Bytes) → ◌≡◌ {A = Result ℕ Refusal × Bytes} (Ok r, out') (lent written reply out) → reply ≡ answers (take r out')
 unfolding lent written
-lent-front (refuses number place) out r out' h = absurd (never (cc (ap (λ (x : Written × Bytes). x.0) h)))
-lent-front (refuses12 place offset) out r out' h = absurd (never (cc (ap (λ (x : Written × Bytes). x.0) h)))
+lent-front (refuses number place) out r out' h = absurd (never (cc (ap (λ (x : Result ℕ Refusal × Bytes). x.0) h)))
+lent-front (refuses12 place offset) out r out' h = absurd (never (cc (ap (λ (x : Result ℕ Refusal × Bytes). x.0) h)))
 lent-front (answers t) out r out' h = go (ltb (length out) (length t)) h
   where
-    go : (b : Bool) → ◌≡◌ {A = Written × Bytes} (written_is.Wrote r, out') (cond b (written_is.Refused 7 0, out) (written_is.Wrote (length t), t ++ drop (length t) out))
+    go : (b : Bool) → ◌≡◌ {A = Result ℕ Refusal × Bytes} (Ok r, out') (cond b (refusal 7 0, out) (Ok (length t), t ++ drop (length t) out))
         → answers t ≡ answers (take r out')
-    go true h = absurd (never (cc (ap (λ (x : Written × Bytes). x.0) h)))
+    go true h = absurd (never (cc (ap (λ (x : Result ℕ Refusal × Bytes). x.0) h)))
     go false h =
-        let e : r ≡ length t = cc (ap (λ (x : Written × Bytes). x.0) h) in
-        let f : out' ≡ t ++ drop (length t) out = ap (λ (x : Written × Bytes). x.1) h in
+        let e : r ≡ length t = cc (ap (λ (x : Result ℕ Refusal × Bytes). x.0) h) in
+        let f : out' ≡ t ++ drop (length t) out = ap (λ (x : Result ℕ Refusal × Bytes). x.1) h in
         rw (e, f, take-append_seam t (drop (length t) out))
 
 -- a table that is not refused 18: its records are all of one of the two readings
-table-alike : (l : List Step) → refusal18 l ≡ none → Every (InIt (reading_number (reading_of (table_reading l)))) l
+table-alike : (l : List Step) → refusal18 l ≡ None → Every (InIt (reading_number (reading_of (table_reading l)))) l
 table-alike l h = let k = (not-18 l).0 h in rw (number-again (table_reading l) (small l k.0)) k.2
   where
     small : (l : List Step) → all_of made l ≡ true → leb (table_reading l) 1 ≡ true
@@ -65,12 +61,12 @@ unfolding write written_unless18
 write-answers l t h = go (refusal18 l) refl h
   where
     go : (o : Option ℕ) → refusal18 l ≡ o → written_unless18 o (table_writing l) ≡ answers t → IsText l t
-    go none e h =
+    go None e h =
         let k = (not-18 l).0 e in
         record { all_made = k.0; few = k.1; alike = table-alike l e; is = cc h }
-    go (some place) e h = absurd (never (cc h))
+    go (Some place) e h = absurd (never (cc h))
 
-pub lends_writes : (l : List Step) {out : Bytes} {r : ℕ} {out' : Bytes} → Lends (write l) out (written_is.Wrote r) out' → IsText l (take r out')
+pub lends_writes : (l : List Step) {out : Bytes} {r : ℕ} {out' : Bytes} → Lends (write l) out (Ok r) out' → IsText l (take r out')
 lends_writes l {out} {r} {out'} p = write-answers l (take r out') (lent-front (write l) out r out' p.exactly)
 
 -- ---- read back
@@ -78,9 +74,9 @@ lends_writes l {out} {r} {out'} p = write-answers l (take r out') (lent-front (w
 -- Where `write` answered r bytes of a table of one mode, preparing these bytes in the table's reading and in that mode into any step table
 -- with room for its records can only answer how many they are, with exactly these records at the front, with the spans of the text, and the rest as it was.
 pub written-returns : (mode : Mode) (l : List Step) → Every Slots l → all_of (of_mode mode) l ≡ true → {out : Bytes} {r : ℕ} {out' : Bytes}
-    → Lends (write l) out (written_is.Wrote r) out'
-    → (table : List Step) → length l ≤ length table → {answer : Prepared} {table' : List Step} → PreparesAs (reading_of (table_reading l)) mode (take r out') table answer table'
-    → (answer ≡ prepared-is.Steps (length l)) × (table' ≡ with_spans (written_spans l) l ++ drop (length l) table)
+    → Lends (write l) out (Ok r) out'
+    → (table : List Step) → length l ≤ length table → {answer : Result ℕ Refusal} {table' : List Step} → PreparesAs (reading_of (table_reading l)) mode (take r out') table answer table'
+    → (answer ≡ Ok (length l)) × (table' ≡ with_spans (written_spans l) l ++ drop (length l) table)
 written-returns mode l e f {out} {r} {out'} w table room {answer} {table'} p =
     let k = lends_writes l w in
     once p (rw k.is (table-prepares (reading_of (table_reading l)) mode l table (record { each = k.all_made; slots = e; alike = k.alike; of-mode = f }) k.few room))
@@ -89,7 +85,7 @@ written-returns mode l e f {out} {r} {out'} w table room {answer} {table'} p =
 
 -- A table of one mode, of records with eight slots, as every record of the code has, is not refused 18 exactly when its spans rise up to byte
 -- 40,960 and some text prepares to it, spans aside, in that mode, in some reading.
-pub not-18-exactly : (mode : Mode) (l : List Step) → Every Slots l → all_of (of_mode mode) l ≡ true → (refusal18 l ≡ none) ↔ (Rise 40960 0 l × ((r : Reading) × Texted r mode l))
+pub not-18-exactly : (mode : Mode) (l : List Step) → Every Slots l → all_of (of_mode mode) l ≡ true → (refusal18 l ≡ None) ↔ (Rise 40960 0 l × ((r : Reading) × Texted r mode l))
 not-18-exactly mode l slots f = (
   λ h.
       let k = (not-18 l).0 h in
@@ -116,7 +112,7 @@ unfolding Every all_of
 each-made [] e h = refl
 each-made (s ∷ l) e h = rw ((made-somehow s e.0).1 h.0) (each-made l e.1 h.1)
 
-pub not-18-each : (l : List Step) → Every Slots l → (refusal18 l ≡ none) ↔ ((length l ≤ 64) × Every (InIt (table_reading l)) l × Rise 40960 0 l × Every TextedAlone l)
+pub not-18-each : (l : List Step) → Every Slots l → (refusal18 l ≡ None) ↔ ((length l ≤ 64) × Every (InIt (table_reading l)) l × Rise 40960 0 l × Every TextedAlone l)
 not-18-each l slots = (
   λ h. let k = (not-18 l).0 h in (k.1, k.2, k.3, each-texted l slots k.0),
   λ h. (not-18 l).1 (each-made l slots h.3, h.0, h.1, h.2),

@@ -1,8 +1,7 @@
 -- What a record is that passes `made`: the one that its operator, its arguments and its marks make.
-use Rattle.std.specs.Prelude.{◌≡◌, refl, ℕ, zero, suc, ◌-◌, ◌≤◌, Bool, true, false, cond, not, List, [], ◌∷◌, ◌++◌, length, take, drop, replicate, leb, eqb, ℤ, pos, negsuc}
+use Rattle.std.specs.Prelude.{◌≡◌, refl, ℕ, zero, suc, ◌-◌, ◌≤◌, Bool, true, false, cond, not, List, [], ◌∷◌, ◌++◌, length, take, drop, replicate, leb, eqb, ℤ, pos, negsuc, None, Some}
 use Rattle.std.proofs.Common.{ap, ◌∙◌, arith, leb-true, eqb-true, take-append-drop, length-take, length-drop, length-take-le}
 use Prim.Native.String.{String}
-use Rattle.std.proofs.Math.Option.{none, some}
 use Rattle.rules.specs.Text.Ascii.{ascii}
 use Rattle.rules.specs.Text.Lists.{any_of, all_of, is_none}
 use Rattle.rules.specs.Text.Bytes.{Bytes, Words, same}
@@ -29,19 +28,19 @@ zeros [] h = refl
 zeros (pos n ∷ l) h =
     let e : n ≡ 0 = eqb-true n 0 (and_left (eqb n 0) _ h) in
     rw (e, ← zeros l (and_right (eqb n 0) _ h))
-zeros (negsuc n ∷ l) h = absurd (none n (eqb-true (suc n) 0 (and_left (eqb (suc n) 0) _ h)))
+zeros (negsuc n ∷ l) h = absurd (None n (eqb-true (suc n) 0 (and_left (eqb (suc n) 0) _ h)))
   where
-    none : (n : ℕ) → suc n ≡ 0 → ⊥
-    none n e = omega arith
+    None : (n : ℕ) → suc n ≡ 0 → ⊥
+    None n e = omega arith
 
 mark-again : (m : ℕ) → leb m 1 ≡ true → cond (is_set m) 1 0 ≡ m
 unfolding is_set
 mark-again zero h = refl
 mark-again (suc zero) h = refl
-mark-again (suc (suc m)) h = absurd (none m (leb-true (suc (suc m)) 1 h))
+mark-again (suc (suc m)) h = absurd (None m (leb-true (suc (suc m)) 1 h))
   where
-    none : (m : ℕ) → suc (suc m) ≤ 1 → ⊥
-    none m h = omega arith
+    None : (m : ℕ) → suc (suc m) ≤ 1 → ⊥
+    None m h = omega arith
 
 -- A record of the crate's reading with eight slots, as every record of the code has, that passes the test.
 pub record IsMade (s : Step) : Type 0 where
@@ -109,29 +108,29 @@ marks-bare s = refl
 
 -- parameters that are no marks
 pub record Unmarked (own : List Parameter) : Type 0 where
-  pub no-inv : latest (ascii "inv") own none ≡ none
-  pub no-fwd : latest (ascii "omit_fwd") own none ≡ none
-  pub no-back : latest (ascii "omit_inv") own none ≡ none
+  pub no-inv : latest (ascii "inv") own None ≡ None
+  pub no-fwd : latest (ascii "omit_fwd") own None ≡ None
+  pub no-back : latest (ascii "omit_inv") own None ≡ None
 
-pub given_back : (b : Bool) (v : Bytes) → not (is_none (cond b (some v) none)) ≡ b
+pub given_back : (b : Bool) (v : Bytes) → not (is_none (cond b (Some v) None)) ≡ b
 unfolding is_none
 given_back true v = refl
 given_back false v = refl
 
 module _ (s : Step) (w : Bytes) (own : List Parameter) (u : Unmarked own) where
-  look-inv : look w own (marks_of s) (ascii "inv") ≡ cond (is_set s.inv) (some (ascii "true")) none
+  look-inv : look w own (marks_of s) (ascii "inv") ≡ cond (is_set s.inv) (Some (ascii "true")) None
   unfolding look marks_of picked same ascii
   look-inv = rw u.no-inv
 
-  look-fwd : look w own (marks_of s) (ascii "omit_fwd") ≡ cond (is_set s.omit_fwd) (some (ascii "true")) none
+  look-fwd : look w own (marks_of s) (ascii "omit_fwd") ≡ cond (is_set s.omit_fwd) (Some (ascii "true")) None
   unfolding look marks_of picked same ascii
   look-fwd = rw u.no-fwd
 
-  look-back : look w own (marks_of s) (ascii "omit_inv") ≡ cond (is_set s.omit_inv) (some (ascii "true")) none
+  look-back : look w own (marks_of s) (ascii "omit_inv") ≡ cond (is_set s.omit_inv) (Some (ascii "true")) None
   unfolding look marks_of picked same ascii
   look-back = rw u.no-back
 
-  marked : (key : String) (b : Bool) → look w own (marks_of s) (ascii key) ≡ cond b (some (ascii "true")) none → mark key (table_from w own (marks_of s)) ≡ cond b 1 0
+  marked : (key : String) (b : Bool) → look w own (marks_of s) (ascii key) ≡ cond b (Some (ascii "true")) None → mark key (table_from w own (marks_of s)) ≡ cond b 1 0
   unfolding mark is_given
   marked key b h = rw (looked w own (marks_of s) (marks-bare s) (ascii key), h, given_back b (ascii "true"))
 

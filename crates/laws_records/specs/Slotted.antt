@@ -1,7 +1,6 @@
 -- A record that a preparation makes has its arguments in eight slots, and is of the crate's reading.
-use Rattle.std.specs.Prelude.{◌≡◌, ℕ, ◌-◌, Bool, true, false, cond, List, [], ◌∷◌, ◌++◌, leb, ltb, ℤ, pos}
+use Rattle.std.specs.Prelude.{◌≡◌, ℕ, ◌-◌, Bool, true, false, cond, List, [], ◌∷◌, ◌++◌, leb, ltb, ℤ, pos, Option, None, Some}
 use Rattle.std.proofs.Math.Path.{ap}
-use Rattle.std.proofs.Math.Option.{Option, none, some}
 use Rattle.std.proofs.Common.{arith}
 use borrow.Author.Tests.{leb-true}
 use Rattle.std.proofs.Math.ListN.{length, replicate, length-append, length-replicate}
@@ -22,8 +21,6 @@ use Rattle.rules.specs.declared.Mode.{Mode}
 use Rattle.rules.specs.declared.Reading.TheVariants.{Crate}
 use Rattle.rules.specs.declared.Step.{Step}
 use Rattle.rules.specs.declared.Name.{Name}
-use Rattle.rules.specs.declared.Named.{Named}
-use Rattle.rules.specs.declared.Named.TheVariants.{Is, Not}
 use Rattle.laws_records.specs.Made.{then-answers}
 use Rattle.laws_lists.specs.Lists.{Every}
 use Rattle.laws_lists.specs.Tests.{and_left, and_right, never}
@@ -38,21 +35,21 @@ record Slotted (s : Step) : Type 0 where
   same-as : record_of slotted-by given listed ≡ s
 
 -- whatever the operator's own rule chose
-own-slotted : (mode : Mode) (n : Name) (ps : List Parameter) (s : Step) → own_rule mode n ps ≡ some s → Slotted s
+own-slotted : (mode : Mode) (n : Name) (ps : List Parameter) (s : Step) → own_rule mode n ps ≡ Some s → Slotted s
 unfolding own_rule
 own-slotted mode n ps s h = go ((wording_of n).chosen mode ps) h
   where
-    go : (c : Option Chosen) → recorded ps c ≡ some s → Slotted s
-    go none h = unfold recorded in absurd (never (cc h))
-    go (some c) h = unfold recorded in record { slotted-by = c.operator; given = ps; listed = c.arguments; same-as = cc h }
+    go : (c : Option Chosen) → recorded ps c ≡ Some s → Slotted s
+    go None h = unfold recorded in absurd (never (cc h))
+    go (Some c) h = unfold recorded in record { slotted-by = c.operator; given = ps; listed = c.arguments; same-as = cc h }
 
 judged-slotted : (mode : Mode) (ps : List Parameter) (s : Step) → judged mode ps ≡ answers s → Slotted s
 unfolding judged judged10 judged11 judged14
 judged-slotted mode ps s h = by10 (named (value_of (ascii "_name") ps)) h
   where
-    by14 : (o : Option Step) → ((r : Step) → o ≡ some r → Slotted r) → judged14 o ≡ answers s → Slotted s
-    by14 none f h = absurd (never (cc h))
-    by14 (some r) f h = f s (cc h)
+    by14 : (o : Option Step) → ((r : Step) → o ≡ Some r → Slotted r) → judged14 o ≡ answers s → Slotted s
+    by14 None f h = absurd (never (cc h))
+    by14 (Some r) f h = f s (cc h)
 
     by13 : (n : Name) (a b c : Bool) → cond a (refuses 11 0) (cond b (refuses12 0 0) (cond c (refuses 13 0) (judged14 (own_rule mode n ps)))) ≡ answers s → Slotted s
     by13 n true b c h = absurd (never (cc h))
@@ -60,9 +57,9 @@ judged-slotted mode ps s h = by10 (named (value_of (ascii "_name") ps)) h
     by13 n false false true h = absurd (never (cc h))
     by13 n false false false h = by14 (own_rule mode n ps) (own-slotted mode n ps) h
 
-    by10 : (o : Named) → judged10 mode o ps ≡ answers s → Slotted s
-    by10 Not h = absurd (never (cc h))
-    by10 (Is n) h =
+    by10 : (o : Option Name) → judged10 mode o ps ≡ answers s → Slotted s
+    by10 None h = absurd (never (cc h))
+    by10 (Some n) h =
         by13 n (any_of (unknown n) ps) (any_of (λ (p : Parameter). misspelt (kind_of n p) p.value) ps) (any_of (λ (p : Parameter). too_long (kind_of n p) p.value) ps) h
 
 step-slotted : (mode : Mode) (place : ℕ) (t : Bytes) (s : Step) → prepare_step mode place t ≡ answers s → Slotted s

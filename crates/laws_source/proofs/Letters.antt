@@ -1,12 +1,11 @@
 -- The last case of the match of `adapt`, "cannot happen": no letter that passes the test before it comes to it, so whatever it gave, every word would be read as
 -- it is without the case. And the rules read every word as the source does: the match is their axis of a letter, and the count of four sizes their order.
-use Rattle.std.specs.Prelude.{◌≡◌, ℕ, suc, ◌<◌, Bool, not, ◌&&◌, ◌||◌, take, drop, leb, ℤ, pos}
+use Rattle.std.specs.Prelude.{◌≡◌, ℕ, suc, ◌<◌, Bool, not, ◌&&◌, ◌||◌, take, drop, leb, ℤ, pos, Option, None, Some}
 use Rattle.std.proofs.Math.Path.{refl, sym}
 use Rattle.std.proofs.Common.{ap, ◌∙◌, arith, lit≤}
 use Rattle.std.specs.Bool.{beq}
 use Rattle.std.proofs.Math.Bool.{true, false, cond}
 use Rattle.std.proofs.lemmas.Bool.{false≢true}
-use Rattle.std.proofs.Math.Option.{Option, none, some}
 use mathlib.Core.List.{List, [], ◌∷◌, map}
 use borrow.Author.Tests.{eqb-true, eqb-false, ne_eqb}
 use Rattle.std.proofs.Math.ListN.{length}
@@ -92,27 +91,27 @@ module _ (d : ℕ) where
 -- ---- the loop
 
 -- its answer, whatever the last case gives: the axes of the letters, if each of them passes the test
-indices-are : (last : ℤ) (t : Bytes) → indices_by last t ≡ cond (all_of is_designator t) (some (map axis t)) none
+indices-are : (last : ℤ) (t : Bytes) → indices_by last t ≡ cond (all_of is_designator t) (Some (map axis t)) None
 unfolding indices_by all_of
 indices-are last [] = refl
 indices-are last (d ∷ t) = rw (indices-are last t) (go (is_designator d) refl (all_of is_designator t))
   where
     go : (b : Bool) → is_designator d ≡ b → (c : Bool)
-        → cond (not b) none (ahead (dd last d) (cond c (some (map axis t)) none)) ≡ cond (b && c) (some (axis d ∷ map axis t)) none
+        → cond (not b) None (ahead (dd last d) (cond c (Some (map axis t)) None)) ≡ cond (b && c) (Some (axis d ∷ map axis t)) None
     go true h true = unfold ahead in rw (number-known d last h) refl
     go true h false = unfold ahead in refl
     go false h c = refl
 
 -- without the last case it is the same
-without-are : (t : Bytes) → indices_without t ≡ cond (all_of is_designator t) (some (map axis t)) none
+without-are : (t : Bytes) → indices_without t ≡ cond (all_of is_designator t) (Some (map axis t)) None
 unfolding indices_without all_of
 without-are [] = refl
 without-are (d ∷ t) = rw (without-are t) (go (is_designator d) refl (all_of is_designator t))
   where
     go : (b : Bool) → is_designator d ≡ b → (c : Bool)
-        → cond (not b) none (ahead_if (matched some none d) (cond c (some (map axis t)) none)) ≡ cond (b && c) (some (axis d ∷ map axis t)) none
-    go true h true = rw (in-an-arm d some none h) (unfold ahead_if ahead in refl)
-    go true h false = rw (in-an-arm d some none h) (unfold ahead_if ahead in refl)
+        → cond (not b) None (ahead_if (matched Some None d) (cond c (Some (map axis t)) None)) ≡ cond (b && c) (Some (axis d ∷ map axis t)) None
+    go true h true = rw (in-an-arm d Some None h) (unfold ahead_if ahead in refl)
+    go true h false = rw (in-an-arm d Some None h) (unfold ahead_if ahead in refl)
     go false h c = refl
 
 -- ---- no word reaches the last case: whatever it gave, every word is read as it is without the case
@@ -195,12 +194,12 @@ module _ (a b c d angle : ℕ) where
   axes-order : is_order (map axis letters) ≡ counted_once (map axis letters)
   axes-order = order-count (axis a) (axis b) (axis c) (axis d) (axis-small a) (axis-small b) (axis-small c) (axis-small d)
 
-  four-alike : word_of (map axis letters) (some angle) ≡ permutation angle (indices letters)
+  four-alike : word_of (map axis letters) (Some angle) ≡ permutation angle (indices letters)
   unfolding word_of indices
   four-alike = rw (indices-are (pos 0) letters) (go (all_of is_designator letters) refl (is_order (map axis letters)) refl)
     where
       go : (known : Bool) → all_of is_designator letters ≡ known → (ordered : Bool) → is_order (map axis letters) ≡ ordered
-          → cond ordered (some (record { axes = map axis letters; angle = angle })) none ≡ permutation angle (cond known (some (map axis letters)) none)
+          → cond ordered (Some (record { axes = map axis letters; angle = angle })) None ≡ permutation angle (cond known (Some (map axis letters)) None)
       go true h o e = unfold permutation counted_once in rw (← e, axes-order)
       go false h true e = absurd (false≢true (sym h ∙ order-known letters e))
       go false h false e = unfold permutation in refl
@@ -217,8 +216,8 @@ other_length t u h = go (same t u) refl
 
 -- what is read of four letters, by their ending
 by_ending : Option ℕ → Option (List ℤ) → Option Word
-by_ending none l = none
-by_ending (some angle) l = permutation angle l
+by_ending None l = None
+by_ending (Some angle) l = permutation angle l
 
 module _ (a b c d : ℕ) (l : Option (List ℤ)) where
   -- behind the letters neither nothing nor four bytes: no ending
@@ -237,8 +236,8 @@ module _ (a b c d : ℕ) (l : Option (List ℤ)) where
       let r : Bytes = p ∷ q ∷ s ∷ u ∷ [] in
       go (same r (ascii "_deg")) (same r (ascii "_gon")) (same r (ascii "_rad")) (same r (ascii "_any"))
     where
-      go : (x y z w : Bool) → by_ending (cond x (some 1) (cond y (some 2) (cond (z || w) (some 0) none))) l
-          ≡ cond (not (x || (y || (z || w)))) none (permutation (cond x 1 (cond y 2 0)) l)
+      go : (x y z w : Bool) → by_ending (cond x (Some 1) (cond y (Some 2) (cond (z || w) (Some 0) None))) l
+          ≡ cond (not (x || (y || (z || w)))) None (permutation (cond x 1 (cond y 2 0)) l)
       go true y z w = unfold by_ending in refl
       go false true z w = unfold by_ending in refl
       go false false true w = unfold by_ending in refl
@@ -266,8 +265,8 @@ plain-alike (a ∷ b ∷ c ∷ []) = unfold word_of ending same ascii by_letters
 plain-alike (a ∷ b ∷ c ∷ d ∷ r) = go (ending r) ∙ ended a b c d (indices (a ∷ b ∷ c ∷ d ∷ [])) r
   where
     go : (o : Option ℕ) → word_of (axis a ∷ axis b ∷ axis c ∷ axis d ∷ []) o ≡ by_ending o (indices (a ∷ b ∷ c ∷ d ∷ []))
-    go none = unfold word_of by_ending in refl
-    go (some angle) = unfold by_ending in four-alike a b c d angle
+    go None = unfold word_of by_ending in refl
+    go (Some angle) = unfold by_ending in four-alike a b c d angle
 
 -- the rules read every word as the source does
 pub word-is-descriptor : (t : Bytes) → word t ≡ coordinate_order_descriptor t
@@ -275,6 +274,6 @@ unfolding word coordinate_order_descriptor described by_letters
 word-is-descriptor t = go (same t (ascii "pass"))
   where
     go : (b : Bool) → (let letters = cond b (ascii "enuf") t in word_of (map axis (take 4 letters)) (ending (drop 4 letters)))
-        ≡ cond b (some (record { axes = pos 1 ∷ pos 2 ∷ pos 3 ∷ pos 4 ∷ []; angle = 0 })) (by_letters t (indices (take 4 t)))
+        ≡ cond b (Some (record { axes = pos 1 ∷ pos 2 ∷ pos 3 ∷ pos 4 ∷ []; angle = 0 })) (by_letters t (indices (take 4 t)))
     go true = unfold word_of axis place_in signed ending same ascii is_order is_distinct all_of any_of in refl
     go false = plain-alike t

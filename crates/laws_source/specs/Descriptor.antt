@@ -1,8 +1,7 @@
 -- `coordinate_order_descriptor` of src/inner_op/adapt.rs as it stands: its letters, its ending and its test for a permutation. Above a definition stand the
 -- source's lines that it restates. What it answers is a word of `rules`: its axes are `indices`, and its angle stands for `torad`, 0 for 1., 1 for PI / 180., 2
 -- for PI / 200. (What is made of these two: laws_records/Operators/Adapt/Factors.) A letter is a byte: the three bytes of a subscript digit are none of the eight.
-use Rattle.std.specs.Prelude.{ℕ, Bool, true, false, cond, not, ◌&&◌, ◌||◌, List, [], ◌∷◌, length, take, eqb, ℤ, pos, negsuc}
-use Rattle.std.proofs.Math.Option.{Option, none, some}
+use Rattle.std.specs.Prelude.{ℕ, Bool, true, false, cond, not, ◌&&◌, ◌||◌, List, [], ◌∷◌, length, take, eqb, ℤ, pos, negsuc, Option, None, Some}
 use Rattle.rules.specs.Text.Ascii.{ascii, is}
 use Rattle.rules.specs.Text.Lists.{any_of, kept}
 use Rattle.rules.specs.Text.Bytes.{Bytes, same}
@@ -41,13 +40,13 @@ dd last d = matched (λ (x : ℤ). x) last d
 -- ---- the loop over the letters: `indices`, or None
 
 unfoldable pub ahead : ℤ → Option (List ℤ) → Option (List ℤ)
-ahead x none = none
-ahead x (some l) = some (x ∷ l)
+ahead x None = None
+ahead x (Some l) = Some (x ∷ l)
 
 -- if !"neufswdp".contains(d) { return None; } let dd: i32 = match d { .. }; indices[i] = dd;
 unfoldable pub indices_by : ℤ → Bytes → Option (List ℤ)
-indices_by last [] = some []
-indices_by last (d ∷ ds) = cond (not (is_designator d)) none (ahead (dd last d) (indices_by last ds))
+indices_by last [] = Some []
+indices_by last (d ∷ ds) = cond (not (is_designator d)) None (ahead (dd last d) (indices_by last ds))
 
 -- _ => 0, // cannot happen: We already err'ed on unknowns
 unfoldable pub indices : Bytes → Option (List ℤ)
@@ -55,12 +54,12 @@ indices t = indices_by (pos 0) t
 
 -- without the last case: the match gives a number where it has an arm, and else none
 unfoldable pub ahead_if : Option ℤ → Option (List ℤ) → Option (List ℤ)
-ahead_if none l = none
-ahead_if (some x) l = ahead x l
+ahead_if None l = None
+ahead_if (Some x) l = ahead x l
 
 unfoldable pub indices_without : Bytes → Option (List ℤ)
-indices_without [] = some []
-indices_without (d ∷ ds) = cond (not (is_designator d)) none (ahead_if (matched some none d) (indices_without ds))
+indices_without [] = Some []
+indices_without (d ∷ ds) = cond (not (is_designator d)) None (ahead_if (matched Some None d) (indices_without ds))
 
 -- ---- the ending
 
@@ -88,22 +87,22 @@ counted_once l = eqb (count 1 l) 1 && (eqb (count 2 l) 1 && (eqb (count 3 l) 1 &
 
 -- if count != [1, 1, 1, 1] { return None; }
 unfoldable pub permutation : ℕ → Option (List ℤ) → Option Word
-permutation angle none = none
-permutation angle (some l) = cond (counted_once l) (some (record { axes = l; angle = angle })) none
+permutation angle None = None
+permutation angle (Some l) = cond (counted_once l) (Some (record { axes = l; angle = angle })) None
 
 -- ---- the descriptor
 
 -- if desc.len() != 4 && desc.len() != 8 { return None; } .. if desc.len() == 8 { .. if !good_angular { return None; } .. }
 unfoldable pub by_letters : Bytes → Option (List ℤ) → Option Word
 by_letters desc l =
-    cond (not (eqb (length desc) 4) && not (eqb (length desc) 8)) none
-    (cond (eqb (length desc) 8 && not (good_angular desc)) none
+    cond (not (eqb (length desc) 4) && not (eqb (length desc) 8)) None
+    (cond (eqb (length desc) 8 && not (good_angular desc)) None
     (permutation (torad desc) l))
 
 -- if desc == "pass" { return Some(..); } .. let desc: Vec<char> = desc[0..4].chars().collect();
 unfoldable pub described : (Bytes → Option (List ℤ)) → Bytes → Option Word
 described letters desc =
-    cond (same desc (ascii "pass")) (some (record { axes = pos 1 ∷ pos 2 ∷ pos 3 ∷ pos 4 ∷ []; angle = 0 }))
+    cond (same desc (ascii "pass")) (Some (record { axes = pos 1 ∷ pos 2 ∷ pos 3 ∷ pos 4 ∷ []; angle = 0 }))
     (by_letters desc (letters (take 4 desc)))
 
 unfoldable pub coordinate_order_descriptor : Bytes → Option Word

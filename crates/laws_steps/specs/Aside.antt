@@ -1,8 +1,7 @@
 -- Spans aside: which steps run, what they do and what `write` writes do not depend on where the steps' texts stand. So two tables that no call
 -- refuses 18 and that differ only there check, run and are written alike, but for the span that the check returns.
-use Rattle.std.specs.Prelude.{◌≡◌, refl, ℕ, suc, Float}
+use Rattle.std.specs.Prelude.{◌≡◌, refl, ℕ, suc, Float, None}
 use Rattle.std.proofs.Common.{sym, ap, ◌∙◌}
-use Rattle.std.proofs.Math.Option.{none}
 use mathlib.Core.List.{List, [], ◌∷◌, map, map-map}
 use Rattle.rules.specs.Pipeline.Record.{no_span, operator, args, spanned, spanless, refusal18}
 use Rattle.rules.specs.Pipeline.Running.{Numbered, directed, act, omitted, running_from, running}
@@ -67,7 +66,7 @@ answered-alike t u (TooMany k) l = only-alike (TooMany k) (span_at k t) (span_at
 answered-alike t u (Refused number k) l = says-itself (only (Refused number k) no_span)
 
 -- two tables that are not refused 18 and differ only in spans
-module _ (t u : List Step) (t-good : refusal18 t ≡ none) (u-good : refusal18 u ≡ none) (same : SameButSpans t u) where
+module _ (t u : List Step) (t-good : refusal18 t ≡ None) (u-good : refusal18 u ≡ None) (same : SameButSpans t u) where
   pub check-aside : (d : Direction) → SaysTheSame (check d t) (check d u)
   unfolding check checked
   check-aside d = rw (t-good, u-good, runs-the-same d t u same) (answered-alike t u (verdict (running d u) begin) (running d u))

@@ -1,9 +1,10 @@
 -- Demand 1: how each call ends. It answers, and alters nothing past its own end; or it refuses with one of its own numbers, and alters nothing.
+use Rattle.rules.specs.declared.Refusal.{Refusal}
+use Rattle.rules.specs.declared.Finished.{Finished}
 use Rattle.std.proofs.Math.Path.{◌≡◌, refl, ap}
 use Rattle.std.proofs.Common.{sym, ◌∙◌, arith, length-append, length-drop, drop_at}
-use Rattle.std.specs.Prelude.{ℕ, ◌+◌, ◌-◌, ◌≤◌, ◌*◌, ◌/◌, Bool, cond, length, replicate, pos, Float}
+use Rattle.std.specs.Prelude.{ℕ, ◌+◌, ◌-◌, ◌≤◌, ◌*◌, ◌/◌, Bool, cond, length, replicate, pos, Float, Option, None, Some, Result, Ok}
 use Rattle.std.proofs.Math.Bool.{true, false}
-use Rattle.std.proofs.Math.Option.{Option, none, some}
 use mathlib.Core.List.{List, [], ◌∷◌, ◌++◌, flat_map, reverse, append_assoc, map}
 use borrow.Author.Tests.{ltb-false}
 use Rattle.std.proofs.Math.Dec.{ltb}
@@ -12,9 +13,9 @@ use Rattle.std.proofs.lemmas.List.{length-replicate}
 use Rattle.std.specs.Float.{fin}
 use Rattle.rules.specs.Text.Lists.{any_of}
 use Rattle.rules.specs.Text.Bytes.{Bytes}
-use Rattle.rules.specs.Text.Refusal.{Reply, answers, refuses, refuses12, tested, lent, outcome, Promised, written, prepared, Writes, Lends}
+use Rattle.rules.specs.Text.Refusal.{Reply, answers, refuses, refuses12, tested, lent, outcome, Promised, written, prepared, Writes, Lends, refusal, refusal_at}
 use Rattle.rules.specs.Text.Normal.{normalise}
-use Rattle.rules.specs.Text.Reader.{define}
+use Rattle.rules.specs.Text.Reader.{define, step_then}
 use Rattle.rules.specs.Text.Split.{split}
 use Rattle.rules.specs.Text.Parameters.{parameters}
 use Rattle.rules.specs.Proj.Translate.{translate}
@@ -24,7 +25,7 @@ use Rattle.rules.specs.Pipeline.Record.{in_reading, refusal18}
 use Rattle.rules.specs.Pipeline.Running.{Numbered, running}
 use Rattle.rules.specs.Pipeline.Columns.{after, depths, deepest}
 use Rattle.rules.specs.Pipeline.Tuples.{acted}
-use Rattle.rules.specs.Pipeline.Run.{Outcome, start, count, passes64, bad_list, store_after, refused, finished, unless16, unless15, unless18, runs, Runs}
+use Rattle.rules.specs.Pipeline.Run.{Outcome, start, count, passes64, bad_list, store_after, refused, finished, unless16, unless15, unless18, runs, Runs, done}
 use Rattle.rules.specs.Pipeline.Check.{Checks}
 use Rattle.rules.specs.Pipeline.Write.{table_writing, written_unless18, write}
 use Rattle.rules.specs.Face.Demands.{OneOf, Ends, text_refusal, RunEnds, CheckEnds, NextEnds}
@@ -33,18 +34,10 @@ use Rattle.rules.specs.declared.Mode.{Mode}
 use Rattle.rules.specs.declared.Mode.TheVariants as mode-is
 use Rattle.rules.specs.declared.Step.{Step}
 use Rattle.rules.specs.declared.Direction.{Direction}
-use Rattle.rules.specs.declared.Written.{Written}
-use Rattle.rules.specs.declared.Written.TheVariants as written_is
-use Rattle.rules.specs.declared.Prepared.{Prepared}
-use Rattle.rules.specs.declared.Prepared.TheVariants as prepared-is
 use Rattle.rules.specs.declared.Found.{Found}
-use Rattle.rules.specs.declared.Found.TheVariants.{End}
-use Rattle.rules.specs.declared.Found.TheVariants as found-is
 use Rattle.rules.specs.declared.Foretold.{Foretold}
 use Rattle.rules.specs.declared.Verdict.{Verdict}
 use Rattle.rules.specs.declared.Verdict.TheVariants as verdict-is
-use Rattle.rules.specs.declared.Ran.{Ran}
-use Rattle.rules.specs.declared.Ran.TheVariants.{Done, Refused}
 use Rattle.laws_text.specs.Refusals.{Refusing, OfAStep, then-refuses, tested-refuses, normalise-refuses, define-refuses, split-refuses, parameters-refuses, translate-refuses, prepare-refuses}
 use Rattle.laws_text.specs.Walk.{walk-ahead}
 use Rattle.laws_steps.specs.Foretold.{check-refused}
@@ -86,29 +79,29 @@ module _ {A R : Type 0} (in_words : Reply ℕ → R) (refusal : ℕ → ℕ → 
   ends own {text} {storage} {r} {storage'} one two h p =
       lent-ends (tested own text) storage r storage' (tested-refuses (By l) own text one two (λ short. h)) p.exactly
 
-module _ {text out : Bytes} {r : Written} {out' : Bytes} where
+module _ {text out : Bytes} {r : Result ℕ Refusal} {out' : Bytes} where
   text-ends : (l : List ℕ) → OneOf l 7 → (own : Bytes → Reply Bytes) → OneOf l 1 → OneOf l 2 → Refusing (By l) (own text) → Writes own text out r out'
-      → Ends written_is.Wrote text_refusal l out r out'
+      → Ends Ok text_refusal l out r out'
   unfolding written
   text-ends l seven own = ends written text_refusal (λ number place. refl) (λ place offset. refl) l seven own
 
-  pub normalise-ends : Writes normalise text out r out' → Ends written_is.Wrote text_refusal (1 ∷ 2 ∷ 7 ∷ []) out r out'
+  pub normalise-ends : Writes normalise text out r out' → Ends Ok text_refusal (1 ∷ 2 ∷ 7 ∷ []) out r out'
   unfolding any_of
   normalise-ends = text-ends (1 ∷ 2 ∷ 7 ∷ []) refl normalise refl refl (normalise-refuses (By (1 ∷ 2 ∷ 7 ∷ [])) text)
 
-  pub definition-ends : Writes define text out r out' → Ends written_is.Wrote text_refusal (1 ∷ 2 ∷ 7 ∷ []) out r out'
+  pub definition-ends : Writes define text out r out' → Ends Ok text_refusal (1 ∷ 2 ∷ 7 ∷ []) out r out'
   unfolding any_of
   definition-ends = text-ends (1 ∷ 2 ∷ 7 ∷ []) refl define refl refl (define-refuses (By (1 ∷ 2 ∷ 7 ∷ [])) text)
 
-  pub split-ends : Writes split text out r out' → Ends written_is.Wrote text_refusal (1 ∷ 2 ∷ 6 ∷ 7 ∷ 8 ∷ []) out r out'
+  pub split-ends : Writes split text out r out' → Ends Ok text_refusal (1 ∷ 2 ∷ 6 ∷ 7 ∷ 8 ∷ []) out r out'
   unfolding any_of
   split-ends = text-ends (1 ∷ 2 ∷ 6 ∷ 7 ∷ 8 ∷ []) refl split refl refl (split-refuses (By (1 ∷ 2 ∷ 6 ∷ 7 ∷ 8 ∷ [])) text (λ p l. refl) refl)
 
-  pub parameters-ends : Writes parameters text out r out' → Ends written_is.Wrote text_refusal (1 ∷ 2 ∷ 6 ∷ 7 ∷ 9 ∷ []) out r out'
+  pub parameters-ends : Writes parameters text out r out' → Ends Ok text_refusal (1 ∷ 2 ∷ 6 ∷ 7 ∷ 9 ∷ []) out r out'
   unfolding any_of
   parameters-ends = text-ends (1 ∷ 2 ∷ 6 ∷ 7 ∷ 9 ∷ []) refl parameters refl refl (parameters-refuses (By (1 ∷ 2 ∷ 6 ∷ 7 ∷ 9 ∷ [])) text refl refl)
 
-  pub translate-ends : Writes translate text out r out' → Ends written_is.Wrote text_refusal (1 ∷ 2 ∷ 3 ∷ 4 ∷ 5 ∷ 7 ∷ []) out r out'
+  pub translate-ends : Writes translate text out r out' → Ends Ok text_refusal (1 ∷ 2 ∷ 3 ∷ 4 ∷ 5 ∷ 7 ∷ []) out r out'
   unfolding any_of
   translate-ends =
       text-ends (1 ∷ 2 ∷ 3 ∷ 4 ∷ 5 ∷ 7 ∷ []) refl translate refl refl
@@ -125,30 +118,30 @@ step-refuses m text =
     record { long = refl; modifiers = refl; keys = refl; name = refl; unknown-key = refl; no_number = refl; series = refl; own = refl } in
     prepare-refuses (By preparing) m text (λ k h. each k) refl
 
-prepared-ends : (own : Bytes → Reply (List Step)) {text : Bytes} {table : List Step} {r : Prepared} {table' : List Step} → Refusing (By preparing) (own text)
-    → Promised prepared own text table r table' → Ends prepared-is.Steps prepared-is.Refused preparing table r table'
+prepared-ends : (own : Bytes → Reply (List Step)) {text : Bytes} {table : List Step} {r : Result ℕ Refusal} {table' : List Step} → Refusing (By preparing) (own text)
+    → Promised prepared own text table r table' → Ends Ok refusal_at preparing table r table'
 unfolding prepared any_of
-prepared-ends own = ends prepared prepared-is.Refused (λ number place. refl) (λ place offset. refl) preparing refl own refl refl
+prepared-ends own = ends prepared refusal_at (λ number place. refl) (λ place offset. refl) preparing refl own refl refl
 
-pub prepare-ends : {text : Bytes} {table : List Step} {r : Prepared} {table' : List Step} → Prepares text table r table'
-    → Ends prepared-is.Steps prepared-is.Refused preparing table r table'
+pub prepare-ends : {text : Bytes} {table : List Step} {r : Result ℕ Refusal} {table' : List Step} → Prepares text table r table'
+    → Ends Ok refusal_at preparing table r table'
 prepare-ends {text} = prepared-ends prepare (unfold prepare in step-refuses mode-is.Crate text)
 
-pub prepare-as-ends : (how : Reading) (m : Mode) {text : Bytes} {table : List Step} {r : Prepared} {table' : List Step} → PreparesAs how m text table r table'
-    → Ends prepared-is.Steps prepared-is.Refused preparing table r table'
+pub prepare-as-ends : (how : Reading) (m : Mode) {text : Bytes} {table : List Step} {r : Result ℕ Refusal} {table' : List Step} → PreparesAs how m text table r table'
+    → Ends Ok refusal_at preparing table r table'
 unfolding prepare_as Refusing
 prepare-as-ends how m {text} =
     prepared-ends (prepare_as how m) (then-refuses (By preparing) (prepare_in m text) (λ l. answers (map (in_reading how) l)) (step-refuses m text) (λ l e. tt))
 
-pub write-ends : {out : Bytes} {r : Written} {out' : Bytes} (table : List Step) → Lends (write table) out r out'
-    → Ends written_is.Wrote text_refusal (7 ∷ 18 ∷ []) out r out'
+pub write-ends : {out : Bytes} {r : Result ℕ Refusal} {out' : Bytes} (table : List Step) → Lends (write table) out r out'
+    → Ends Ok text_refusal (7 ∷ 18 ∷ []) out r out'
 unfolding written any_of write written_unless18 Refusing
 write-ends {out} {r} {out'} table p =
     lent-ends written text_refusal (λ number place. refl) (λ place offset. refl) (7 ∷ 18 ∷ []) refl (write table) out r out' (go (refusal18 table)) p.exactly
   where
     go : (o : Option ℕ) → Refusing (By (7 ∷ 18 ∷ [])) (written_unless18 o (table_writing table))
-    go none = tt
-    go (some k) = refl
+    go None = tt
+    go (Some k) = refl
 
 -- ---- the run
 
@@ -156,34 +149,34 @@ abbrev four : List ℕ
 four = 15 ∷ 16 ∷ 17 ∷ 18 ∷ []
 
 -- it answers, or refuses with one of the four and leaves the list and the store
-data Ok (xs store : List Float) (o : Outcome) : Type 0 where
-  done : (c n : ℕ) → o.answer ≡ Done c n → Ok xs store o
-  not_done : (number place : ℕ) → o.answer ≡ Refused number place → OneOf four number → o.list ≡ xs → o.store ≡ store → Ok xs store o
+data RanOrNot (xs store : List Float) (o : Outcome) : Type 0 where
+  ran : (c n : ℕ) → o.answer ≡ done c n → RanOrNot xs store o
+  not_run : (number place : ℕ) → o.answer ≡ refusal number place → OneOf four number → o.list ≡ xs → o.store ≡ store → RanOrNot xs store o
 
 module _ (l : List Numbered) (xs store : List Float) where
-  ok-17 : (b : Bool) (whole : Outcome) → Ok xs store whole → Ok xs store (cond b (refused 17 0 xs store) whole)
+  ok-17 : (b : Bool) (whole : Outcome) → RanOrNot xs store whole → RanOrNot xs store (cond b (refused 17 0 xs store) whole)
   unfolding refused any_of
-  ok-17 true whole h = not_done 17 0 refl refl refl refl
+  ok-17 true whole h = not_run 17 0 refl refl refl refl
   ok-17 false whole h = h
 
-  ok-16 : (o : Option ℕ) → Ok xs store (unless16 o l xs store)
+  ok-16 : (o : Option ℕ) → RanOrNot xs store (unless16 o l xs store)
   unfolding unless16 finished refused any_of
-  ok-16 none =
-      ok-17 (ltb (length store) (deepest (depths acted l (start xs)) * (length xs / 4))) _ (done (count l (start xs)) (length (after acted l (start xs)).columns) refl)
-  ok-16 (some k) = not_done 16 k refl refl refl refl
+  ok-16 None =
+      ok-17 (ltb (length store) (deepest (depths acted l (start xs)) * (length xs / 4))) _ (ran (count l (start xs)) (length (after acted l (start xs)).columns) refl)
+  ok-16 (Some k) = not_run 16 k refl refl refl refl
 
-  ok-15 : (b : Bool) → Ok xs store (unless15 b l xs store)
+  ok-15 : (b : Bool) → RanOrNot xs store (unless15 b l xs store)
   unfolding unless15 refused any_of
-  ok-15 true = not_done 15 0 refl refl refl refl
+  ok-15 true = not_run 15 0 refl refl refl refl
   ok-15 false = ok-16 (passes64 l (start xs))
 
-ok : (d : Direction) (t : List Step) (xs store : List Float) → Ok xs store (runs d t xs store)
+ok : (d : Direction) (t : List Step) (xs store : List Float) → RanOrNot xs store (runs d t xs store)
 unfolding runs unless18 refused any_of
 ok d t xs store = go (refusal18 t)
   where
-    go : (o : Option ℕ) → Ok xs store (unless18 o d t xs store)
-    go none = ok-15 (running d t) xs store (bad_list xs)
-    go (some k) = not_done 18 k refl refl refl refl
+    go : (o : Option ℕ) → RanOrNot xs store (unless18 o d t xs store)
+    go None = ok-15 (running d t) xs store (bad_list xs)
+    go (Some k) = not_run 18 k refl refl refl refl
 
 few : (l u s : ℕ) → u ≤ s → l + (u - l + (s - u)) ≡ s → l + (u - l) ≡ u
 few l u s h e = omega arith
@@ -199,7 +192,7 @@ past used columns store h e =
     ap (drop used) (sym (append_assoc left rest (drop used store)))
     ∙ drop_at (left ++ rest) (drop used store) used (simp (length-append, length-replicate) (few (length left) used (length store) h k))
 
-pub run_ends : {d : Direction} {t : List Step} {xs store : List Float} {r : Ran} {xs' store' : List Float} → Runs d t xs store r xs' store'
+pub run_ends : {d : Direction} {t : List Step} {xs store : List Float} {r : Result Finished Refusal} {xs' store' : List Float} → Runs d t xs store r xs' store'
     → RunEnds four (used d t xs) xs store r xs' store'
 run_ends {d} {t} {xs} {store} {r} {xs'} {store'} p = go (ok d t xs store)
   where
@@ -212,7 +205,7 @@ run_ends {d} {t} {xs} {store} {r} {xs'} {store'} p = go (ok d t xs store)
     S : store' ≡ (runs d t xs store).store
     S = ap (λ (o : Outcome). o.store) p.exactly
 
-    leaves : (c n : ℕ) → (runs d t xs store).answer ≡ Done c n → RunEnds four (used d t xs) xs store r xs' store'
+    leaves : (c n : ℕ) → (runs d t xs store).answer ≡ done c n → RunEnds four (used d t xs) xs store r xs' store'
     leaves c n e =
         let a = answered d t xs store c n e in
         let room = ltb-false (length store) (used d t xs) a.room in
@@ -220,9 +213,9 @@ run_ends {d} {t} {xs} {store} {r} {xs'} {store'} p = go (ok d t xs store)
         RunEnds.answers c n (A ∙ e) (ap length L ∙ (as_many d t xs store c n e).0) (ap length (S ∙ a.store-after) ∙ long)
         (ap (drop (used d t xs)) (S ∙ a.store-after) ∙ past (used d t xs) (end d t xs).columns store room long)
 
-    go : Ok xs store (runs d t xs store) → RunEnds four (used d t xs) xs store r xs' store'
-    go (done c n e) = leaves c n e
-    go (not_done number place e h f g) = RunEnds.refuses number place (A ∙ e) h (L ∙ f) (S ∙ g)
+    go : RanOrNot xs store (runs d t xs store) → RunEnds four (used d t xs) xs store r xs' store'
+    go (ran c n e) = leaves c n e
+    go (not_run number place e h f g) = RunEnds.refuses number place (A ∙ e) h (L ∙ f) (S ∙ g)
 
 -- ---- the check, and the reader
 
@@ -236,11 +229,11 @@ check-ends {d} {t} {f} p = go f.verdict refl
     go (verdict-is.Refused number k) e =
         CheckEnds.refuses k (e ∙ ap (λ (n : ℕ). verdict-is.Refused n k) (check-refused d t number k (rw p.exactly at e)).0)
 
-pub next-ends : {text : Bytes} {at : ℕ} {r : Found} → r ≡ next text at → NextEnds text at r
+pub next-ends : {text : Bytes} {at : ℕ} {r : Option Found} → r ≡ next text at → NextEnds text at r
 next-ends {text} {at} {r} h = go r refl h
   where
-    go : (f : Found) → r ≡ f → f ≡ next text at → NextEnds text at r
-    go End e h = NextEnds.ends e
-    go (found-is.Step from to then) e h =
-        let a = walk-ahead text at from to then (sym h) in
-        NextEnds.finds from to (e ∙ ap (λ (k : ℕ). found-is.Step from to (record { at = k })) a.goes_on) a.ahead a.longer a.within
+    go : (f : Option Found) → r ≡ f → f ≡ next text at → NextEnds text at r
+    go None e h = NextEnds.ends e
+    go (Some f) e h =
+        let a = walk-ahead text at f.from f.to f.then (sym h) in
+        NextEnds.finds f.from f.to (e ∙ ap (λ (k : ℕ). step_then f.from f.to (record { at = k })) a.goes_on) a.ahead a.longer a.within

@@ -1,9 +1,8 @@
 -- Demand 3, exactly when, over the run's own depths: the check passes exactly where every step that runs finds as many columns as it takes
 -- and leaves at most 64; else it names the first step of which that is not so, and what is wrong with it. The check's verdict is the
 -- first fault of the written run (`check-fault`), and a fault is found by walking along the steps: so both are shown by that walk.
-use Rattle.std.specs.Prelude.{◌≡◌, refl, ◌↔◌, ℕ, ◌≤◌, ◌<◌, Bool, true, false, cond, List, [], ◌∷◌, ◌++◌, ltb, length, Float}
+use Rattle.std.specs.Prelude.{◌≡◌, refl, ◌↔◌, ℕ, ◌≤◌, ◌<◌, Bool, true, false, cond, List, [], ◌∷◌, ◌++◌, ltb, length, Float, Option, None, Some}
 use Rattle.std.proofs.Common.{sym, ap, ◌∙◌, subst, append-nil, ltb-true, ltb-false, lt-ltb, le-ltb}
-use Rattle.std.proofs.Math.Option.{Option, none, some}
 use Rattle.rules.specs.Pipeline.Record.{refusal18}
 use Rattle.rules.specs.Pipeline.Running.{Numbered, running}
 use Rattle.rules.specs.Pipeline.Columns.{takes, too_few, after}
@@ -179,34 +178,34 @@ module _ {wrong : Numbered → State → Type 0} {fault-of : List Numbered → N
 -- ---- of the check, on any list
 
 -- A table of which the check passes, or says too few or too many, is one of records that preparations make.
-made-if : (d : Direction) (t : List Step) → ((k : ℕ) → (check d t).verdict ≡ Refused 18 k → ⊥) → refusal18 t ≡ none
+made-if : (d : Direction) (t : List Step) → ((k : ℕ) → (check d t).verdict ≡ Refused 18 k → ⊥) → refusal18 t ≡ None
 unfolding check checked only
 made-if d t h = go (refusal18 t) h
   where
-    go : (o : Option ℕ) → ((k : ℕ) → (checked o t (running d t)).verdict ≡ Refused 18 k → ⊥) → o ≡ none
-    go none h = refl
-    go (some k) h = absurd (h k refl)
+    go : (o : Option ℕ) → ((k : ℕ) → (checked o t (running d t)).verdict ≡ Refused 18 k → ⊥) → o ≡ None
+    go None h = refl
+    go (Some k) h = absurd (h k refl)
 
 module _ (d : Direction) (t : List Step) (xs : List Float) where
   -- what it says of a table of records that preparations make, it says of the run
-  tells : (v : Verdict) → refusal18 t ≡ none → (check d t).verdict ≡ v → Tells v (running d t) (start xs)
+  tells : (v : Verdict) → refusal18 t ≡ None → (check d t).verdict ≡ v → Tells v (running d t) (start xs)
   tells v r h = subst (λ (w : Verdict). Tells w (running d t) (start xs)) (sym (check-fault d t xs r) ∙ h) (fault-tells (running d t) (start xs))
 
-  pub passes-exactly : ((check d t).verdict ≡ Passes) ↔ ((refusal18 t ≡ none) × EachWell (running d t) xs)
+  pub passes-exactly : ((check d t).verdict ≡ Passes) ↔ ((refusal18 t ≡ None) × EachWell (running d t) xs)
   unfolding Tells
   passes-exactly = (
     λ h. let r = made-if d t (λ k e. never (cc (h, e))) in (r, each-well (running d t) xs (tells Passes r h)),
     λ w. check-fault d t xs w.0 ∙ well-fault (running d t) (start xs) (well-each (running d t) xs w.1),
   )
 
-  pub few-exactly : (k : ℕ) → ((check d t).verdict ≡ TooFew k) ↔ ((refusal18 t ≡ none) × FirstAtFault (Few xs) k (running d t) xs)
+  pub few-exactly : (k : ℕ) → ((check d t).verdict ≡ TooFew k) ↔ ((refusal18 t ≡ None) × FirstAtFault (Few xs) k (running d t) xs)
   unfolding Tells
   few-exactly k = (
     λ h. let r = made-if d t (λ k e. never (cc (h, e))) in (r, first-is (λ before s e. record { finds = e }) (tells (TooFew k) r h)),
     λ w. check-fault d t xs w.0 ∙ few-fault (is-first (λ before s e. e.finds) w.1),
   )
 
-  pub many-exactly : (k : ℕ) → ((check d t).verdict ≡ TooMany k) ↔ ((refusal18 t ≡ none) × FirstAtFault (Many xs) k (running d t) xs)
+  pub many-exactly : (k : ℕ) → ((check d t).verdict ≡ TooMany k) ↔ ((refusal18 t ≡ None) × FirstAtFault (Many xs) k (running d t) xs)
   unfolding Tells
   many-exactly k = (
     λ h. let r = made-if d t (λ k e. never (cc (h, e))) in
@@ -214,6 +213,6 @@ module _ (d : Direction) (t : List Step) (xs : List Float) where
     λ w. check-fault d t xs w.0 ∙ many-fault (is-first (λ before s e. (e.finds, rw (one_more before s (start xs)) at e.leaves)) w.1),
   )
 
-  pub refused-exactly : (number k : ℕ) → ((check d t).verdict ≡ Refused number k) ↔ ((number ≡ 18) × (refusal18 t ≡ some k))
+  pub refused-exactly : (number k : ℕ) → ((check d t).verdict ≡ Refused number k) ↔ ((number ≡ 18) × (refusal18 t ≡ Some k))
   unfolding check checked only
   refused-exactly number k = (check-refused d t number k, λ w. rw w.1 (ap (λ (n : ℕ). Refused n k) (sym w.0)))

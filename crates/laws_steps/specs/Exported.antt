@@ -1,38 +1,33 @@
 -- The exports: behind each answer in plain records there is one of the call that is exported, with the same storage afterwards. So whatever is
 -- promised of the call holds of the export; and number 0 is an answer, a pass, or a run that is done.
-use Rattle.std.specs.Prelude.{◌≡◌, refl, ℕ, suc, true, false, List, [], ◌∷◌, eqb, Float}
+use Rattle.rules.specs.declared.Refusal.{Refusal}
+use Rattle.rules.specs.declared.Finished.{Finished}
+use Rattle.std.specs.Prelude.{◌≡◌, refl, ℕ, suc, true, false, List, [], ◌∷◌, eqb, Float, Option, None, Some, Result, Ok}
 use Rattle.std.proofs.Common.{sym, ap, ◌∙◌, subst, arith}
 use Rattle.std.proofs.lemmas.Bool.{false≢true}
 use Rattle.rules.specs.Text.Lists.{any_of}
 use Rattle.rules.specs.Text.Bytes.{Bytes}
-use Rattle.rules.specs.Text.Refusal.{Reply, outcome, Promised, written, prepared, Writes}
+use Rattle.rules.specs.Text.Refusal.{Reply, outcome, Promised, written, prepared, Writes, refusal}
 use Rattle.rules.specs.Text.Normal.{normalise}
 use Rattle.rules.specs.Text.Split.{split}
 use Rattle.rules.specs.Text.Parameters.{parameters}
 use Rattle.rules.specs.Proj.Translate.{translate}
 use Rattle.rules.specs.Text.Reader.{next, define}
 use Rattle.rules.specs.Pipeline.Prepare.{prepare, prepare_as, Prepares, PreparesAs}
-use Rattle.rules.specs.Pipeline.Run.{Outcome, runs, Runs}
+use Rattle.rules.specs.Pipeline.Run.{Outcome, runs, Runs, done}
 use Rattle.rules.specs.Pipeline.Check.{check}
 use Rattle.rules.specs.Face.Plain.{plain_written, plain_found, plain_prepared, record_count, direction_of, plain_verdict, plain_check, PlainChecks, plain_ran, PlainOutcome, plain_outcome, PlainRuns}
 use Rattle.rules.specs.Face.Demands.{OneOf, Ends, RunEnds, ExportsText}
 use Rattle.rules.specs.declared.Reading.{Reading}
 use Rattle.rules.specs.declared.Mode.{Mode}
 use Rattle.rules.specs.declared.Step.{Step}
-use Rattle.rules.specs.declared.Written.{Written}
-use Rattle.rules.specs.declared.Written.TheVariants as written_is
-use Rattle.rules.specs.declared.Prepared.{Prepared}
-use Rattle.rules.specs.declared.Prepared.TheVariants as prepared-is
 use Rattle.rules.specs.declared.Found.{Found}
-use Rattle.rules.specs.declared.Found.TheVariants as found-is
 use Rattle.rules.specs.declared.Answer.{Answer}
 use Rattle.rules.specs.declared.Part.{Part}
 use Rattle.rules.specs.declared.Checked.{Checked}
 use Rattle.rules.specs.declared.Done.{Done}
 use Rattle.rules.specs.declared.Verdict.{Verdict}
 use Rattle.rules.specs.declared.Verdict.TheVariants as verdict-is
-use Rattle.rules.specs.declared.Ran.{Ran}
-use Rattle.rules.specs.declared.Ran.TheVariants as ran-is
 use Rattle.laws_text.specs.Entry.{in-other-words}
 use Rattle.laws_text.specs.Once.{once}
 use Rattle.laws_steps.specs.Foretold.{check-refused}
@@ -72,7 +67,7 @@ module _ {A R : Type 0} (in_words : Reply ℕ → R) (plain : R → Answer) {ans
       (b.0, b.1, b.2, λ z. is-answer none (ends b.0 b.1) (sym (ap (λ (x : Answer). x.number) b.2) ∙ z) ∙ ap (λ (x : Answer). answer x.length) (sym b.2))
 
 behind-text : (own : Bytes → Reply Bytes) (numbers : List ℕ) (none : any_of (eqb 0) numbers ≡ false)
-    → ((text out : Bytes) (w : Written) (out' : Bytes) → Writes own text out w out' → Ends written_is.Wrote (λ number place offset. written_is.Refused number place) numbers out w out')
+    → ((text out : Bytes) (w : Result ℕ Refusal) (out' : Bytes) → Writes own text out w out' → Ends Ok (λ number place offset. refusal number place) numbers out w out')
     → ExportsText own
 unfolding plain_written
 behind-text own numbers none ends text out r out' p =
@@ -99,14 +94,14 @@ unfolding any_of
 behind-translate = behind-text translate _ refl (λ text out w out' h. translate-ends h)
 
 pub behind-prepare : {text : Bytes} {table : List Step} {r : Answer} {table' : List Step} → Promised record_count prepare text table r table'
-    → (w : Prepared) × Prepares text table w table' × (r ≡ plain_prepared w) × (r.number ≡ 0 → w ≡ prepared-is.Steps r.length)
+    → (w : Result ℕ Refusal) × Prepares text table w table' × (r ≡ plain_prepared w) × (r.number ≡ 0 → w ≡ Ok r.length)
 unfolding any_of plain_prepared
 behind-prepare {text} {table} {r} {table'} p =
     behind-0 prepared plain_prepared (λ n. refl) (λ number place offset. refl) prepare _ refl
     text table r table' (λ w h. prepare-ends h) p
 
 pub behind-prepare-as : (how : Reading) (m : Mode) {text : Bytes} {table : List Step} {r : Answer} {table' : List Step} → Promised record_count (prepare_as how m) text table r table'
-    → (w : Prepared) × PreparesAs how m text table w table' × (r ≡ plain_prepared w) × (r.number ≡ 0 → w ≡ prepared-is.Steps r.length)
+    → (w : Result ℕ Refusal) × PreparesAs how m text table w table' × (r ≡ plain_prepared w) × (r.number ≡ 0 → w ≡ Ok r.length)
 unfolding any_of plain_prepared
 behind-prepare-as how m {text} {table} {r} {table'} p =
     behind-0 prepared plain_prepared (λ n. refl) (λ number place offset. refl) (prepare_as how m) _ refl
@@ -114,13 +109,13 @@ behind-prepare-as how m {text} {table} {r} {table'} p =
 
 -- ---- the reader
 
-no_part : (f : Found) → (plain_found f).found ≡ 0 → f ≡ found-is.End
+no_part : (f : Option Found) → (plain_found f).found ≡ 0 → f ≡ None
 unfolding plain_found
-no_part found-is.End e = refl
-no_part (found-is.Step from to then) e = absurd (no 0 (sym e))
+no_part None e = refl
+no_part (Some f) e = absurd (no 0 (sym e))
 
 pub behind-next : (text : Bytes) (at : ℕ) (r : Part) → r ≡ plain_found (next text at)
-    → (f : Found) × (f ≡ next text at) × (r ≡ plain_found f) × (r.found ≡ 0 → f ≡ found-is.End)
+    → (f : Option Found) × (f ≡ next text at) × (r ≡ plain_found f) × (r.found ≡ 0 → f ≡ None)
 behind-next text at r e = (next text at, refl, e, λ z. no_part (next text at) (sym (ap (λ (x : Part). x.found) e) ∙ z))
 
 -- ---- the check
@@ -141,7 +136,7 @@ behind-pass inverse t r p e =
 -- ---- the run
 
 pub behind-run : {inverse : ℕ} {t : List Step} {xs store : List Float} {r : Done} {xs' store' : List Float} → PlainRuns inverse t xs store r xs' store'
-    → (w : Ran) × Runs (direction_of inverse) t xs store w xs' store' × (r ≡ plain_ran w) × (r.number ≡ 0 → w ≡ ran-is.Done r.count r.left)
+    → (w : Result Finished Refusal) × Runs (direction_of inverse) t xs store w xs' store' × (r ≡ plain_ran w) × (r.number ≡ 0 → w ≡ done r.count r.left)
 unfolding plain_outcome plain_ran any_of
 behind-run {inverse} {t} {xs} {store} {r} {xs'} {store'} p =
     (o.answer, record { exactly = λ i. record { answer = o.answer; list = (p.exactly i).list; store = (p.exactly i).store } }, A, λ z. go z (run_ends whole))
@@ -156,7 +151,7 @@ behind-run {inverse} {t} {xs} {store} {r} {xs'} {store'} p =
     A = ap (λ (x : PlainOutcome). x.answer) p.exactly
 
     go : r.number ≡ 0 → RunEnds (15 ∷ 16 ∷ 17 ∷ 18 ∷ []) (used (direction_of inverse) t xs) xs store o.answer o.list o.store
-        → o.answer ≡ ran-is.Done r.count r.left
-    go z (RunEnds.answers c n e x y w) = let f = A ∙ ap plain_ran e in e ∙ sym (λ i. ran-is.Done (f i).count (f i).left)
+        → o.answer ≡ done r.count r.left
+    go z (RunEnds.answers c n e x y w) = let f = A ∙ ap plain_ran e in e ∙ sym (λ i. done (f i).count (f i).left)
     go z (RunEnds.refuses number place e h x y) =
         absurd (not-0 (15 ∷ 16 ∷ 17 ∷ 18 ∷ []) refl h (sym (ap (λ (x : Done). x.number) (A ∙ ap plain_ran e)) ∙ z))

@@ -1,7 +1,6 @@
 -- Demand 3: what the check's verdict says of the written run, and what a pass foretells of every run.
-use Rattle.std.specs.Prelude.{◌≡◌, refl, ℕ, Bool, true, false, not, cond, List, [], ◌∷◌, map, length, take, replicate, Float}
+use Rattle.std.specs.Prelude.{◌≡◌, refl, ℕ, Bool, true, false, not, cond, List, [], ◌∷◌, map, length, take, replicate, Float, Option, None, Some}
 use Rattle.std.proofs.Common.{sym, ap, ◌∙◌, take_at}
-use Rattle.std.proofs.Math.Option.{Option, none, some}
 use Rattle.std.proofs.lemmas.Bool.{not-true}
 use Rattle.std.proofs.lemmas.List.{length-map}
 use Rattle.rules.specs.Text.Lists.{any_of}
@@ -51,7 +50,7 @@ left-foretold (s ∷ l) m p e h =
     left-foretold l (acted s.does m) (moved on_places s.does p) (depth_same s.does m p e (ap (too_few s.does) e ∙ f.enough)) f.rest
 
 -- and no refusal 16 is given.
-pub within_64 : (l : List Numbered) (m : State) (p : Traced) → length m.columns ≡ length p.columns → verdict l p ≡ Passes → passes64 l m ≡ none
+pub within_64 : (l : List Numbered) (m : State) (p : Traced) → length m.columns ≡ length p.columns → verdict l p ≡ Passes → passes64 l m ≡ None
 unfolding passes64
 within_64 [] m p e h = refl
 within_64 (s ∷ l) m p e h =
@@ -74,7 +73,7 @@ begin-told ts = λ k. record { tuples = own ts k; columns = [] }
 
 -- what the answer of a pass is made of
 pub record Passed (d : Direction) (t : List Step) : Type 0 where
-  pub records : refusal18 t ≡ none
+  pub records : refusal18 t ≡ None
   pub passes : verdict (running d t) begin ≡ Passes
   pub answer : check d t ≡ foretold (running d t)
 
@@ -82,15 +81,15 @@ pub passed : (d : Direction) (t : List Step) → (check d t).verdict ≡ Passes 
 unfolding check checked answered only
 passed d t h = of_records (refusal18 t) refl h
   where
-    of_verdict : (v : Verdict) → verdict (running d t) begin ≡ v → refusal18 t ≡ none → (answered v t (running d t)).verdict ≡ Passes → Passed d t
+    of_verdict : (v : Verdict) → verdict (running d t) begin ≡ v → refusal18 t ≡ None → (answered v t (running d t)).verdict ≡ Passes → Passed d t
     of_verdict Passes e r h = record { records = r; passes = e; answer = rw (r, e) }
     of_verdict (TooFew k) e r h = absurd (never (cc h))
     of_verdict (TooMany k) e r h = absurd (never (cc h))
     of_verdict (Refused n k) e r h = absurd (never (cc h))
 
     of_records : (o : Option ℕ) → refusal18 t ≡ o → (checked o t (running d t)).verdict ≡ Passes → Passed d t
-    of_records (some k) e h = absurd (never (cc h))
-    of_records none e h = of_verdict (verdict (running d t) begin) refl e h
+    of_records (Some k) e h = absurd (never (cc h))
+    of_records None e h = of_verdict (verdict (running d t) begin) refl e h
 
 answered-verdict : (v : Verdict) (t : List Step) (l : List Numbered) → (answered v t l).verdict ≡ v
 unfolding answered foretold only
@@ -101,20 +100,20 @@ answered-verdict (Refused n k) t l = refl
 
 -- Of records that a preparation makes, the check passes exactly where no step of the written run finds fewer columns than
 -- it takes and the depth stays within 64; else it names the first such step.
-pub check-fault : (d : Direction) (t : List Step) (xs : List Float) → refusal18 t ≡ none → (check d t).verdict ≡ fault (running d t) (start xs)
+pub check-fault : (d : Direction) (t : List Step) (xs : List Float) → refusal18 t ≡ None → (check d t).verdict ≡ fault (running d t) (start xs)
 unfolding check checked
 check-fault d t xs r =
     rw r (answered-verdict (verdict (running d t) begin) t (running d t))
     ∙ verdict-fault (running d t) (start xs) begin refl
 
 -- It refuses a table with 18 alone, and at the place of the first bad record.
-pub check-refused : (d : Direction) (t : List Step) (n k : ℕ) → (check d t).verdict ≡ Refused n k → (n ≡ 18) × (refusal18 t ≡ some k)
+pub check-refused : (d : Direction) (t : List Step) (n k : ℕ) → (check d t).verdict ≡ Refused n k → (n ≡ 18) × (refusal18 t ≡ Some k)
 unfolding check checked only
 check-refused d t n k h = go (refusal18 t) h
   where
-    go : (o : Option ℕ) → (checked o t (running d t)).verdict ≡ Refused n k → (n ≡ 18) × (o ≡ some k)
-    go none h = absurd (no-refusal (running d t) begin n k (sym (answered-verdict (verdict (running d t) begin) t (running d t)) ∙ h))
-    go (some p) h = let e : p ≡ k = cc h in (cc h, ap some e)
+    go : (o : Option ℕ) → (checked o t (running d t)).verdict ≡ Refused n k → (n ≡ 18) × (o ≡ Some k)
+    go None h = absurd (no-refusal (running d t) begin n k (sym (answered-verdict (verdict (running d t) begin) t (running d t)) ∙ h))
+    go (Some p) h = let e : p ≡ k = cc h in (cc h, ap Some e)
 
 -- After a pass the places are told exactly where no `adapt` step runs.
 pub told-exactly : (d : Direction) (t : List Step) → (check d t).verdict ≡ Passes → (check d t).told ≡ not (any_adapt (running d t))
@@ -128,7 +127,7 @@ pub record Foretells (d : Direction) (t : List Step) (xs : List Float) : Type 0 
   pub deepest-after : deepest (depths acted (running d t) (start xs)) ≡ (check d t).deepest
   pub left_after : length (after acted (running d t) (start xs)).columns ≡ (check d t).left
   -- that no refusal 16 is given;
-  pub within : passes64 (running d t) (start xs) ≡ none
+  pub within : passes64 (running d t) (start xs) ≡ None
   -- and, unless an `adapt` step runs, four places from 1 to 4: each number is the input's at its place, its sign kept or
   -- turned.
   pub named : (check d t).told ≡ true → FourNamed (check d t).places

@@ -1,6 +1,5 @@
 -- How large the numbers can be that the check answers: the place of a step is one of the table's, and after a pass no depth is above 64.
-use Rattle.std.specs.Prelude.{◌≡◌, refl, ℕ, suc, ◌+◌, ◌≤◌, max, Bool, true, false, cond, List, [], ◌∷◌, length, ltb, Float}
-use Rattle.std.proofs.Math.Option.{none, some}
+use Rattle.std.specs.Prelude.{◌≡◌, refl, ℕ, suc, ◌+◌, ◌≤◌, max, Bool, true, false, cond, List, [], ◌∷◌, length, ltb, Float, None, Some}
 use Rattle.std.proofs.Common.{arith, ltb-false}
 use Rattle.rules.specs.Pipeline.Running.{Numbered, act, omitted, ordered, running_from, running}
 use Rattle.rules.specs.Pipeline.Columns.{after, depths, deepest}
@@ -57,7 +56,7 @@ module _ (d : Direction) (t : List Step) where
 -- ---- the depths of a pass
 
 -- where no step leaves more than 64 columns, none is deeper
-none-deeper : (l : List Numbered) (m : State) → length m.columns ≤ 64 → passes64 l m ≡ none
+none-deeper : (l : List Numbered) (m : State) → length m.columns ≤ 64 → passes64 l m ≡ None
     → (deepest (depths acted l m) ≤ 64) × (length (after acted l m).columns ≤ 64)
 unfolding passes64 depths deepest after
 none-deeper [] m h e = (omega arith, h)
@@ -66,8 +65,8 @@ none-deeper (s ∷ l) m h e = go (ltb 64 (length m'.columns)) refl e (none-deepe
     m' : State
     m' = acted s.does m
 
-    go : (b : Bool) → ltb 64 (length m'.columns) ≡ b → cond b (some s.place) (passes64 l m') ≡ none
-        → (length m'.columns ≤ 64 → passes64 l m' ≡ none → (deepest (depths acted l m') ≤ 64) × (length (after acted l m').columns ≤ 64))
+    go : (b : Bool) → ltb 64 (length m'.columns) ≡ b → cond b (Some s.place) (passes64 l m') ≡ None
+        → (length m'.columns ≤ 64 → passes64 l m' ≡ None → (deepest (depths acted l m') ≤ 64) × (length (after acted l m').columns ≤ 64))
         → (max (length m'.columns) (deepest (depths acted l m')) ≤ 64) × (length (after acted l m').columns ≤ 64)
     go true f e r = absurd (never (cc e))
     go false f e r = let k = ltb-false 64 (length m'.columns) f in let g = r k e in (omega (arith, g.0), g.1)

@@ -9,13 +9,12 @@ use Rattle.std.specs.Float.{nan}
 use Rattle.rules.specs.Operators.Numbers.{number, turn}
 use Rattle.rules.specs.Pipeline.Running.{running}
 use Rattle.rules.specs.Pipeline.Tuples.{tuples, numbers}
-use Rattle.rules.specs.Pipeline.Run.{runs}
+use Rattle.rules.specs.Pipeline.Run.{runs, done}
 use Rattle.rules.specs.Pipeline.Check.{place, any_adapt, check}
 use Rattle.rules.specs.Face.Demands.{number_at}
 use Rattle.rules.specs.declared.Coord.{Coord}
 use Rattle.rules.specs.declared.Step.{Step}
 use Rattle.rules.specs.declared.Direction.{Direction}
-use Rattle.rules.specs.declared.Ran.TheVariants.{Done}
 use Rattle.rules.specs.declared.Verdict.TheVariants.{Passes}
 use Rattle.laws_steps.specs.Places.{seen, shown, number-shown}
 use Rattle.laws_steps.specs.Named.{Named, place-named}
@@ -80,7 +79,7 @@ module _ (d : Direction) (t : List Step) (passes : (check d t).verdict ≡ Passe
   pub is-named : (j : ℕ) → Named (place j (check d t).places)
   is-named j = place-named j (check d t).places ((foretells d t [] passes).named told)
 
-  pub own-number : (xs store : List Float) (c n : ℕ) → (runs d t xs store).answer ≡ Done c n → (i : ℕ) → i < length xs / 4 → (j : ℕ) → 1 ≤ j → j ≤ 4
+  pub own-number : (xs store : List Float) (c n : ℕ) → (runs d t xs store).answer ≡ done c n → (i : ℕ) → i < length xs / 4 → (j : ℕ) → 1 ≤ j → j ≤ 4
       → number_at (runs d t xs store).list i j ≡ turn (place j (check d t).places).minus (number_at xs i (place j (check d t).places).axis)
   unfolding seen
   own-number xs store c n done i h j a b =

@@ -1,8 +1,7 @@
 -- The span that the check returns: of the step that it names, and none where it names none. What is said of the records of a table at their spans
 -- is said of that one.
-use Rattle.std.specs.Prelude.{◌≡◌, refl, ℕ, zero, suc, ◌-◌, List, [], ◌∷◌, map, get_or}
+use Rattle.std.specs.Prelude.{◌≡◌, refl, ℕ, zero, suc, ◌-◌, List, [], ◌∷◌, map, get_or, Option, None, Some}
 use Rattle.std.proofs.Common.{sym, ap, ◌∙◌}
-use Rattle.std.proofs.Math.Option.{Option, none, some}
 use Rattle.rules.specs.Text.Bytes.{Bytes}
 use Rattle.rules.specs.Pipeline.Record.{no_span, span_end, blank, refusal18}
 use Rattle.rules.specs.Pipeline.Running.{Numbered, running}
@@ -30,8 +29,8 @@ answered-span (Refused number k) t l = refl
 
 checked-span : (o : Option ℕ) (t : List Step) (l : List Numbered) → (checked o t l).span ≡ span_of (checked o t l).verdict t
 unfolding checked only
-checked-span none t l = answered-span (verdict l begin) t l
-checked-span (some k) t l = refl
+checked-span None t l = answered-span (verdict l begin) t l
+checked-span (Some k) t l = refl
 
 -- The check returns the span of the step that its verdict names.
 pub check-span : (d : Direction) (t : List Step) → (check d t).span ≡ span_of (check d t).verdict t

@@ -1,14 +1,13 @@
 -- A promise, return by return: these serve every call that reads a text and writes into lent storage.
+use Rattle.rules.specs.declared.Refusal.{Refusal}
 use Rattle.std.proofs.Math.Path.{◌≡◌, refl}
 use Rattle.std.proofs.Common.{sym, ap, ◌∙◌, arith, length-append, take_at, drop_at}
-use Rattle.std.specs.Prelude.{ℕ, ◌≤◌, ◌<◌, Bool, not, List, ◌++◌, length, take, drop}
+use Rattle.std.specs.Prelude.{ℕ, ◌≤◌, ◌<◌, Bool, not, List, ◌++◌, length, take, drop, Result, Ok, Err, ⊤}
 use Rattle.std.proofs.Math.Bool.{true, false, cond}
 use borrow.Author.Tests.{lt-ltb, le-ltb, ltb-false, ltb-true}
 use Rattle.std.proofs.Math.Dec.{ltb}
 use Rattle.rules.specs.Text.Bytes.{Bytes, in_domain}
-use Rattle.rules.specs.Text.Refusal.{Reply, answers, refuses, refuses12, tested, lent, outcome, Promised, written, Writes, Lends}
-use Rattle.rules.specs.declared.Written.{Written}
-use Rattle.rules.specs.declared.Written.TheVariants as variant
+use Rattle.rules.specs.Text.Refusal.{Reply, answers, refuses, refuses12, tested, lent, outcome, Promised, written, Writes, Lends, refusal, told as says}
 use Rattle.laws_lists.specs.Tests.{never}
 
 -- ---- for the call itself
@@ -62,63 +61,64 @@ in-other-words {A} {R} {S} {in_words} f {own} {t} {storage} {storage'} {r} p =
 -- ---- a reply brought into the lent buffer: for what a text call does once the text is known to be short and in the domain
 
 module _ {reply : Reply Bytes} {out : Bytes} where
-  pub lends-refusal : {number place : ℕ} → reply ≡ refuses number place → Lends reply out (variant.Refused number place) out
+  pub lends-refusal : {number place : ℕ} → reply ≡ refuses number place → Lends reply out (refusal number place) out
   unfolding lent written
   lends-refusal e = record { exactly = rw e }
 
-  pub lends-no-room : {text : Bytes} → reply ≡ answers text → length out < length text → Lends reply out (variant.Refused 7 0) out
+  pub lends-no-room : {text : Bytes} → reply ≡ answers text → length out < length text → Lends reply out (refusal 7 0) out
   unfolding lent written
   lends-no-room {text} e l = record { exactly = rw (e, lt-ltb (length out) (length text) l) }
 
   pub lends-text : {text out' : Bytes} {r : ℕ} → reply ≡ answers text → length text ≤ length out → r ≡ length text → out' ≡ text ++ drop r out
-      → Lends reply out (variant.Wrote r) out'
+      → Lends reply out (Ok r) out'
   unfolding lent written
   lends-text {text} e l c w = record { exactly = rw (w, c, e, le-ltb (length out) (length text) l) }
 
-pub lends-so : {own : Bytes → Reply Bytes} {t out out' : Bytes} {r : Written} {reply : Reply Bytes} → length t ≤ 4096 → in_domain t ≡ true → own t ≡ reply
+pub lends-so : {own : Bytes → Reply Bytes} {t out out' : Bytes} {r : Result ℕ Refusal} {reply : Reply Bytes} → length t ≤ 4096 → in_domain t ≡ true → own t ≡ reply
     → Lends reply out r out' → Writes own t out r out'
 unfolding outcome tested
 lends-so {own} {t} {out} h d e w = record { exactly = w.exactly ∙ sym (rw (le-ltb 4096 (length t) h, d, e)) }
 
 -- ---- "Text calls test 1, 2, then their own."
 
--- the number of the first of the two that a text is refused with, or 0
-unfoldable pub first_refusal : Bytes → ℕ
-first_refusal t = cond (ltb 4096 (length t)) 1 (cond (not (in_domain t)) 2 0)
+-- the first of the two that a text is refused with, if it is
+unfoldable pub both_tests : Bytes → Result ⊤ Refusal
+both_tests t = cond (ltb 4096 (length t)) (refusal 1 0) (cond (not (in_domain t)) (refusal 2 0) (Ok tt))
 
-pub record RefusedFirst (t : Bytes) (number : ℕ) : Type 0 where
-  pub exactly : number ≡ first_refusal t
+pub record Tested (t : Bytes) (r : Result ⊤ Refusal) : Type 0 where
+  pub exactly : r ≡ both_tests t
 
 -- a text that is neither too long nor outside the domain
 record Passed (t : Bytes) : Type 0 where
   short : length t ≤ 4096
   domain : in_domain t ≡ true
 
-module _ {t : Bytes} {number : ℕ} (r : RefusedFirst t number) where
-  passed : number ≡ 0 → Passed t
-  unfolding first_refusal
-  passed z = go (ltb 4096 (length t)) refl (in_domain t) refl (sym z ∙ r.exactly)
+module _ {t : Bytes} {r : Result ⊤ Refusal} (tests : Tested t r) where
+  passed : {u : ⊤} → r ≡ Ok u → Passed t
+  unfolding both_tests
+  passed {u} z = go (ltb 4096 (length t)) refl (in_domain t) refl (sym z ∙ tests.exactly)
     where
-      go : (long : Bool) → ltb 4096 (length t) ≡ long → (fine : Bool) → in_domain t ≡ fine → ◌≡◌ {A = ℕ} 0 (cond long 1 (cond (not fine) 2 0)) → Passed t
-      go true l fine d f = absurd (never f)
+      go : (long : Bool) → ltb 4096 (length t) ≡ long → (fine : Bool) → in_domain t ≡ fine
+          → ◌≡◌ {A = Result ⊤ Refusal} (Ok u) (cond long (refusal 1 0) (cond (not fine) (refusal 2 0) (Ok tt))) → Passed t
+      go true l fine d f = absurd (never (cc f))
       go false l true d f = record { short = ltb-false 4096 (length t) l; domain = d }
-      go false l false d f = absurd (never (omega (arith, f)))
+      go false l false d f = absurd (never (cc f))
 
-  pub passed-short : number ≡ 0 → length t ≤ 4096
+  pub passed-short : {u : ⊤} → r ≡ Ok u → length t ≤ 4096
   passed-short z = (passed z).short
 
-  pub passed-domain : number ≡ 0 → in_domain t ≡ true
+  pub passed-domain : {u : ⊤} → r ≡ Ok u → in_domain t ≡ true
   passed-domain z = (passed z).domain
 
-  pub writes-first : {own : Bytes → Reply Bytes} {out : Bytes} → (number ≡ 0 → ⊥) → Writes own t out (variant.Refused number 0) out
-  unfolding first_refusal written
-  writes-first {own} {out} n = go (ltb 4096 (length t)) refl (in_domain t) refl r.exactly
+  pub writes-first : {own : Bytes → Reply Bytes} {out : Bytes} {e : Refusal} → r ≡ Err e → Writes own t out (Err e) out
+  unfolding both_tests written
+  writes-first {own} {out} {e} n = go (ltb 4096 (length t)) refl (in_domain t) refl (sym n ∙ tests.exactly)
     where
-      go : (long : Bool) → ltb 4096 (length t) ≡ long → (fine : Bool) → in_domain t ≡ fine → number ≡ cond long 1 (cond (not fine) 2 0)
-          → Writes own t out (variant.Refused number 0) out
-      go true l fine d f = rw f (too-long (ltb-true 4096 (length t) l))
-      go false l true d f = absurd (n f)
-      go false l false d f = rw f (not-text (ltb-false 4096 (length t) l) d)
+      go : (long : Bool) → ltb 4096 (length t) ≡ long → (fine : Bool) → in_domain t ≡ fine
+          → ◌≡◌ {A = Result ⊤ Refusal} (Err e) (cond long (refusal 1 0) (cond (not fine) (refusal 2 0) (Ok tt))) → Writes own t out (Err e) out
+      go true l fine d f = let g : e ≡ says 1 0 = cc f in rw g (too-long (ltb-true 4096 (length t) l))
+      go false l true d f = absurd (never (cc f))
+      go false l false d f = let g : e ≡ says 2 0 = cc f in rw g (not-text (ltb-false 4096 (length t) l) d)
 
 -- ---- for the callers of a text call
 
@@ -140,33 +140,33 @@ record Picked (long text? : Bool) (reply : Reply Bytes) (out : Bytes) (r : ℕ) 
   count : r ≡ length text
   whole : out' ≡ text ++ drop (length text) out
 
-abbrev same? : Written × Bytes → Written × Bytes → Type 0
+abbrev same? : Result ℕ Refusal × Bytes → Result ℕ Refusal × Bytes → Type 0
 same? x y = x ≡ y
 
 picked : (long text? : Bool) (reply : Reply Bytes) (out : Bytes) (r : ℕ) (out' : Bytes)
-    → same? (variant.Wrote r, out') (lent written (cond long (refuses 1 0) (cond (not text?) (refuses 2 0) reply)) out)
+    → same? (Ok r, out') (lent written (cond long (refuses 1 0) (cond (not text?) (refuses 2 0) reply)) out)
     → Picked long text? reply out r out'
 unfolding lent written
-picked true text? reply out r out' e = absurd (never (cc (ap (λ (x : Written × Bytes). x.0) e)))
-picked false false reply out r out' e = absurd (never (cc (ap (λ (x : Written × Bytes). x.0) e)))
+picked true text? reply out r out' e = absurd (never (cc (ap (λ (x : Result ℕ Refusal × Bytes). x.0) e)))
+picked false false reply out r out' e = absurd (never (cc (ap (λ (x : Result ℕ Refusal × Bytes). x.0) e)))
 picked false true (refuses number place) out r out' e =
-    absurd (never (cc (ap (λ (x : Written × Bytes). x.0) e)))
+    absurd (never (cc (ap (λ (x : Result ℕ Refusal × Bytes). x.0) e)))
 picked false true (refuses12 place offset) out r out' e =
-    absurd (never (cc (ap (λ (x : Written × Bytes). x.0) e)))
+    absurd (never (cc (ap (λ (x : Result ℕ Refusal × Bytes). x.0) e)))
 picked false true (answers text) out r out' e = go (ltb (length out) (length text)) refl e
   where
     go : (b : Bool) → ltb (length out) (length text) ≡ b
-        → same? (variant.Wrote r, out') (cond b (variant.Refused 7 0, out) (variant.Wrote (length text), text ++ drop (length text) out))
+        → same? (Ok r, out') (cond b (refusal 7 0, out) (Ok (length text), text ++ drop (length text) out))
         → Picked false true (answers text) out r out'
-    go true l f = absurd (never (cc (ap (λ (x : Written × Bytes). x.0) f)))
+    go true l f = absurd (never (cc (ap (λ (x : Result ℕ Refusal × Bytes). x.0) f)))
     go false l f = record {
       short = refl;
       domain = refl;
       text = text;
       reply-is = refl;
       room = ltb-false (length out) (length text) l;
-      count = cc (ap (λ (x : Written × Bytes). x.0) f);
-      whole = ap (λ (x : Written × Bytes). x.1) f;
+      count = cc (ap (λ (x : Result ℕ Refusal × Bytes). x.0) f);
+      whole = ap (λ (x : Result ℕ Refusal × Bytes). x.1) f;
     }
 
 picked-answers : (own : Bytes → Reply Bytes) (t out : Bytes) (r : ℕ) (out' : Bytes)
@@ -182,7 +182,7 @@ picked-answers own t out r out' q =
     }
 
 pub answers-so : {own : Bytes → Reply Bytes} {t out : Bytes} {r : ℕ} {out' : Bytes}
-    → Writes own t out (variant.Wrote r) out' → Answers own t out r out'
+    → Writes own t out (Ok r) out' → Answers own t out r out'
 unfolding outcome tested
 answers-so {own} {t} {out} {r} {out'} p =
     picked-answers own t out r out' (picked (ltb 4096 (length t)) (in_domain t) (own t) out r out' p.exactly)

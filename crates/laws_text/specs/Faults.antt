@@ -1,11 +1,10 @@
 -- The offset of a step's refusal 12, which is computed from the table of its parameters, is that of the first fault among its words: the byte at the offset begins
 -- a piece, or a flag's value, that breaks the rule, and nothing before it does.
-use Rattle.std.specs.Prelude.{◌≡◌, ℕ, ◌+◌, ◌≤◌, min, Bool, cond, not, ◌&&◌, ◌||◌}
+use Rattle.std.specs.Prelude.{◌≡◌, ℕ, ◌+◌, ◌≤◌, min, Bool, cond, not, ◌&&◌, ◌||◌, Option, None, Some}
 use Rattle.std.proofs.Math.Path.{refl, sym, ap}
 use Rattle.std.proofs.Common.{◌∙◌, arith, eqb-true, leb-true, leb-false, le-leb}
 use Rattle.std.proofs.Math.Bool.{true, false}
 use Rattle.std.proofs.lemmas.Bool.{false≢true}
-use Rattle.std.proofs.Math.Option.{Option, none, some}
 use mathlib.Core.List.{List, [], ◌∷◌, ◌++◌, flat_map, append_assoc}
 use Rattle.std.proofs.Math.Dec.{leb}
 use Rattle.std.proofs.Math.ListN.{length, length-append}
@@ -21,10 +20,8 @@ use Rattle.rules.specs.Pipeline.Offsets.{fault_in, is_fault, fault_at, faults, e
 use Rattle.rules.specs.Face.Demands.{taken, Gives, Breaks, FaultAt, StandsAt}
 use Rattle.rules.specs.declared.Decimal.{Decimal}
 use Rattle.rules.specs.declared.Kind.{Kind}
-use Rattle.rules.specs.declared.Kind.TheVariants.{Flag, Series, Word, Lacking}
+use Rattle.rules.specs.declared.Kind.TheVariants.{Flag, Series, Word}
 use Rattle.rules.specs.declared.Name.{Name}
-use Rattle.rules.specs.declared.Number.{Number}
-use Rattle.rules.specs.declared.Number.TheVariants.{Is, Not}
 use Rattle.laws_lists.specs.Tests.{never, same_self, same-is, not_so, and_right}
 use Rattle.laws_lists.specs.Lists.{Every}
 use Rattle.laws_text.specs.Latest.{key_of, Lacks, EachLast, table-last-only, last-there}
@@ -54,7 +51,7 @@ record Bad (ps : List Bytes) : Type 0 where
   piece : Bytes
   rest : List Bytes
   in_order : ps ≡ front ++ (piece ∷ rest)
-  breaks : decimal piece ≡ Not
+  breaks : decimal piece ≡ None
   begins : broken_from ps ≡ taken (ascii ",") front
 
 first-bad : (ps : List Bytes) → is_none (all_numbers ps) ≡ true → Bad ps
@@ -62,9 +59,9 @@ unfolding all_numbers broken_from is_none is_number number_then
 first-bad [] h = absurd (false≢true h)
 first-bad (p ∷ ps) h = go (decimal p) refl (all_numbers ps) refl h (first-bad ps)
   where
-    go : (d : Number) → decimal p ≡ d → (o : Option (List Decimal)) → all_numbers ps ≡ o → is_none (number_then d o) ≡ true → (is_none (all_numbers ps) ≡ true → Bad ps) → Bad (p ∷ ps)
-    go Not e o f h next = record { front = []; piece = p; rest = ps; in_order = refl; breaks = e; begins = rw e (sym (taken_none (ascii ","))) }
-    go (Is d) e none f h next =
+    go : (d : Option Decimal) → decimal p ≡ d → (o : Option (List Decimal)) → all_numbers ps ≡ o → is_none (number_then d o) ≡ true → (is_none (all_numbers ps) ≡ true → Bad ps) → Bad (p ∷ ps)
+    go None e o f h next = record { front = []; piece = p; rest = ps; in_order = refl; breaks = e; begins = rw e (sym (taken_none (ascii ","))) }
+    go (Some d) e None f h next =
         let b = next (rw f refl) in
         record {
           front = p ∷ b.front;
@@ -74,10 +71,10 @@ first-bad (p ∷ ps) h = go (decimal p) refl (all_numbers ps) refl h (first-bad 
           breaks = b.breaks;
           begins = rw e (omega (arith, b.begins, taken-front (ascii ",") p b.front, one_byte));
         }
-    go (Is d) e (some l) f h next = absurd (false≢true h)
+    go (Some d) e (Some l) f h next = absurd (false≢true h)
 
 -- no piece that does stands before it, and where there is one, the series is none
-none_before : (front : List Bytes) (piece : Bytes) (rest : List Bytes) → decimal piece ≡ Not → broken_from (front ++ (piece ∷ rest)) ≤ taken (ascii ",") front
+none_before : (front : List Bytes) (piece : Bytes) (rest : List Bytes) → decimal piece ≡ None → broken_from (front ++ (piece ∷ rest)) ≤ taken (ascii ",") front
 unfolding broken_from is_number
 none_before [] piece rest e = rw e (omega arith)
 none_before (p ∷ front) piece rest e = go (is_number (decimal p)) (none_before front piece rest e)
@@ -87,40 +84,40 @@ none_before (p ∷ front) piece rest e = go (is_number (decimal p)) (none_before
     go true h = omega (arith, h, taken-front (ascii ",") p front, one_byte)
     go false h = omega arith
 
-bad-series : (front : List Bytes) (piece : Bytes) (rest : List Bytes) → decimal piece ≡ Not → is_none (all_numbers (front ++ (piece ∷ rest))) ≡ true
+bad-series : (front : List Bytes) (piece : Bytes) (rest : List Bytes) → decimal piece ≡ None → is_none (all_numbers (front ++ (piece ∷ rest))) ≡ true
 unfolding all_numbers number_then is_none
 bad-series [] piece rest e = rw e refl
 bad-series (p ∷ front) piece rest e = go (decimal p) (all_numbers (front ++ (piece ∷ rest))) (bad-series front piece rest e)
   where
-    go : (d : Number) (o : Option (List Decimal)) → is_none o ≡ true → is_none (number_then d o) ≡ true
-    go Not o h = refl
-    go (Is d) none h = refl
-    go (Is d) (some l) h = h
+    go : (d : Option Decimal) (o : Option (List Decimal)) → is_none o ≡ true → is_none (number_then d o) ≡ true
+    go None o h = refl
+    go (Some d) None h = refl
+    go (Some d) (Some l) h = h
 
 -- ---- a word
 
 -- what refusal 12 is for is what breaks the rule, in the first such place of the word
-record Broken (kind : Kind) (word : Bytes) : Type 0 where
+record Broken (kind : Option Kind) (word : Bytes) : Type 0 where
   bad : Bytes
   breaks : Breaks kind word bad (value_in word + fault_in kind (parameter word).value)
 
-broken : (kind : Kind) (word : Bytes) → misspelt kind (parameter word).value ≡ true → Broken kind word
+broken : (kind : Option Kind) (word : Bytes) → misspelt kind (parameter word).value ≡ true → Broken kind word
 unfolding misspelt fault_in series
-broken Flag word h = record {
+broken (Some Flag) word h = record {
   bad = (parameter word).value;
   breaks = Breaks.flag refl refl (λ e. false≢true (sym (not_so h) ∙ ap (λ (v : Bytes). same v (ascii "true")) e ∙ same_self (ascii "true"))) (omega arith);
 }
-broken Series word h =
+broken (Some Series) word h =
     let b = first-bad (pieces (parameter word).value) h in
     record { bad = b.piece; breaks = Breaks.element refl b.front b.rest b.in_order b.breaks (ap (λ (k : ℕ). value_in word + k) b.begins) }
-broken Word word h = absurd (false≢true h)
-broken Lacking word h = absurd (false≢true h)
+broken (Some Word) word h = absurd (false≢true h)
+broken None word h = absurd (false≢true h)
 
-record Refused (kind : Kind) (word : Bytes) (at : ℕ) : Type 0 where
+record Refused (kind : Option Kind) (word : Bytes) (at : ℕ) : Type 0 where
   misspelt-so : misspelt kind (parameter word).value ≡ true
   not-later : value_in word + fault_in kind (parameter word).value ≤ at
 
-refused : (kind : Kind) (word bad : Bytes) (at : ℕ) → Breaks kind word bad at → Refused kind word at
+refused : (kind : Option Kind) (word bad : Bytes) (at : ℕ) → Breaks kind word bad at → Refused kind word at
 unfolding misspelt fault_in series
 refused kind word bad at (Breaks.flag k v other e) =
     rw (k, e) (record { misspelt-so = go (same (parameter word).value (ascii "true")) refl; not-later = omega arith })

@@ -1,17 +1,17 @@
 -- Where refusal 12 is. A preparation that refuses 12 gives the place of a faulty step, and the byte of its text at which its first fault is (specs/Faults.antt says it
 -- of the step's words). No other refusal has an offset.
+use Rattle.rules.specs.declared.Refusal.{Refusal}
 use Rattle.std.proofs.Math.Path.{◌≡◌, refl, ap}
 use Rattle.std.proofs.Common.{sym, ◌∙◌, arith}
-use Rattle.std.specs.Prelude.{ℕ, suc, ◌+◌, ◌≤◌, Bool, cond, not, ◌||◌, ltb, length}
+use Rattle.std.specs.Prelude.{ℕ, suc, ◌+◌, ◌≤◌, Bool, cond, not, ◌||◌, ltb, length, Option, None, Some, Result, Ok, Err}
 use Rattle.std.proofs.Math.Bool.{true, false}
 use Rattle.std.proofs.lemmas.Bool.{false≢true}
-use Rattle.std.proofs.Math.Option.{Option, none, some}
 use mathlib.Core.List.{List, [], ◌∷◌, ◌++◌, map}
 use Rattle.std.proofs.Math.ListN.{drop}
 use Rattle.rules.specs.Text.Ascii.{ascii, is}
 use Rattle.rules.specs.Text.Lists.{any_of, place_of}
 use Rattle.rules.specs.Text.Bytes.{Bytes, Steps, in_domain, words}
-use Rattle.rules.specs.Text.Refusal.{Reply, answers, refuses, refuses12, and_then, tested, lent, outcome, Promised, prepared}
+use Rattle.rules.specs.Text.Refusal.{Reply, answers, refuses, refuses12, and_then, tested, lent, outcome, Promised, prepared, refusal_at}
 use Rattle.rules.specs.Text.Normal.{normal}
 use Rattle.rules.specs.Text.Split.{only_modifiers, turned, step_text, steps, split_steps}
 use Rattle.rules.specs.Text.Parameters.{Parameter, Placed, name, table_of, step_table, text_table, parameters_of, placed_table}
@@ -28,10 +28,6 @@ use Rattle.rules.specs.declared.Mode.TheVariants as mode-is
 use Rattle.rules.specs.declared.Reading.{Reading}
 use Rattle.rules.specs.declared.Step.{Step}
 use Rattle.rules.specs.declared.Name.{Name}
-use Rattle.rules.specs.declared.Named.{Named}
-use Rattle.rules.specs.declared.Named.TheVariants.{Is, Not}
-use Rattle.rules.specs.declared.Prepared.{Prepared}
-use Rattle.rules.specs.declared.Prepared.TheVariants as prepared-is
 use Rattle.laws_lists.specs.Tests.{never}
 use Rattle.laws_text.specs.Table.{given, given-table}
 use Rattle.laws_text.specs.Faults.{name-fine, earliest-fault, no-earlier-fault, bad-stands, missing-stands}
@@ -70,12 +66,12 @@ module _ (m : Mode) where
   judged-other ps = by10 (named (value_of (ascii "_name") ps))
     where
       by14 : (o : Option Step) → Other (judged14 o)
-      by14 none = λ e. never (omega (arith, e))
-      by14 (some s) = tt
+      by14 None = λ e. never (omega (arith, e))
+      by14 (Some s) = tt
 
-      by10 : (o : Named) → Other (judged10 m o ps)
-      by10 Not = λ e. never (omega (arith, e))
-      by10 (Is n) =
+      by10 : (o : Option Name) → Other (judged10 m o ps)
+      by10 None = λ e. never (omega (arith, e))
+      by10 (Some n) =
           other-if (any_of (unknown n) ps) _ _ (λ e. never (omega (arith, e)))
           (other-if (any_of (λ (p : Parameter). misspelt (kind_of n p) p.value) ps) _ _ tt
           (other-if (any_of (λ (p : Parameter). too_long (kind_of n p) p.value) ps) _ _ (λ e. never (omega (arith, e)))
@@ -120,7 +116,7 @@ Twelve (refuses12 place offset) = Unit {0}
 -- the first fault of a step, by its text
 record StepFault (step : Bytes) (offset : ℕ) : Type 0 where
   operator : Name
-  has-name : named (value_of (ascii "_name") (table_of (words (normal step)))) ≡ Is operator
+  has-name : named (value_of (ascii "_name") (table_of (words (normal step)))) ≡ Some operator
   at-fault : FaultAt operator (turned (words (normal step))) offset
   none_before : (other : ℕ) → FaultAt operator (turned (words (normal step))) other → offset ≤ other
 
@@ -130,7 +126,7 @@ any-given test [] = refl
 any-given test (q ∷ qs) = rw (any-given test qs) refl
 
 -- the words of a step whose table is refused 12
-words-fault : (n : Name) (t : Bytes) → named (value_of (ascii "_name") (table_of (words (normal t)))) ≡ Is n
+words-fault : (n : Name) (t : Bytes) → named (value_of (ascii "_name") (table_of (words (normal t)))) ≡ Some n
     → any_of (λ (p : Parameter). misspelt (kind_of n p) p.value) (table_of (words (normal t))) ≡ true → StepFault t (offset_in t)
 unfolding offset_in offset_of offset_by is_fault
 words-fault n t e h =
@@ -148,7 +144,7 @@ words-fault n t e h =
 -- what judges a table, refuses it 12
 record Judged (ps : List Parameter) : Type 0 where
   operator : Name
-  has-name : named (value_of (ascii "_name") ps) ≡ Is operator
+  has-name : named (value_of (ascii "_name") ps) ≡ Some operator
   bad : any_of (λ (p : Parameter). misspelt (kind_of operator p) p.value) ps ≡ true
 
 judged-12 : (m : Mode) (ps : List Parameter) → Twelve (judged m ps) → Judged ps
@@ -156,19 +152,19 @@ unfolding judged judged10 judged11 judged14 Twelve
 judged-12 m ps h = by10 (named (value_of (ascii "_name") ps)) refl h
   where
     by14 : (o : Option Step) → Twelve (judged14 o) → ⊥
-    by14 none h = h
-    by14 (some s) h = h
+    by14 None h = h
+    by14 (Some s) h = h
 
-    by11 : (n : Name) → named (value_of (ascii "_name") ps) ≡ Is n → (a b c : Bool) → any_of (λ (p : Parameter). misspelt (kind_of n p) p.value) ps ≡ b
+    by11 : (n : Name) → named (value_of (ascii "_name") ps) ≡ Some n → (a b c : Bool) → any_of (λ (p : Parameter). misspelt (kind_of n p) p.value) ps ≡ b
         → Twelve (cond a (refuses 11 0) (cond b (refuses12 0 0) (cond c (refuses 13 0) (judged14 (own_rule m n ps))))) → Judged ps
     by11 n e true b c f h = absurd h
     by11 n e false true c f h = record { operator = n; has-name = e; bad = f }
     by11 n e false false true f h = absurd h
     by11 n e false false false f h = absurd (by14 (own_rule m n ps) h)
 
-    by10 : (o : Named) → named (value_of (ascii "_name") ps) ≡ o → Twelve (judged10 m o ps) → Judged ps
-    by10 Not e h = absurd h
-    by10 (Is n) e h =
+    by10 : (o : Option Name) → named (value_of (ascii "_name") ps) ≡ o → Twelve (judged10 m o ps) → Judged ps
+    by10 None e h = absurd h
+    by10 (Some n) e h =
         by11 n e (any_of (unknown n) ps) (any_of (λ (p : Parameter). misspelt (kind_of n p) p.value) ps) (any_of (λ (p : Parameter). too_long (kind_of n p) p.value) ps) refl h
 
 -- a name alone is no such table
@@ -295,36 +291,39 @@ prepare-as-fault how m t p o h = prepare-fault m t p o (then-12 (prepare_in m t)
 
 -- ---- what preparing answers
 
+-- of two calls that answer refusals alike, the refusals are alike
+refused_as : {r s : Refusal} {t u : List Step} → ◌≡◌ {A = Result ℕ Refusal × List Step} (Err r, t) (Err s, u) → r ≡ s
+refused_as h = cc (ap (λ (x : Result ℕ Refusal × List Step). x.0) h)
+
 -- of a reply that is brought into a lent table: 12 is said of refusal 12 alone, and an offset too
 module _ (table table' : List Step) where
-  lent-12 : (r : Reply (List Step)) (p o : ℕ) → Other r → ◌≡◌ {A = Prepared × List Step} (prepared-is.Refused 12 p o, table') (lent prepared r table) → r ≡ refuses12 p o
+  lent-12 : (r : Reply (List Step)) (p o : ℕ) → Other r → ◌≡◌ {A = Result ℕ Refusal × List Step} (refusal_at 12 p o, table') (lent prepared r table) → r ≡ refuses12 p o
   unfolding lent prepared Other
   lent-12 (answers l) p o k h = go (ltb (length table) (length l)) h
     where
-      go : (b : Bool) → ◌≡◌ {A = Prepared × List Step} (prepared-is.Refused 12 p o, table') (cond b (prepared-is.Refused 7 0 0, table) (prepared-is.Steps (length l), l ++ drop (length l) table))
+      go : (b : Bool) → ◌≡◌ {A = Result ℕ Refusal × List Step} (refusal_at 12 p o, table') (cond b (refusal_at 7 0 0, table) (Ok (length l), l ++ drop (length l) table))
           → answers l ≡ refuses12 p o
-      go true h = absurd (seven (cc (ap (λ (x : Prepared × List Step). x.0) h)))
+      go true h = absurd (seven (ap (λ (r : Refusal). r.number) (refused_as h)))
         where
           seven : ◌≡◌ {A = ℕ} 12 7 → ⊥
           seven e = never (omega (arith, e))
-      go false h = absurd (never (cc (ap (λ (x : Prepared × List Step). x.0) h)))
-  lent-12 (refuses n q) p o k h = absurd (k (sym (cc (ap (λ (x : Prepared × List Step). x.0) h))))
+      go false h = absurd (never (cc (ap (λ (x : Result ℕ Refusal × List Step). x.0) h)))
+  lent-12 (refuses n q) p o k h = absurd (k (sym (ap (λ (r : Refusal). r.number) (refused_as h))))
   lent-12 (refuses12 q r) p o k h =
-      let e : prepared-is.Refused 12 p o ≡ prepared-is.Refused 12 q r = ap (λ (x : Prepared × List Step). x.0) h in
-      let f : p ≡ q = cc e in
-      let g : o ≡ r = cc e in
+      let f : p ≡ q = ap (λ (r : Refusal). r.place) (refused_as h) in
+      let g : o ≡ r = ap (λ (r : Refusal). r.offset) (refused_as h) in
       rw (f, g)
 
-  lent_other : (r : Reply (List Step)) (n p o : ℕ) → (n ≡ 12 → ⊥) → ◌≡◌ {A = Prepared × List Step} (prepared-is.Refused n p o, table') (lent prepared r table) → o ≡ 0
+  lent_other : (r : Reply (List Step)) (n p o : ℕ) → (n ≡ 12 → ⊥) → ◌≡◌ {A = Result ℕ Refusal × List Step} (refusal_at n p o, table') (lent prepared r table) → o ≡ 0
   unfolding lent prepared
   lent_other (answers l) n p o k h = go (ltb (length table) (length l)) h
     where
-      go : (b : Bool) → ◌≡◌ {A = Prepared × List Step} (prepared-is.Refused n p o, table') (cond b (prepared-is.Refused 7 0 0, table) (prepared-is.Steps (length l), l ++ drop (length l) table))
+      go : (b : Bool) → ◌≡◌ {A = Result ℕ Refusal × List Step} (refusal_at n p o, table') (cond b (refusal_at 7 0 0, table) (Ok (length l), l ++ drop (length l) table))
           → o ≡ 0
-      go true h = cc (ap (λ (x : Prepared × List Step). x.0) h)
-      go false h = absurd (never (cc (ap (λ (x : Prepared × List Step). x.0) h)))
-  lent_other (refuses m q) n p o k h = cc (ap (λ (x : Prepared × List Step). x.0) h)
-  lent_other (refuses12 q r) n p o k h = absurd (k (cc (ap (λ (x : Prepared × List Step). x.0) h)))
+      go true h = ap (λ (r : Refusal). r.offset) (refused_as h)
+      go false h = absurd (never (cc (ap (λ (x : Result ℕ Refusal × List Step). x.0) h)))
+  lent_other (refuses m q) n p o k h = ap (λ (r : Refusal). r.offset) (refused_as h)
+  lent_other (refuses12 q r) n p o k h = absurd (k (ap (λ (r : Refusal). r.number) (refused_as h)))
 
 tested-12 : (own : Bytes → Reply (List Step)) (t : Bytes) (p o : ℕ) → tested own t ≡ refuses12 p o → own t ≡ refuses12 p o
 unfolding tested
@@ -342,29 +341,29 @@ tested-other own t h =
 
 module _ (own : Bytes → Reply (List Step)) {text : Bytes} {table table' : List Step} where
   promised-12 : ((t : Bytes) → Other (own t)) → ((t : Bytes) (p o : ℕ) → own t ≡ refuses12 p o → FirstFault t p o) → {place offset : ℕ}
-      → Promised prepared own text table (prepared-is.Refused 12 place offset) table' → FirstFault text place offset
+      → Promised prepared own text table (refusal_at 12 place offset) table' → FirstFault text place offset
   unfolding outcome
   promised-12 other fault {place} {offset} p =
       fault text place offset (tested-12 own text place offset (lent-12 table table' (tested own text) place offset (tested-other own text (other text)) p.exactly))
 
-  promised-other : {number place offset : ℕ} → Promised prepared own text table (prepared-is.Refused number place offset) table' → (number ≡ 12 → ⊥) → offset ≡ 0
+  promised-other : {number place offset : ℕ} → Promised prepared own text table (refusal_at number place offset) table' → (number ≡ 12 → ⊥) → offset ≡ 0
   unfolding outcome
   promised-other {number} {place} {offset} p k = lent_other table table' (tested own text) number place offset k p.exactly
 
 module _ {text : Bytes} {table table' : List Step} where
   -- "12 gains the offset": it is that of the first fault
-  pub offset-of-12 : {place offset : ℕ} → Prepares text table (prepared-is.Refused 12 place offset) table' → FirstFault text place offset
+  pub offset-of-12 : {place offset : ℕ} → Prepares text table (refusal_at 12 place offset) table' → FirstFault text place offset
   unfolding prepare
   offset-of-12 = promised-12 prepare (prepare-other mode-is.Crate) (prepare-fault mode-is.Crate)
 
-  pub offset-of-12-as : (how : Reading) (m : Mode) {place offset : ℕ} → PreparesAs how m text table (prepared-is.Refused 12 place offset) table' → FirstFault text place offset
+  pub offset-of-12-as : (how : Reading) (m : Mode) {place offset : ℕ} → PreparesAs how m text table (refusal_at 12 place offset) table' → FirstFault text place offset
   offset-of-12-as how m = promised-12 (prepare_as how m) (prepare-as-other m how) (prepare-as-fault how m)
 
   -- no other refusal has one
-  pub no-other-offset : {number place offset : ℕ} → Prepares text table (prepared-is.Refused number place offset) table' → (number ≡ 12 → ⊥) → offset ≡ 0
+  pub no-other-offset : {number place offset : ℕ} → Prepares text table (refusal_at number place offset) table' → (number ≡ 12 → ⊥) → offset ≡ 0
   no-other-offset = promised-other prepare
 
-  pub no-other-offset-as : (how : Reading) (m : Mode) {number place offset : ℕ} → PreparesAs how m text table (prepared-is.Refused number place offset) table'
+  pub no-other-offset-as : (how : Reading) (m : Mode) {number place offset : ℕ} → PreparesAs how m text table (refusal_at number place offset) table'
       → (number ≡ 12 → ⊥) → offset ≡ 0
   no-other-offset-as how m = promised-other (prepare_as how m)
 

@@ -1,5 +1,7 @@
 -- No second outcome meets a call's promise: each promise is an equation, so two outcomes that it admits are equal.
-use Rattle.std.specs.Prelude.{◌≡◌, List, ℕ, Float}
+use Rattle.rules.specs.declared.Refusal.{Refusal}
+use Rattle.rules.specs.declared.Finished.{Finished}
+use Rattle.std.specs.Prelude.{◌≡◌, List, ℕ, Float, Result}
 use Rattle.std.proofs.Common.{sym, ap, ◌∙◌}
 use Rattle.rules.specs.Text.Bytes.{Bytes}
 use Rattle.rules.specs.Text.Refusal.{Reply, Promised, Lends}
@@ -8,9 +10,7 @@ use Rattle.rules.specs.Pipeline.Check.{Checks}
 use Rattle.rules.specs.Face.Plain.{PlainChecks, PlainOutcome, PlainRuns}
 use Rattle.rules.specs.declared.Step.{Step}
 use Rattle.rules.specs.declared.Direction.{Direction}
-use Rattle.rules.specs.declared.Written.{Written}
 use Rattle.rules.specs.declared.Foretold.{Foretold}
-use Rattle.rules.specs.declared.Ran.{Ran}
 use Rattle.rules.specs.declared.Checked.{Checked}
 use Rattle.rules.specs.declared.Done.{Done}
 
@@ -23,11 +23,11 @@ once {A} {R} p q =
     (ap (λ (x : R × List A). x.0) e, ap (λ (x : R × List A). x.1) e)
 
 -- `write` and `write_step`: result and buffer
-pub lends-once : {reply : Reply Bytes} {out : Bytes} {r r' : Written} {after after' : Bytes}
+pub lends-once : {reply : Reply Bytes} {out : Bytes} {r r' : Result ℕ Refusal} {after after' : Bytes}
     → Lends reply out r after → Lends reply out r' after' → (r ≡ r') × (after ≡ after')
 lends-once p q =
     let e = p.exactly ∙ sym q.exactly in
-    (ap (λ (x : Written × Bytes). x.0) e, ap (λ (x : Written × Bytes). x.1) e)
+    (ap (λ (x : Result ℕ Refusal × Bytes). x.0) e, ap (λ (x : Result ℕ Refusal × Bytes). x.1) e)
 
 -- the check: its answer, all of it
 pub check-once : {d : Direction} {t : List Step} {r r' : Foretold} → Checks d t r → Checks d t r' → r ≡ r'
@@ -37,7 +37,7 @@ pub plain-check-once : {inverse : ℕ} {t : List Step} {r r' : Checked} → Plai
 plain-check-once p q = p.exactly ∙ sym q.exactly
 
 -- the run: result, list and store
-pub run-once : {d : Direction} {t : List Step} {xs store : List Float} {r r' : Ran} {xs₁ xs₂ store₁ store₂ : List Float}
+pub run-once : {d : Direction} {t : List Step} {xs store : List Float} {r r' : Result Finished Refusal} {xs₁ xs₂ store₁ store₂ : List Float}
     → Runs d t xs store r xs₁ store₁ → Runs d t xs store r' xs₂ store₂ → (r ≡ r') × (xs₁ ≡ xs₂) × (store₁ ≡ store₂)
 run-once p q =
     let e = p.exactly ∙ sym q.exactly in

@@ -1,9 +1,8 @@
 -- What a call refuses with, by its written rule: each number, beside the places at which it can be. So a fact that holds of each of these
 -- holds of whatever is refused: that the number is one of the call's own, or that the place is one of the text's.
-use Rattle.std.specs.Prelude.{◌≡◌, ℕ, suc, ◌+◌, ◌≤◌, Bool, cond, ◌&&◌, ◌||◌, length}
+use Rattle.std.specs.Prelude.{◌≡◌, ℕ, suc, ◌+◌, ◌≤◌, Bool, cond, ◌&&◌, ◌||◌, length, Option, None, Some}
 use Rattle.std.proofs.Math.Path.{refl}
 use Rattle.std.proofs.Math.Bool.{true, false, not}
-use Rattle.std.proofs.Math.Option.{Option, none, some}
 use mathlib.Core.List.{List, [], ◌∷◌, map}
 use Rattle.std.proofs.Common.{arith, ltb-false}
 use Rattle.std.proofs.lemmas.List.{length-map}
@@ -23,8 +22,7 @@ use Rattle.rules.specs.Operators.Arguments.{value_of}
 use Rattle.rules.specs.Pipeline.Prepare.{own_rule, judged14, judged11, named, judged10, judged, at_step, prepare_step, prepare_steps, prepare_split, prepare_in, offset_in}
 use Rattle.rules.specs.declared.Mode.{Mode}
 use Rattle.rules.specs.declared.Step.{Step}
-use Rattle.rules.specs.declared.Named.{Named}
-use Rattle.rules.specs.declared.Named.TheVariants.{Is, Not}
+use Rattle.rules.specs.declared.Name.{Name}
 use Rattle.laws_lists.specs.Tests.{never}
 use Rattle.laws_text.specs.Sizes.{place-within}
 
@@ -130,12 +128,12 @@ module _ (P : ℕ → ℕ → Type 0) (m : Mode) where
   judged-refuses place ps h = by10 (named (value_of (ascii "_name") ps))
     where
       by14 : (o : Option Step) → Refusing (λ number nowhere. P number place) (judged14 o)
-      by14 none = h.own
-      by14 (some s) = tt
+      by14 None = h.own
+      by14 (Some s) = tt
 
-      by10 : (o : Named) → Refusing (λ number nowhere. P number place) (judged10 m o ps)
-      by10 Not = h.name
-      by10 (Is n) =
+      by10 : (o : Option Name) → Refusing (λ number nowhere. P number place) (judged10 m o ps)
+      by10 None = h.name
+      by10 (Some n) =
           choose (λ number nowhere. P number place) (any_of (unknown n) ps) _ _ h.unknown-key
           (choose (λ number nowhere. P number place) (any_of (λ (p : Parameter). misspelt (kind_of n p) p.value) ps) _ _ h.no_number
           (choose (λ number nowhere. P number place) (any_of (λ (p : Parameter). too_long (kind_of n p) p.value) ps) _ _ h.series

@@ -1,6 +1,6 @@
 -- Where the steps of a text stand: the spans are what the reader finds on its walk. So they rise and do not overlap, whatever records they
 -- are given to.
-use Rattle.std.specs.Prelude.{◌≡◌, refl, ℕ, suc, ◌+◌, ◌-◌, ◌≤◌, Bool, true, false, cond, List, [], ◌∷◌, map, length, drop}
+use Rattle.std.specs.Prelude.{◌≡◌, refl, ℕ, suc, ◌+◌, ◌-◌, ◌≤◌, Bool, true, false, cond, List, [], ◌∷◌, map, length, drop, Option, Some, None}
 use Rattle.std.proofs.Common.{sym, ap, ◌∙◌, arith}
 use Rattle.rules.specs.Text.Ascii.{is}
 use Rattle.rules.specs.Text.Lists.{kept, non_empty}
@@ -8,13 +8,11 @@ use Rattle.rules.specs.Text.Bytes.{Bytes, cut, words}
 use Rattle.rules.specs.Text.Normal.{normal}
 use Rattle.rules.specs.Text.Comments.{stripped}
 use Rattle.rules.specs.Text.Split.{steps_of, steps}
-use Rattle.rules.specs.Text.Reader.{step, found, next, spans_from, spans_of, definition, spans}
+use Rattle.rules.specs.Text.Reader.{step, step_then, found, next, spans_from, spans_of, definition, spans}
 use Rattle.rules.specs.Pipeline.Record.{span_end, in_reading, spanned, with_spans}
 use Rattle.rules.specs.Face.Demands.{Rise, Walk}
 use Rattle.rules.specs.declared.Cursor.{Cursor}
 use Rattle.rules.specs.declared.Found.{Found}
-use Rattle.rules.specs.declared.Found.TheVariants.{End}
-use Rattle.rules.specs.declared.Found.TheVariants as found-is
 use Rattle.rules.specs.declared.Reading.{Reading}
 use Rattle.rules.specs.declared.Span.{Span}
 use Rattle.rules.specs.declared.Step.{Step}
@@ -33,9 +31,9 @@ abbrev pub spans_at : Bytes → ℕ → List Span
 spans_at normalised place = spans_from place (cut (is "|") (drop place normalised))
 
 -- The spans that a find tells of: that of the step found, and all from there on.
-unfoldable walked_spans : Bytes → Found → List Span
-walked_spans normalised End = []
-walked_spans normalised (found-is.Step from to then) = span_to from to ∷ spans_at normalised then.at
+unfoldable walked_spans : Bytes → Option Found → List Span
+walked_spans normalised None = []
+walked_spans normalised (Some f) = span_to f.from f.to ∷ spans_at normalised f.then.at
 
 -- at the end of a piece stands an empty one, which has no span
 behind-piece : {n : Bytes} {place : ℕ} {p : Bytes} {ps : List Bytes} → At n place p ps → spans_at n (place + length p) ≡ spans_from (place + suc (length p)) ps
@@ -64,12 +62,12 @@ unfolding next
 walked-spans normalised place = found-spans normalised place (cut (is "|") (drop place normalised)) (λ q qs e. refl)
 
 -- the spans from the reader's place on, where it finds a step, and where it finds none
-pub span-step : (normalised : Bytes) (place from to : ℕ) (then : Cursor) → next normalised place ≡ found-is.Step from to then
+pub span-step : (normalised : Bytes) (place from to : ℕ) (then : Cursor) → next normalised place ≡ step_then from to then
     → spans_at normalised place ≡ span_to from to ∷ spans_at normalised then.at
 unfolding walked_spans
 span-step normalised place from to then f = walked-spans normalised place ∙ ap (walked_spans normalised) f
 
-pub span-end : (normalised : Bytes) (place : ℕ) → next normalised place ≡ End → spans_at normalised place ≡ []
+pub span-end : (normalised : Bytes) (place : ℕ) → next normalised place ≡ None → spans_at normalised place ≡ []
 unfolding walked_spans
 span-end normalised place f = walked-spans normalised place ∙ ap (walked_spans normalised) f
 
@@ -102,23 +100,23 @@ first_found : (n : Bytes) (place : ℕ) (p : Span) (ps : List Span) → spans_at
 unfolding span_end
 first_found n place p ps e = go (next n place) refl
   where
-    go : (f : Found) → next n place ≡ f → (next n place ≡ step p.from (p.from + p.length)) × (spans_at n (p.from + p.length) ≡ ps)
-    go End f = absurd (never (cc (span-end n place f, e)))
-    go (found-is.Step from to then) f =
-        let a = walk-ahead n place from to then f in
-        let c : span_to from to ∷ spans_at n then.at ≡ p ∷ ps = sym (span-step n place from to then f) ∙ e in
-        let g : span_to from to ≡ p = cc in
-        let r : spans_at n to ≡ ps = rw (← a.goes_on) cc in
-        let b : from + (to - from) ≡ to = omega (arith, a.longer) in
-        let i : ◌≡◌ {A = Found} (found-is.Step from to then) (step from to) = ap (λ (x : ℕ). found-is.Step from to (record { at = x })) a.goes_on in
+    go : (f : Option Found) → next n place ≡ f → (next n place ≡ step p.from (p.from + p.length)) × (spans_at n (p.from + p.length) ≡ ps)
+    go None f = absurd (never (cc (span-end n place f, e)))
+    go (Some x) f =
+        let a = walk-ahead n place x.from x.to x.then f in
+        let c : span_to x.from x.to ∷ spans_at n x.then.at ≡ p ∷ ps = sym (span-step n place x.from x.to x.then f) ∙ e in
+        let g : span_to x.from x.to ≡ p = cc in
+        let r : spans_at n x.to ≡ ps = rw (← a.goes_on) cc in
+        let b : x.from + (x.to - x.from) ≡ x.to = omega (arith, a.longer) in
+        let i : ◌≡◌ {A = Option Found} (Some x) (step x.from x.to) = ap (λ (k : ℕ). step_then x.from x.to (record { at = k })) a.goes_on in
         rw (← g, b) (f ∙ i, r)
 
-none_found : (n : Bytes) (place : ℕ) → spans_at n place ≡ [] → next n place ≡ End
+none_found : (n : Bytes) (place : ℕ) → spans_at n place ≡ [] → next n place ≡ None
 none_found n place e = go (next n place) refl
   where
-    go : (f : Found) → next n place ≡ f → next n place ≡ End
-    go End f = f
-    go (found-is.Step from to then) f = absurd (never (cc (span-step n place from to then f, e)))
+    go : (f : Option Found) → next n place ≡ f → next n place ≡ None
+    go None f = f
+    go (Some x) f = absurd (never (cc (span-step n place x.from x.to x.then f, e)))
 
 spanned-walk : (n : Bytes) (place : ℕ) (ps : List Span) (l : List Step) → spans_at n place ≡ ps → length l ≡ length ps → Walk n place (with_spans ps l)
 unfolding Walk with_spans spanned

@@ -1,5 +1,5 @@
 -- The reader walks over the steps of the text, each once and in their order.
-use Rattle.std.specs.Prelude.{◌≡◌, Bool, true, false, cond, length}
+use Rattle.std.specs.Prelude.{◌≡◌, Bool, true, false, cond, length, Option, Some, None}
 use Rattle.std.proofs.Math.Path.{refl, ap}
 use Rattle.std.proofs.Common.{sym, ◌∙◌, arith, length-append, length-drop, take_at, drop_at}
 use Prim.Native.Nat.{ℕ, suc, ◌+◌, ◌-◌, ◌≤◌, ◌<◌}
@@ -11,10 +11,9 @@ use Rattle.rules.specs.Text.Ascii.{is}
 use Rattle.rules.specs.Text.Lists.{kept, non_empty}
 use Rattle.rules.specs.Text.Bytes.{Bytes, Steps, onto, cut, words}
 use Rattle.rules.specs.Text.Split.{steps_of}
-use Rattle.rules.specs.Text.Reader.{step, found, next, part, walked}
+use Rattle.rules.specs.Text.Reader.{step, step_then, found, next, part, walked}
 use Rattle.rules.specs.declared.Cursor.{Cursor}
 use Rattle.rules.specs.declared.Found.{Found}
-use Rattle.rules.specs.declared.Found.TheVariants.{Step, End}
 use Rattle.laws_lists.specs.Tests.{never}
 
 -- ---- a text is its first piece and what is left from the `|` on
@@ -76,9 +75,9 @@ worded-words (p ∷ ps) = go (non_empty (words p)) (worded-words ps)
     go false e = e
 
 -- the pieces that a find tells of: that of the step found, and all from there on
-walked_pieces : Bytes → Found → List Bytes
-walked_pieces n End = []
-walked_pieces n (Step from to then) = part from to n ∷ worded (cut (is "|") (drop then.at n))
+walked_pieces : Bytes → Option Found → List Bytes
+walked_pieces n None = []
+walked_pieces n (Some f) = part f.from f.to n ∷ worded (cut (is "|") (drop f.then.at n))
 
 -- a text from a place on, with its first piece p and what is left after it
 pub record At (n : Bytes) (place : ℕ) (p : Bytes) (ps : List Bytes) : Type 0 where
@@ -144,9 +143,9 @@ pub walk : (normalised : Bytes) (place : ℕ) → steps_of (drop place normalise
 unfolding steps_of
 walk normalised place = worded-words (cut (is "|") (drop place normalised)) ∙ ap (map words) (walk-pieces normalised place) ∙ go (next normalised place)
   where
-    go : (f : Found) → map words (walked_pieces normalised f) ≡ walked normalised f
-    go End = unfold walked_pieces walked in refl
-    go (Step from to then) = unfold walked_pieces walked in ap (λ (ss : Steps). words (part from to normalised) ∷ ss) (sym (worded-words (cut (is "|") (drop then.at normalised))))
+    go : (f : Option Found) → map words (walked_pieces normalised f) ≡ walked normalised f
+    go None = unfold walked_pieces walked in refl
+    go (Some f) = unfold walked_pieces walked in ap (λ (ss : Steps). words (part f.from f.to normalised) ∷ ss) (sym (worded-words (cut (is "|") (drop f.then.at normalised))))
 
 -- What it finds lies ahead, is not empty, stands within the text, and has words; the reader goes on at its end: the walk
 -- ends.
@@ -163,7 +162,7 @@ not-empty [] e = absurd (false≢true e)
 not-empty (x ∷ p) e = omega arith
 
 found-ahead : (n : Bytes) (place : ℕ) (ps : List Bytes) (from to : ℕ) (then : Cursor)
-    → ((q : Bytes) (qs : List Bytes) → ps ≡ q ∷ qs → cut (is "|") (drop place n) ≡ ps) → found place ps ≡ Step from to then → Ahead n place from to then
+    → ((q : Bytes) (qs : List Bytes) → ps ≡ q ∷ qs → cut (is "|") (drop place n) ≡ ps) → found place ps ≡ step_then from to then → Ahead n place from to then
 unfolding found
 found-ahead n place [] from to then c f = absurd (never (cc))
 found-ahead n place (p ∷ ps) from to then c f =
@@ -172,14 +171,15 @@ found-ahead n place (p ∷ ps) from to then c f =
     m : At n place p ps
     m = at n place p ps (c p ps refl)
 
-    go : (b : Bool) → non_empty (words p) ≡ b → cond b (step place (place + length p)) (found (place + suc (length p)) ps) ≡ Step from to then
-        → (found (place + suc (length p)) ps ≡ Step from to then → Ahead n (place + suc (length p)) from to then) → Ahead n place from to then
+    go : (b : Bool) → non_empty (words p) ≡ b → cond b (step place (place + length p)) (found (place + suc (length p)) ps) ≡ step_then from to then
+        → (found (place + suc (length p)) ps ≡ step_then from to then → Ahead n (place + suc (length p)) from to then) → Ahead n place from to then
     go true w e h =
         let l = not-empty p w in
         let k : length (drop place n) ≡ length p + length m.left = rw m.here (length-append p m.left) in
-        let a : place ≡ from = cc e in
-        let b : place + length p ≡ to = cc e in
-        let t : ◌≡◌ {A = Cursor} (record { at = place + length p }) then = cc e in
+        let x : ◌≡◌ {A = Found} (record { from = place; to = place + length p; then = record { at = place + length p } }) (record { from = from; to = to; then = then }) = cc e in
+        let a : place ≡ from = ap (λ (f : Found). f.from) x in
+        let b : place + length p ≡ to = ap (λ (f : Found). f.to) x in
+        let t : ◌≡◌ {A = Cursor} (record { at = place + length p }) then = ap (λ (f : Found). f.then) x in
         record {
           ahead = omega arith;
           longer = omega arith;
@@ -191,27 +191,27 @@ found-ahead n place (p ∷ ps) from to then c f =
         let r = h e in
         record { ahead = omega (arith, r.ahead); longer = r.longer; within = r.within; goes_on = r.goes_on; worded = r.worded }
 
-pub walk-ahead : (normalised : Bytes) (place from to : ℕ) (then : Cursor) → next normalised place ≡ Step from to then → Ahead normalised place from to then
+pub walk-ahead : (normalised : Bytes) (place from to : ℕ) (then : Cursor) → next normalised place ≡ step_then from to then → Ahead normalised place from to then
 unfolding next
 walk-ahead normalised place from to then f =
     found-ahead normalised place (cut (is "|") (drop place normalised)) from to then (λ q qs e. refl) f
 
 -- the steps from the reader's place on, where it finds one, and where it finds none
-pub walk_step : (normalised : Bytes) (place from to : ℕ) (then : Cursor) → next normalised place ≡ Step from to then
+pub walk_step : (normalised : Bytes) (place from to : ℕ) (then : Cursor) → next normalised place ≡ step_then from to then
     → steps_of (drop place normalised) ≡ words (part from to normalised) ∷ steps_of (drop then.at normalised)
 unfolding walked
 walk_step normalised place from to then f = walk normalised place ∙ ap (walked normalised) f
 
-pub walk_end : (normalised : Bytes) (place : ℕ) → next normalised place ≡ End → steps_of (drop place normalised) ≡ []
+pub walk_end : (normalised : Bytes) (place : ℕ) → next normalised place ≡ None → steps_of (drop place normalised) ≡ []
 unfolding walked
 walk_end normalised place f = walk normalised place ∙ ap (walked normalised) f
 
 -- the pieces from there on
-pub piece-step : (normalised : Bytes) (place from to : ℕ) (then : Cursor) → next normalised place ≡ Step from to then
+pub piece-step : (normalised : Bytes) (place from to : ℕ) (then : Cursor) → next normalised place ≡ step_then from to then
     → worded (cut (is "|") (drop place normalised)) ≡ part from to normalised ∷ worded (cut (is "|") (drop then.at normalised))
 unfolding walked_pieces
 piece-step normalised place from to then f = walk-pieces normalised place ∙ ap (walked_pieces normalised) f
 
-pub piece-end : (normalised : Bytes) (place : ℕ) → next normalised place ≡ End → worded (cut (is "|") (drop place normalised)) ≡ []
+pub piece-end : (normalised : Bytes) (place : ℕ) → next normalised place ≡ None → worded (cut (is "|") (drop place normalised)) ≡ []
 unfolding walked_pieces
 piece-end normalised place f = walk-pieces normalised place ∙ ap (walked_pieces normalised) f

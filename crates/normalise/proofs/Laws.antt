@@ -1,4 +1,6 @@
 -- What `normalise` and `definition` return is what their promises name: the normal form, and the normalised definition, handed out.
+use Rattle.rules.specs.declared.Refusal.{Refusal}
+use Rattle.std.specs.Prelude.{Result}
 use mathlib.Core.Path.{◌≡◌, refl}
 use mathlib.Core.Bool.{true}
 use Prim.Native.Nat.{ℕ, ◌≤◌}
@@ -8,7 +10,6 @@ use Rattle.rules.specs.Text.Normal.{normal, normalise}
 use Rattle.rules.specs.Text.Comments.{stripped}
 use Rattle.rules.specs.Text.Reader.{definition, define}
 use Rattle.rules.specs.Text.Refusal.{answers, Writes, Lends}
-use Rattle.rules.specs.declared.Written.{Written}
 use Rattle.laws_text.specs.Entry.{lends-so}
 use Rattle.text.specs.Wrote.{Holds}
 use Rattle.text.proofs.Wrote.{wrote-front}
@@ -18,7 +19,7 @@ unfolding normalise
 is_normal t = refl
 
 -- the normal form, as it stands in a, handed out
-pub normalise-so : {t a out out' : Bytes} {n : ℕ} {r : Written} → length t ≤ 4096 → in_domain t ≡ true → Holds (normal t) n a → Lends (answers (take n a)) out r out'
+pub normalise-so : {t a out out' : Bytes} {n : ℕ} {r : Result ℕ Refusal} → length t ≤ 4096 → in_domain t ≡ true → Holds (normal t) n a → Lends (answers (take n a)) out r out'
     → Writes normalise t out r out'
 normalise-so {t} short domain h w = lends-so short domain (is_normal t) (rw (wrote-front h) at w)
 
@@ -27,6 +28,6 @@ unfolding define definition
 is-definition t = refl
 
 -- the normalised definition, likewise
-pub define-so : {t a out out' : Bytes} {n : ℕ} {r : Written} → length t ≤ 4096 → in_domain t ≡ true → Holds (normal (stripped t)) n a → Lends (answers (take n a)) out r out'
+pub define-so : {t a out out' : Bytes} {n : ℕ} {r : Result ℕ Refusal} → length t ≤ 4096 → in_domain t ≡ true → Holds (normal (stripped t)) n a → Lends (answers (take n a)) out r out'
     → Writes define t out r out'
 define-so {t} short domain h w = lends-so short domain (is-definition t) (rw (wrote-front h) at w)

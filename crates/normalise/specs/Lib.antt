@@ -1,3 +1,2 @@
 pub mod Calm
-pub mod Lines
 pub mod Table

@@ -1,40 +1,22 @@
 // Stripping the comments of a text, and normalising what is left. The Rust is `remove_comments` of src/token/mod.rs. Its branch
 // for a line that is a comment is not here: no text reaches it (laws_source/Branch).
-ghost use Rattle.std.specs.Prelude.{false, ◌++◌, ◌+◌, ◌*◌, ◌<◌, ◌≤◌, length, take};
-ghost use Rattle.rules.specs.Text.Comments.{newlines, lined, stripped};
+ghost use Rattle.std.specs.Prelude.{◌+◌, ◌*◌, ◌<◌, ◌≤◌, length};
+ghost use Rattle.rules.specs.Text.Comments.{newlines, uncommented, lined, stripped};
 ghost use Rattle.rules.specs.Text.Normal.{normal};
 ghost use Rattle.laws_text.specs.Sizes.{weight};
-ghost use Rattle.text.specs.Wrote.{Wrote, Holds};
-ghost use Rattle.normalise.specs.Lines.{left};
+ghost use Rattle.text.specs.Wrote.{Wrote, WroteAt, Holds};
 
 use crate::normal::normal_of;
 use text::{Edge, find, put, replace_into, trim};
 
-// Writes the rest of src, from within a line on, without comments and with a space for each newline, into dst from at. A
-// comment is passed at once, up to its newline.
-fn lines_from(src: &[u8], dst: &mut [u8], at: usize) -> usize
-    requires { at + length (left false src.now) ≤ length dst.old }
-    ensures { Wrote (take at dst.old ++ left false src.now) dst.old result dst.new }
+// Writes a line up to its comment, after a space, into dst from at.
+fn add_line(line: &[u8], dst: &mut [u8], at: usize) -> usize
+    requires { at + length (uncommented line.now) ≤ length dst.old }
+    ensures { WroteAt (uncommented line.now) dst.old at result dst.new }
 {
-    let mut o = at;
-    let mut i = 0;
-    while i < src.len() {
-        let b = src[i];
-        if b == 10 {
-            dst[o] = 32;
-            o += 1;
-            i += 1;
-        } else {
-            if b == 35 {
-                i = find(src, i + 1, b"\n");
-            } else {
-                dst[o] = b;
-                o += 1;
-                i += 1;
-            }
-        }
-    }
-    o
+    dst[at] = b' ';
+    let end = find(line, 0, b"#");
+    put(&line[..end], dst, at + 1)
 }
 
 // Writes the lines of src without their comments, each after a space.
@@ -42,8 +24,11 @@ pub fn lines_into(src: &[u8], dst: &mut [u8]) -> usize
     requires { length (lined src.now) ≤ length dst.old }
     ensures { Wrote (lined src.now) dst.old result dst.new }
 {
-    dst[0] = 32;
-    lines_from(src, dst, 1)
+    let mut o = 0;
+    for line in src.split(|b| *b == b'\n') {
+        o = add_line(line, dst, o);
+    }
+    o
 }
 
 // Writes the text with its line ends made newlines; a is room to work in. A text without a carriage return is copied.

@@ -7,7 +7,7 @@ ghost use Rattle.rules.specs.Text.Normal.{replacements, run, squeezed, continued
 ghost use Rattle.laws_text.specs.Sizes.{weight};
 ghost use Rattle.text.specs.Wrote.{Wrote, Holds};
 ghost use Rattle.normalise.specs.Table.{table};
-ghost use Rattle.normalise.specs.Calm.{kind, follows, calm_from};
+ghost use Rattle.normalise.specs.Calm.{sort, follows, calm_from};
 
 use text::{Edge, find, put, replace_from, replace_into, squeeze_into, trim};
 
@@ -64,75 +64,55 @@ fn cleaned(text: &[u8], a: &mut [u8], b: &mut [u8]) -> usize
     squeeze_into(&a[..n], b)
 }
 
-// What a byte is to `is_calm`: 0, plain; 1, one of `= : , | $`, next to which no space may stand; 2, a space; 3, a byte
-// that is not passed over.
-fn kind_of(b: u8) -> u8
-    ensures { result ≡ kind b }
-{
-    if b == 32 {
-        return 2;
-    }
-    if b < 32 {
-        return 3;
-    }
-    if 127 < b {
-        return 3;
-    }
-    if b == 60 {
-        return 3;
-    }
-    if b == 62 {
-        return 3;
-    }
-    if b == 61 {
-        return 1;
-    }
-    if b == 58 {
-        return 1;
-    }
-    if b == 44 {
-        return 1;
-    }
-    if b == 124 {
-        return 1;
-    }
-    if b == 36 {
-        return 1;
-    }
-    0
+// What a byte is to `is_calm`.
+#[derive(Clone, Copy, Drop)]
+enum Sort {
+    Plain,
+    // one of `= : , | $`, next to which no space may stand
+    Mark,
+    Space,
+    // a byte that is not passed over
+    Other,
 }
 
-// May a byte of kind k follow one of the kind `last`?
-fn may_follow(last: u8, k: u8) -> bool
-    ensures { result ≡ follows last k }
+#[tactic(auto, unfolding(crate::specs::Calm::sort))]
+fn sort_of(b: u8) -> Sort
+    ensures { result ≡ sort b }
 {
-    if 2 < k {
-        return false;
+    match b {
+        b' ' => Sort::Space,
+        0..=31 | 128..=255 | b'<' | b'>' => Sort::Other,
+        b'=' | b':' | b',' | b'|' | b'$' => Sort::Mark,
+        _ => Sort::Plain,
     }
-    if k == 2 {
-        return last == 0;
+}
+
+// May a byte of one sort follow one of the sort `last`?
+#[tactic(auto, unfolding(crate::specs::Calm::follows, crate::specs::Calm::is_plain, crate::specs::Calm::is_space))]
+fn may_follow(last: Sort, next: Sort) -> bool
+    ensures { result ≡ follows last next }
+{
+    match next {
+        Sort::Plain => true,
+        Sort::Mark => !matches!(last, Sort::Space),
+        Sort::Space => matches!(last, Sort::Plain),
+        Sort::Other => false,
     }
-    if k == 1 {
-        return last != 2;
-    }
-    true
 }
 
 // Is it seen at once that the text is its own normal form? Most steps of a normalised text are.
 fn is_calm(text: &[u8]) -> bool
-    ensures { result ≡ calm_from 2 text.now }
+    ensures { result ≡ calm_from Sort.Space text.now }
 {
-    let mut last: u8 = 2;
-    let mut i = 0;
-    while i < text.len() {
-        let k = kind_of(text[i]);
-        if !may_follow(last, k) {
+    let mut last = Sort::Space;
+    for b in text {
+        let next = sort_of(*b);
+        if !may_follow(last, next) {
             return false;
         }
-        last = k;
-        i += 1;
+        last = next;
     }
-    last == 0
+    matches!(last, Sort::Plain)
 }
 
 // The normal form of a text, worked out, into the first bytes of a; b is room to work in. `>` and `<` grow tenfold, and no

@@ -1,4 +1,4 @@
--- Laws of single arguments (size, sign, kind), of loops over a list, and of texts written one after the other.
+-- Laws of single arguments (axis, sign, kind), of loops over a list, and of texts written one after the other.
 pub mod AxisAt
 pub mod EachInTurn
 pub mod InTurn
@@ -7,5 +7,4 @@ pub mod OfKind
 pub mod OrderTest
 pub mod Rest
 pub mod SignMade
-pub mod Sizes
 pub mod Spelt

@@ -5,7 +5,7 @@ use mathlib.Core.Bool.{Bool, true, false}
 use mathlib.Core.List.{List, [], ◌∷◌, ◌++◌, map}
 use Prim.Native.Nat.{ℕ, zero, suc, ◌≤◌, ◌<◌}
 use native.Mathlib.Omega.{arith}
-use borrow.Author.Tests.{lt-ltb, le-ltb, leb-true}
+use borrow.Author.Tests.{lt-ltb, le-ltb}
 use lib.ListN.{length, take, get_or}
 use lib.Dec.{ltb}
 use lib.IntN.{ℤ}
@@ -14,7 +14,6 @@ use Rattle.rules.specs.Text.Lists.{all_of}
 use Rattle.rules.specs.Text.Bytes.{Bytes, after_each, joined_by}
 use Rattle.rules.specs.Text.Decimal.{minus}
 use Rattle.rules.specs.Operators.Arguments.{size, spelling, listing}
-use Rattle.rules.specs.Pipeline.Record.{nine_digits}
 use Rattle.text.specs.Wrote.{Wrote, WroteAt}
 use Rattle.rules.specs.Text.Numerals.{digits}
 use Rattle.laws_lists.specs.Tests.{and_left, and_right}
@@ -35,10 +34,6 @@ all-at test (x ∷ l) zero d h a = and_left (test x) (all_of test l) a
 all-at test (x ∷ l) (suc i) d h a = all-at test l i d (omega arith) (and_right (test x) (all_of test l) a)
 
 -- ---- a number
-
-pub nine-less : (x : ℤ) {m : ℕ} → m ≡ size x → nine_digits x ≡ true → m < 1000000000
-unfolding nine_digits
-nine-less x e h = omega (arith, leb-true (size x) 999999999 h)
 
 module _ (x : ℤ) {m : ℕ} (e : m ≡ size x) {dst : Bytes} {at : ℕ} (h : Room (spelling x) at dst) where
   module _ (s : minus x ≡ true) where

@@ -1,16 +1,15 @@
--- The tests of one argument, by what the code has found out; and a test that the code turns.
-use mathlib.Core.Path.{◌≡◌, refl}
-use Prim.Native.Nat.{ℕ}
-use mathlib.Core.Bool.{true, false, ◌&&◌}
-use lib.Dec.{leb}
-use lib.IntN.{ℤ}
+-- A place, by the two tests of the code.
+use Rattle.std.proofs.Common.{◌≡◌, refl, true, false, pos, negsuc, ℤ}
+use lib.Signed.{le_z}
 use Rattle.rules.specs.Text.Decimal.{minus}
-use Rattle.rules.specs.Operators.Arguments.{size, is_place}
+use Rattle.rules.specs.Operators.Arguments.{is_place}
 
-pub place-minus : (x : ℤ) → minus x ≡ true → false ≡ is_place x
-unfolding is_place
-place-minus x e = rw e refl
+pub place-from : (x : ℤ) → le_z (pos 1) x ≡ true → le_z x (pos 4) ≡ is_place x
+unfolding is_place minus
+place-from (pos n) h = rw (h) refl
+place-from (negsuc n) h = absurd (cc h)
 
-pub place-plain : (x : ℤ) (m : ℕ) → m ≡ size x → minus x ≡ false → (leb 1 m && leb m 4) ≡ is_place x
-unfolding is_place
-place-plain x m h e = rw (e, h) refl
+pub place-below : (x : ℤ) → le_z (pos 1) x ≡ false → le_z (pos 1) x ≡ is_place x
+unfolding is_place minus
+place-below (pos n) h = rw h refl
+place-below (negsuc n) h = refl

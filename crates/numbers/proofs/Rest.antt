@@ -2,12 +2,13 @@
 use mathlib.Core.Path.{◌≡◌, refl, sym, ap, ◌∙◌, subst}
 use Prim.Native.Nat.{ℕ, suc, ◌+◌, ◌-◌, ◌≤◌, ◌<◌}
 use native.Mathlib.Nat.{le_refl}
-use mathlib.Core.Bool.{Bool, true, false}
+use mathlib.Core.Bool.{Bool, ◌&&◌, ◌||◌}
 use mathlib.Core.List.{List, [], ◌∷◌}
 use native.Mathlib.Omega.{arith}
 use native.Mathlib.Numerals.{add-one}
 use lib.ListN.{length, get_or, take, drop, length-drop, drop_of_length-le}
 use lib.Seq.{take_all, drop-cons}
+use Rattle.std.specs.List.{list_all, list_any}
 use Rattle.rules.specs.Text.Lists.{all_of, any_of}
 
 module _ {A R : Type 0} where
@@ -37,23 +38,6 @@ module _ {A R : Type 0} where
   pub rest_end : {f : List A → R} {l : List A} {i : ℕ} {whole : R} → Rest f l i whole → length l ≤ i → f [] ≡ whole
   rest_end {f} {l} {i} r h = sym (r.same ∙ ap f (drop_of_length-le l {i = i} h))
 
-module _ {A : Type 0} where
-  pub all_so : (p : A → Bool) (x : A) (l : List A) → p x ≡ true → all_of p (x ∷ l) ≡ all_of p l
-  unfolding all_of
-  all_so p x l e = rw e
-
-  pub all-not : (p : A → Bool) (x : A) (l : List A) → p x ≡ false → all_of p (x ∷ l) ≡ false
-  unfolding all_of
-  all-not p x l e = rw e
-
-  pub any-so : (p : A → Bool) (x : A) (l : List A) → p x ≡ true → any_of p (x ∷ l) ≡ true
-  unfolding any_of
-  any-so p x l e = rw e
-
-  pub any-not : (p : A → Bool) (x : A) (l : List A) → p x ≡ false → any_of p (x ∷ l) ≡ any_of p l
-  unfolding any_of
-  any-not p x l e = rw e
-
 -- ---- what is left of a row
 
 pub rest_of : {A : Type 0} (l : List A) (i : ℕ) → take (length l - i) (drop i l) ≡ drop i l
@@ -61,3 +45,16 @@ rest_of l i = take_all (length l - i) (drop i l) (subst (λ (k : ℕ). k ≤ len
 
 pub rest-behind : {A : Type 0} (l : List A) (i : ℕ) → take (length l - (i + 1)) (drop (i + 1) l) ≡ drop (suc i) l
 rest-behind l i = rest_of l (i + 1) ∙ ap (λ (k : ℕ). drop k l) (add-one i)
+
+-- ---- the library's tests of all and of any
+
+module _ {A : Type 0} where
+  pub all_is : (p : A → Bool) (l : List A) → list_all p l ≡ all_of p l
+  unfolding all_of
+  all_is p [] = refl
+  all_is p (x ∷ l) = ap (λ (b : Bool). p x && b) (all_is p l)
+
+  pub any_is : (p : A → Bool) (l : List A) → list_any p l ≡ any_of p l
+  unfolding any_of
+  any_is p [] = refl
+  any_is p (x ∷ l) = ap (λ (b : Bool). p x || b) (any_is p l)

@@ -2,6 +2,7 @@
 use mathlib.Core.Path.{◌≡◌, refl, sym, ap, ◌∙◌}
 use mathlib.Core.List.{[], ◌∷◌, ◌++◌, append-nil}
 use Prim.Native.Nat.{ℕ, zero, suc, ◌+◌, ◌*◌, ◌/◌, ◌%◌, ◌-◌, ◌≤◌, ◌<◌}
+use native.Mathlib.Nat.{mod-eq_of_lt}
 use native.Mathlib.Omega.{arith}
 use lib.ListN.{length, take, drop, get_or, set, length-set, length-drop, take-append-drop, drop_of_length-le}
 use lib.Seq.{drop-cons, drop_at, set_at, length-take-le, append_snoc, take_all}
@@ -14,19 +15,20 @@ unfoldable pub tens : ℕ → ℕ
 tens zero = 1
 tens (suc k) = 10 * tens k
 
--- the buffer has the last digits of n behind place k, and m is what is left of it
+-- the buffer has the last digits of n from place k on, and m is what is left of it: something, unless none is written yet
 pub record Spelling (n m k : ℕ) (buf : Bytes) : Type 0 where
-  pub within : k ≤ 19
+  pub within : k ≤ 20
   pub size : length buf ≡ 20
-  pub below : m < tens (suc k)
-  pub right : digits m ++ drop (suc k) buf ≡ digits n
+  pub below : m < tens k
+  pub some : k < 20 → 1 ≤ m
+  pub right : digits m ++ drop k buf ≡ digits n
 
-pub spelling-start : (n : ℕ) (buf : Bytes) → n < 18446744073709551616 → length buf ≡ 20 → Spelling n n 19 buf
+pub spelling-start : (n : ℕ) (buf : Bytes) → n < 18446744073709551616 → length buf ≡ 20 → Spelling n n 20 buf
 spelling-start n buf h l =
     let e : tens 20 ≡ 100000000000000000000 = unfold tens in refl in
     let k : length buf ≤ 20 = omega (arith, l) in
     let z : drop 20 buf ≡ [] = drop_of_length-le buf k in
-    record { within = omega arith; size = l; below = omega (arith, e, h); right = ap (λ (x : Bytes). digits n ++ x) z ∙ append-nil (digits n) }
+    record { within = omega arith; size = l; below = omega (arith, e, h); some = λ h. absurd (omega (arith, h)); right = ap (λ (x : Bytes). digits n ++ x) z ∙ append-nil (digits n) }
 
 -- what is written at a place is what the rest begins with
 drop-set : (l : Bytes) (k v : ℕ) → k < length l → drop k (set l k v) ≡ v ∷ drop (suc k) l
@@ -35,52 +37,59 @@ drop-set l k v h =
     let n : length (take k l) ≡ k = length-take-le k l (omega arith) in
     ap (λ (x : Bytes). drop k (set x k v)) e ∙ (ap (drop k) (set_at (take k l) (get_or l k 0) (drop (suc k) l) v k n) ∙ drop_at (take k l) (v ∷ drop (suc k) l) k n)
 
-again-at : (n m j : ℕ) (buf : Bytes) → Spelling n m (suc j) buf → 10 ≤ m → Spelling n (m / 10) j (set buf (suc j) (48 + m % 10))
+-- one more digit stands before the others
+digit-at : (n m j : ℕ) (buf : Bytes) → Spelling n m (suc j) buf → drop j (set buf j (48 + m % 10)) ≡ (48 + m % 10) ∷ drop (suc j) buf
+digit-at n m j buf s = drop-set buf j (48 + m % 10) (omega (arith, s.within, s.size))
+
+again-at : (n m j : ℕ) (buf : Bytes) → Spelling n m (suc j) buf → 1 ≤ m / 10 → Spelling n (m / 10) j (set buf j (48 + m % 10))
 again-at n m j buf s h =
-    let l : suc j < length buf = omega (arith, s.within, s.size) in
-    let t : tens (suc (suc j)) ≡ 10 * tens (suc j) = unfold tens in refl in
+    let t : tens (suc j) ≡ 10 * tens j = unfold tens in refl in
+    let g : 10 ≤ m = omega (arith, h) in
     record {
       within = omega (arith, s.within);
-      size = length-set {A = ℕ} buf (suc j) (48 + m % 10) ∙ s.size;
+      size = length-set {A = ℕ} buf j (48 + m % 10) ∙ s.size;
       below = omega (arith, s.below, t);
+      some = λ _. h;
       right =
-          ap (λ (x : Bytes). digits (m / 10) ++ x) (drop-set buf (suc j) (48 + m % 10) l)
-          ∙ (sym (append_snoc (digits (m / 10)) (48 + m % 10) (drop (suc (suc j)) buf))
-          ∙ (ap (λ (x : Bytes). x ++ drop (suc (suc j)) buf) (sym (digits_more m h)) ∙ s.right));
+          ap (λ (x : Bytes). digits (m / 10) ++ x) (digit-at n m j buf s)
+          ∙ (sym (append_snoc (digits (m / 10)) (48 + m % 10) (drop (suc j) buf))
+          ∙ (ap (λ (x : Bytes). x ++ drop (suc j) buf) (sym (digits_more m g)) ∙ s.right));
     }
 
-two_digits : (m : ℕ) → 10 ≤ m → m < tens 1 → ⊥
-unfolding tens
-two_digits m h b = omega (arith, b, h)
+end-at : (n m j : ℕ) (buf : Bytes) → Spelling n m (suc j) buf → m < 10 → Spelt n (set buf j (48 + m % 10)) j
+end-at n m j buf s h =
+    let e : m % 10 ≡ m = mod-eq_of_lt h in
+    record {
+      within = omega (arith, s.within);
+      size = length-set {A = ℕ} buf j (48 + m % 10) ∙ s.size;
+      right =
+          digit-at n m j buf s
+          ∙ (ap (λ (x : ℕ). (48 + x) ∷ drop (suc j) buf) e ∙ (ap (λ (x : Bytes). x ++ drop (suc j) buf) (sym (digits-one m h)) ∙ s.right));
+    }
 
 module _ {n m k : ℕ} {buf : Bytes} (s : Spelling n m k buf) where
-  pub spelling-place : k < length buf
-  spelling-place = omega (arith, s.within, s.size)
+  module _ {v : ℕ} (l : 0 < k) (e : v ≡ 48 + m % 10) where
+    pub spelling-again : (m / 10 ≡ 0 → ⊥) → Spelling n (m / 10) (k - 1) (set buf (k - 1) v)
+    spelling-again h = rw e (go k l s)
+      where
+        go : (j : ℕ) → 0 < j → Spelling n m j buf → Spelling n (m / 10) (j - 1) (set buf (j - 1) (48 + m % 10))
+        go zero l t = absurd (omega (arith, l))
+        go (suc j) l t = let z : suc j - 1 ≡ j = omega arith in rw z (again-at n m j buf t (omega (arith, h)))
 
-  pub spelling-some : 10 ≤ m → 1 ≤ k
-  unfolding tens
-  spelling-some h = go k s.below
-    where
-      go : (j : ℕ) → m < tens (suc j) → 1 ≤ j
-      go zero b = omega (arith, b, h)
-      go (suc j) b = omega arith
+    pub spelling-end : m / 10 ≡ 0 → Spelt n (set buf (k - 1) v) (k - 1)
+    spelling-end h = rw e (go k l s)
+      where
+        go : (j : ℕ) → 0 < j → Spelling n m j buf → Spelt n (set buf (j - 1) (48 + m % 10)) (j - 1)
+        go zero l t = absurd (omega (arith, l))
+        go (suc j) l t = let z : suc j - 1 ≡ j = omega arith in rw z (end-at n m j buf t (omega (arith, h)))
 
-  pub spelling-again : {v : ℕ} → 10 ≤ m → v ≡ 48 + m % 10 → Spelling n (m / 10) (k - 1) (set buf k v)
-  spelling-again {v} h e = rw e (go k s)
-    where
-      go : (j : ℕ) → Spelling n m j buf → Spelling n (m / 10) (j - 1) (set buf j (48 + m % 10))
-      go zero t = absurd (two_digits m h t.below)
-      go (suc j) t = let z : suc j - 1 ≡ j = omega arith in rw z (again-at n m j buf t h)
-
-  pub spelling-end : {v : ℕ} → m < 10 → v ≡ 48 + m → Spelt n (set buf k v) k
-  spelling-end {v} h e =
-      rw e (record {
-        within = omega (arith, s.within);
-        size = length-set {A = ℕ} buf k (48 + m) ∙ s.size;
-        right =
-            drop-set buf k (48 + m) spelling-place
-            ∙ (ap (λ (x : Bytes). x ++ drop (suc k) buf) (sym (digits-one m h)) ∙ s.right);
-      })
+  -- twenty places are enough
+  pub spelling-none : k ≤ 0 → ⊥
+  spelling-none h =
+      let t : tens 0 ≡ 1 = unfold tens in refl in
+      let z : k ≡ 0 = omega (arith, h) in
+      let b : m < tens 0 = rw z at s.below in
+      omega (arith, b, t, s.some (omega (arith, h)))
 
 -- so the caller finds the digits at the end of the buffer
 pub spelt-front : {n k : ℕ} {buf : Bytes} → Spelt n buf k → take (20 - k) (drop k buf) ≡ digits n

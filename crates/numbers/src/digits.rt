@@ -25,23 +25,24 @@ fn digit(n: usize) -> u8
     48 + n as u8
 }
 
-// Spells n at the end of a buffer of twenty bytes, the last digit first, and answers the place of the first.
-fn spell(n: usize, buf: &mut [u8]) -> usize
-    requires { length buf.old ≡ 20 }
+// Spells n at the end of a buffer of twenty bytes, the last digit first, and answers the place of the first. Twenty digits are enough for
+// every number of 64 bits.
+fn spell(n: usize, buf: &mut [u8; 20]) -> usize
     ensures { Spelt n buf.new result }
 {
     let mut m = n;
-    let mut k = 19;
-    while 10 <= m {
+    for k in (0..20).rev() {
         buf[k] = digit(m % 10);
-        m = m / 10;
-        k -= 1;
+        m /= 10;
+        if m == 0 {
+            return k;
+        }
     }
-    buf[k] = digit(m);
-    k
+    0
 }
 
 // The digits of a number.
+// Stays: a `Display` writes to a formatter, which tells no place behind what it wrote; a writer of its own over the lent buffer would be longer.
 pub fn put_digits(n: usize, out: &mut [u8], at: usize) -> usize
     requires { at + length (digits n) ≤ length out.old }
     ensures { WroteAt (digits n) out.old at result out.new }

@@ -10,5 +10,5 @@ mod tests;
 pub use digits::{put_byte, put_digits};
 pub use lists::put_list;
 pub use order::is_order;
-pub use signs::{axis_at, is_minus, minus_at, signed, size_at, size_of};
-pub use tests::{Kind, are_of, is_at};
+pub use signs::{axis_of, is_minus, signed, size_of};
+pub use tests::{Kind, are_of, is_of};

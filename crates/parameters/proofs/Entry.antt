@@ -1,17 +1,16 @@
--- Entering a part into a table: what each way of it gives.
-use mathlib.Core.Path.{◌≡◌, refl, sym, ap, ◌∙◌}
-use mathlib.Core.Bool.{true, false, false≢true}
-use mathlib.Core.List.{List, [], ◌∷◌, ◌++◌}
-use Prim.Native.Nat.{ℕ, zero, suc, ◌≤◌, ◌<◌}
-use native.Mathlib.Decide.{dec_lt}
-use native.Mathlib.Numerals.{add-one}
+-- Entering a part into a table: what stands in it then, and that it is within the text.
+use mathlib.Core.Path.{◌≡◌, sym, ap, ◌∙◌}
+use mathlib.Core.List.{List, [], ◌∷◌, ◌++◌, append_assoc}
+use Prim.Native.Nat.{ℕ, zero, suc, ◌+◌, ◌-◌, ◌≤◌, ◌<◌}
 use native.Mathlib.Omega.{arith}
-use lib.ListN.{length, take, drop, set, length-append, length-drop, length-set, drop_of_length-le}
-use lib.Seq.{length-take-le, take-set-lt, set_split, drop-drop}
+use lib.ListN.{length, take, drop, set, length-set, length-drop}
+use lib.Seq.{length-take-le, take-take, take-set-lt}
+use Rattle.std.specs.List.{insert, copy_within}
+use Rattle.std.proofs.lemmas.List.{take_more_set, set-append_left, drop-take}
+use Rattle.std.proofs.lemmas.List.Edits.{take-paste}
 use Rattle.rules.specs.Text.Bytes.{Bytes}
-use Rattle.rules.specs.Text.Parameters.{precedes, entered_by}
 use Rattle.parameters.specs.declared.table.Part.{Part}
-use Rattle.parameters.specs.Parts.{Parts, Entered, key_of, held, Within, AllWithin, Good, goes_first, is_first, parts_with, Place, Inserted, Enters}
+use Rattle.parameters.specs.Parts.{Parts, held, Within, AllWithin, Good}
 use Rattle.parameters.proofs.Places.{held-length}
 
 -- ---- within the text
@@ -33,101 +32,54 @@ within-drop s l zero a = a
 within-drop s [] (suc i) a = tt
 within-drop s (x ∷ l) (suc i) a = within-drop s l i a.1
 
--- ---- what is entered, by the place
+within-set : (s : Bytes) (l : List Part) (i : ℕ) (p : Part) → Within s p → AllWithin s l → AllWithin s (set l i p)
+unfolding AllWithin
+within-set s [] i p w a = a
+within-set s (x ∷ l) zero p w a = (w, a.1)
+within-set s (x ∷ l) (suc i) p w a = (a.0, within-set s l i p w a.1)
 
-entered-there : (s : Bytes) (p : Part) (l : List Part) → is_first s p l ≡ true → parts_with s p l ≡ p ∷ drop 1 l
-unfolding entered_by is_first
-entered-there s p [] e = absurd (false≢true e)
-entered-there s p (q ∷ l) e = rw e
+-- ---- in the place of another
 
-entered-new : (s : Bytes) (p : Part) (l : List Part) → goes_first s p l ≡ true → is_first s p l ≡ false → parts_with s p l ≡ p ∷ l
-unfolding entered_by is_first goes_first
-entered-new s p [] e f = refl
-entered-new s p (q ∷ l) e f = let g : precedes (key_of s p) (key_of s q) ≡ true = rw f at e in rw (f, g)
+module _ {s : Bytes} {t : Parts} {p : Part} {i : ℕ} (g : Good s t) (w : Within s p) (h : i < length (held t)) where
+  pub put-held : take t.n (set t.parts i p) ≡ set (held t) i p
+  put-held = take-set-lt t.n t.parts i p (omega (arith, held-length g))
 
--- ---- each way of entering
+  pub put-good : Good s (record { parts = set t.parts i p; n = t.n })
+  put-good = record {
+    fits = g.fits;
+    size = length-set t.parts i p ∙ g.size;
+    within = rw put-held (within-set s (held t) i p w g.within);
+  }
 
--- the table with it is at hand
-enters-of : {s : Bytes} {t u : Parts} {p : Part} → parts_with s p (held t) ≡ held u → Good s u → Enters s t p (record { full = false; table = u })
-enters-of {s} {t} {u} {p} e g = record { room = λ h. refl; table = λ h. sym e; good = λ h. g; no_room = λ h. absurd (longer h) }
-  where
-    longer : 32 < length (parts_with s p (held t)) → ⊥
-    longer h = let k : length (parts_with s p (held t)) ≡ u.n = ap length e ∙ held-length g in omega (arith, g.fits)
+-- ---- as a new one, in front of what is from its place on
 
-module _ {s : Bytes} {t : Parts} {p : Part} {i : ℕ} (g : Good s t) (w : Within s p) (m : Place s (held t) p i) where
-  pub place-within : i ≤ t.n
-  place-within = omega (arith, m.within, held-length g)
+moved : (l : List Part) (n i : ℕ) (p : Part) → i ≤ n → n < length l → take (n + 1) (set (copy_within l i n (i + 1)) i p) ≡ insert (take n l) i p
+moved l n i p h k =
+    let x = take (n - i) (drop i l) in
+    let e : n + 1 ≡ i + 1 + (n - i) = omega arith in
+    let m : n ≡ i + (n - i) = omega arith in
+    let a : take (n + 1) (set (copy_within l i n (i + 1)) i p) ≡ set (take (n + 1) (copy_within l i n (i + 1))) i p =
+    take-set-lt (n + 1) (copy_within l i n (i + 1)) i p (omega arith) in
+    let b : take (n + 1) (copy_within l i n (i + 1)) ≡ take (i + 1) l ++ x =
+    ap (λ (j : ℕ). take j (copy_within l i n (i + 1))) e ∙ take-paste l (i + 1) (drop i l) (n - i) (omega arith) (omega (arith, length-drop i l)) in
+    let c : set (take (i + 1) l ++ x) i p ≡ set (take (i + 1) l) i p ++ x = set-append_left (take (i + 1) l) x i p (omega (arith, length-take-le (i + 1) l (omega arith))) in
+    let d : set (take (i + 1) l) i p ≡ take i l ++ p ∷ [] = sym (take-set-lt (i + 1) l i p (omega arith)) ∙ take_more_set l i p (omega arith) in
+    let f : drop i (take n l) ≡ x = ap (λ (j : ℕ). drop i (take j l)) m ∙ drop-take i (n - i) l in
+    a
+    ∙ ap (λ (r : List Part). set r i p) b
+    ∙ c
+    ∙ ap (λ (r : List Part). r ++ x) d
+    ∙ append_assoc (take i l) (p ∷ []) x
+    ∙ sym (ap (λ (r : List Part). r ++ p ∷ drop i (take n l)) (take-take i n l h) ∙ ap (λ (r : List Part). take i l ++ p ∷ r) f)
 
-  pub there-inside : is_first s p (drop i (held t)) ≡ true → i < t.n
-  unfolding is_first
-  there-inside e = elim (dec_lt i t.n) [ yes h ↦ h | no h ↦ absurd (none (omega arith)) ]
-    where
-      none : t.n ≤ i → ⊥
-      none h =
-          let k : length (held t) ≤ i = omega (arith, held-length g) in
-          let f : is_first s p [] ≡ true = rw (drop_of_length-le (held t) k) at e in
-          false≢true f
+module _ {s : Bytes} {t : Parts} {p : Part} {i : ℕ} (g : Good s t) (w : Within s p) (h : i ≤ length (held t)) (k : ¬ (t.n ≡ 32)) {u : List Part} (e : u ≡ copy_within t.parts i t.n (i + 1)) where
+  pub insert-held : take (t.n + 1) (set u i p) ≡ insert (held t) i p
+  insert-held = rw e (moved t.parts t.n i p (omega (arith, held-length g)) (omega (arith, g.fits, g.size, k)))
 
-  -- the parts with it, and that they are within the text
-  put_in : (k : List Part) → parts_with s p (drop i (held t)) ≡ p ∷ k → parts_with s p (held t) ≡ take i (held t) ++ p ∷ k
-  put_in k e = m.skips ∙ ap (λ (r : List Part). take i (held t) ++ r) e
-
-  all-put-in : (k : List Part) → AllWithin s k → AllWithin s (take i (held t) ++ p ∷ k)
+  pub insert-good : length u ≡ length t.parts → Good s (record { parts = set u i p; n = t.n + 1 })
   unfolding AllWithin
-  all-put-in k a = within-append s (take i (held t)) (p ∷ k) (within-take s (held t) i g.within) (w, a)
-
-  -- in the place of the part with its key
-  pub enters-there : {u : Parts} → is_first s p (drop i (held t)) ≡ true → (u.n ≡ t.n) × (u.parts ≡ set t.parts i p) → Enters s t p (record { full = false; table = u })
-  enters-there {u} e c =
-      let h = there-inside e in
-      let k : i < length (held t) = omega (arith, held-length g) in
-      let v : held u ≡ take i (held t) ++ p ∷ drop (suc i) (held t) = rw (c.0, c.1, take-set-lt t.n t.parts i p h) (set_split (held t) i p k) in
-      let d : drop 1 (drop i (held t)) ≡ drop (suc i) (held t) = drop-drop 1 i (held t) ∙ rw (add-one i) in
-      let z = put_in (drop (suc i) (held t)) (entered-there s p (drop i (held t)) e ∙ rw d) in
-      enters-of (z ∙ sym v) (record {
-        fits = omega (arith, c.0, g.fits);
-        size = ap length c.1 ∙ length-set t.parts i p ∙ g.size;
-        within = rw v (all-put-in (drop (suc i) (held t)) (within-drop s (held t) (suc i) g.within));
-      })
-
-  module _ (e : is_first s p (drop i (held t)) ≡ false) where
-    new_is : parts_with s p (held t) ≡ take i (held t) ++ p ∷ drop i (held t)
-    new_is = put_in (drop i (held t)) (entered-new s p (drop i (held t)) m.goes e)
-
-    -- as a new one, where there is room
-    pub enters-new : {u : Parts} → t.n < 32 → Inserted t i p u → Enters s t p (record { full = false; table = u })
-    enters-new {u} h c = enters-of (new_is ∙ sym c.moved) (record {
-      fits = omega (arith, c.count);
-      size = c.size ∙ g.size;
-      within = rw c.moved (all-put-in (drop i (held t)) (within-drop s (held t) i g.within));
-    })
-
-    -- and where there is none
-    new-length : length (parts_with s p (held t)) ≡ suc t.n
-    new-length =
-        let l = held t in
-        ap length new_is
-        ∙ length-append (take i l) (p ∷ drop i l)
-        ∙ rw (length-take-le i l m.within, length-drop i l) (omega (arith, m.within, held-length g))
-
-    pub enters-full : {u : Parts} → 32 ≤ t.n → Enters s t p (record { full = true; table = u })
-    enters-full {u} h = record { room = λ k. absurd (short k); table = λ k. absurd (short k); good = λ k. absurd (short k); no_room = λ k. refl }
-      where
-        short : length (parts_with s p (held t)) ≤ 32 → ⊥
-        short k = omega (arith, new-length)
-
--- ---- what a caller learns
-
-module _ {s : Bytes} {t : Parts} {p : Part} {r : Entered} (m : Enters s t p r) where
-  pub enters-room : r.full ≡ false → length (parts_with s p (held t)) ≤ 32
-  enters-room e = elim (dec_lt 32 (length (parts_with s p (held t)))) [ yes h ↦ absurd (false≢true (sym e ∙ m.no_room h)) | no h ↦ omega arith ]
-
-  pub enters-no-room : r.full ≡ true → 32 < length (parts_with s p (held t))
-  enters-no-room e = elim (dec_lt 32 (length (parts_with s p (held t)))) [ yes h ↦ h | no h ↦ absurd (false≢true (sym (m.room (omega arith)) ∙ e)) ]
-
-  -- the table, where there is room
-  pub enters-table : r.full ≡ false → held r.table ≡ parts_with s p (held t)
-  enters-table e = m.table (enters-room e)
-
-  pub enters-good : r.full ≡ false → Good s r.table
-  enters-good e = m.good (enters-room e)
+  insert-good l = record {
+    fits = omega (arith, g.fits, k);
+    size = length-set u i p ∙ l ∙ g.size;
+    within = rw insert-held (within-append s (take i (held t)) (p ∷ drop i (held t)) (within-take s (held t) i g.within) (w, within-drop s (held t) i g.within));
+  }

@@ -1,4 +1,6 @@
 -- `parameters` on its way: the normal form, with `_nametrue` behind it, has room, and what is replied of it is what the promise names.
+use Rattle.rules.specs.declared.Refusal.{Refusal}
+use Rattle.std.specs.Prelude.{Result}
 use mathlib.Core.Path.{◌≡◌, refl, sym, ap, ◌∙◌}
 use mathlib.Core.Bool.{true}
 use mathlib.Core.List.{◌++◌}
@@ -10,7 +12,6 @@ use Rattle.rules.specs.Text.Bytes.{Bytes, in_domain}
 use Rattle.rules.specs.Text.Refusal.{Writes, Lends}
 use Rattle.rules.specs.Text.Normal.{normal}
 use Rattle.rules.specs.Text.Parameters.{parameters_of, parameters}
-use Rattle.rules.specs.declared.Written.{Written}
 use Rattle.laws_text.specs.Entry.{lends-so}
 use Rattle.laws_text.specs.Sizes.{normal-length}
 use Rattle.text.specs.Wrote.{Wrote, Holds}
@@ -36,5 +37,5 @@ module _ (t : Bytes) {n : ℕ} {a₁ : Bytes} (w : Holds (normal t) n a₁) wher
     front-normal : take n (take m a₂) ≡ normal t
     front-normal = ap (take n) (front t w v) ∙ take_at (normal t) spelled n (sym w.count)
 
-    pub parameters-so : {out out' : Bytes} {r : Written} → length t ≤ 4096 → in_domain t ≡ true → Lends (text_reply (take n (take m a₂))) out r out' → Writes parameters t out r out'
+    pub parameters-so : {out out' : Bytes} {r : Result ℕ Refusal} → length t ≤ 4096 → in_domain t ≡ true → Lends (text_reply (take n (take m a₂))) out r out' → Writes parameters t out r out'
     parameters-so h d x = lends-so h d (is-parameters t) (rw front-normal at x)

@@ -2,13 +2,11 @@ pub mod Cut
 pub mod EnterAll
 pub mod Entry
 pub mod Growth
-pub mod Insertion
 pub mod Laws
 pub mod Lines
 pub mod Order
 pub mod Places
 pub mod Replies
-pub mod Rows
 pub mod Spelt
 pub mod Spots
 pub mod Tabled

@@ -1,50 +1,43 @@
--- The order of texts: the invariant of its loop, and its laws.
-use mathlib.Core.Path.{◌≡◌, refl, sym, ◌∙◌}
-use mathlib.Core.Bool.{false, or-false}
+-- The order of texts: what `cmp` answers of two says whether they are the same, and which comes before.
+use mathlib.Core.Path.{◌≡◌, refl}
+use mathlib.Core.Bool.{true, false}
 use mathlib.Core.List.{[], ◌∷◌}
-use Prim.Native.Nat.{ℕ, ◌+◌, ◌≤◌, ◌<◌}
-use native.Mathlib.Decide.{dec_lt}
+use Prim.Native.Nat.{ℕ, ◌<◌}
 use native.Mathlib.Omega.{arith}
 use borrow.Author.Tests.{lt-ltb, le-ltb, eq-eqb, ne_eqb}
-use lib.ListN.{length, drop, get_or, drop_of_length-le}
-use lib.Dec.{ltb}
-use Rattle.rules.specs.Text.Bytes.{Bytes}
+use Rattle.std.specs.Ordering.{nat_cmp, ordering_then, MatchOrdering}
+use Rattle.std.specs.Cmp.{ranks}
+use Rattle.std.specs.Cmp.Lexicographic.{slice_cmp}
+use Rattle.std.specs.declared.cmp.Ordering.{Ordering}
+use Rattle.std.specs.declared.cmp.Ordering.TheVariants.{Less, Equal, Greater}
+use Rattle.rules.specs.Text.Bytes.{Bytes, same}
 use Rattle.rules.specs.Text.Parameters.{precedes}
-use Rattle.text.proofs.RunEnd.{drop-next}
 
--- the first i bytes of both are the same
-pub record Before (a b : Bytes) (i : ℕ) : Type 0 where
-  pub within_a : i ≤ length a
-  pub within_b : i ≤ length b
-  pub so_far : precedes a b ≡ precedes (drop i a) (drop i b)
+-- the first comes before, they are the same, or it comes behind
+abbrev pub Ordered : Bytes → Bytes → Ordering → Type 0
+Ordered a b Less = (same a b ≡ false) × (precedes a b ≡ true)
+Ordered a b Equal = same a b ≡ true
+Ordered a b Greater = (same a b ≡ false) × (precedes a b ≡ false)
 
-pub before-none : (a b : Bytes) → Before a b 0
-before-none a b = record { within_a = omega arith; within_b = omega arith; so_far = refl }
+-- where the first bytes are the same
+alike : (x y : ℕ) (t u : Bytes) (o : Ordering) → x ≡ y → Ordered t u o → Ordered (x ∷ t) (y ∷ u) o
+unfolding same precedes
+alike x y t u Less e h = rw (eq-eqb x y e, le-ltb x y (omega (arith, e)), h.0, h.1) (refl, refl)
+alike x y t u Equal e h = rw (eq-eqb x y e, h) refl
+alike x y t u Greater e h = rw (eq-eqb x y e, le-ltb x y (omega (arith, e)), h.0, h.1) (refl, refl)
 
-module _ {a b : Bytes} {i : ℕ} (m : Before a b i) where
-  both : i < length a → i < length b → precedes a b ≡ precedes (get_or a i 0 ∷ drop (i + 1) a) (get_or b i 0 ∷ drop (i + 1) b)
-  both h k = m.so_far ∙ rw (drop-next a i h, drop-next b i k)
+first : (x y : ℕ) (t u : Bytes) (o r : Ordering) → MatchOrdering o (x < y) (x ≡ y) (y < x) → Ordered t u r → Ordered (x ∷ t) (y ∷ u) (ordering_then o r)
+unfolding same precedes
+first x y t u Less r h k = rw (ne_eqb x y (λ e. omega (arith, e)), lt-ltb x y h) (refl, refl)
+first x y t u Equal r h k = alike x y t u r h k
+first x y t u Greater r h k = rw (ne_eqb x y (λ e. omega (arith, e)), le-ltb x y (omega arith)) (refl, refl)
 
-  pub before-short : i < length a → length b ≤ i → false ≡ precedes a b
-  unfolding precedes
-  before-short h k = sym (m.so_far ∙ rw (drop-next a i h, drop_of_length-le b k))
+pub ordered : (a b : Bytes) → Ordered a b (slice_cmp nat_cmp a b)
+unfolding same precedes
+ordered [] [] = refl
+ordered [] (y ∷ u) = (refl, refl)
+ordered (x ∷ t) [] = (refl, refl)
+ordered (x ∷ t) (y ∷ u) = first x y t u (nat_cmp x y) (slice_cmp nat_cmp t u) (ranks x y) (ordered t u)
 
-  pub before-differs : i < length a → i < length b → (get_or a i 0 ≡ get_or b i 0 → ⊥) → ltb (get_or a i 0) (get_or b i 0) ≡ precedes a b
-  unfolding precedes
-  before-differs h k n = sym (both h k ∙ rw (ne_eqb (get_or a i 0) (get_or b i 0) n) (or-false (ltb (get_or a i 0) (get_or b i 0))))
-
-  pub before_more : i < length a → i < length b → get_or a i 0 ≡ get_or b i 0 → Before a b (i + 1)
-  unfolding precedes
-  before_more h k e =
-      let l : get_or b i 0 ≤ get_or a i 0 = omega arith in
-      record { within_a = omega arith; within_b = omega arith; so_far = both h k ∙ rw (le-ltb (get_or a i 0) (get_or b i 0) l, eq-eqb (get_or a i 0) (get_or b i 0) e) }
-
-  pub before-end : length a ≤ i → ltb i (length b) ≡ precedes a b
-  unfolding precedes
-  before-end h = sym (m.so_far ∙ rw (drop_of_length-le a h) (elim (dec_lt i (length b)) [ yes k ↦ more k | no k ↦ none (omega arith) ]))
-    where
-      more : i < length b → precedes [] (drop i b) ≡ ltb i (length b)
-      more k = rw (drop-next b i k, lt-ltb i (length b) k)
-
-      none : length b ≤ i → precedes [] (drop i b) ≡ ltb i (length b)
-      none k = rw (drop_of_length-le b k, le-ltb i (length b) k)
+pub told : {a b x y : Bytes} (o : Ordering) → o ≡ slice_cmp nat_cmp x y → x ≡ a → y ≡ b → Ordered a b o
+told {a} {b} {x} {y} o e f g = rw (e, f, g) (ordered a b)

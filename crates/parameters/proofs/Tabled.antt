@@ -1,8 +1,9 @@
 -- The table of a step's words.
 use mathlib.Core.Path.{◌≡◌, refl, sym, ap, ◌∙◌}
-use mathlib.Core.Bool.{Bool, true, false, cond, false≢true, true≢false}
+use mathlib.Core.Bool.{Bool, true, false, cond, false≢true}
 use mathlib.Core.List.{List, [], ◌∷◌, ◌++◌, map, map-map}
-use Prim.Native.Nat.{ℕ, ◌≤◌}
+use Prim.Native.Nat.{ℕ, ◌≤◌, ◌<◌}
+use Rattle.std.specs.Prelude.{Result, Ok, Err}
 use native.Mathlib.Omega.{arith}
 use lib.ListN.{length, take, drop, length-map}
 use lib.Seq.{take-take, length-take-le}
@@ -10,15 +11,18 @@ use Rattle.rules.specs.Text.Ascii.{is}
 use Rattle.rules.specs.Text.Lists.{all_of, any_of, non_empty}
 use Rattle.rules.specs.Text.Bytes.{Bytes, Words, words, joined}
 use Rattle.rules.specs.Text.Split.{modifier, leading, following, turned}
-use Rattle.rules.specs.Text.Parameters.{Parameter, placed_elements, elements, parameter, name, entered_by, entered_all_by, entered_all, table_of}
+use Rattle.rules.specs.Text.Parameters.{Parameter, Placed, placed_elements, elements, parameter, name, entered_by, entered_all_by, entered_all, table_of}
 use Rattle.laws_text.specs.Table.{given, given-all}
 use Rattle.text.specs.Runs.{Lead}
 use Rattle.text.proofs.Lead.{following-some}
-use Rattle.parameters.specs.Parts.{Parts, Entered, part_of, placed_of, held, listed, placed_in, Good, Empty}
+use Rattle.parameters.specs.Parts.{part_of, placed_of, held}
 use Rattle.parameters.specs.declared.table.Part.{Part}
 use Rattle.parameters.proofs.Growth.{entered-all-longer}
 use Rattle.parameters.proofs.Spots.{elements_from, spots-words, spots-joined, placed-elements, given-from}
-use Rattle.parameters.specs.Elements.{Spelt, words_at, elements_at, placed_all, Gives, EntersAll, Tabled, Cut}
+use Rattle.parameters.specs.Elements.{Spelt, words_at, elements_at, placed_all}
+use Rattle.parameters.specs.Tables.{table_in, Gives}
+use Rattle.parameters.specs.declared.table.Full.{Full}
+use Rattle.parameters.specs.declared.table.Parameters.{Parameters}
 
 -- ---- what is known at the start
 
@@ -28,40 +32,22 @@ spelt-fits z = omega (arith, z.ends)
 pub spelt-front : {s : Bytes} {n : ℕ} → Spelt s n → n ≡ length (take n s)
 spelt-front {s} {n} z = sym (length-take-le n s (spelt-fits z))
 
-pub empty-good : (s : Bytes) {t : Parts} → Empty t → Good s t
-empty-good s e = e.good s
-
--- what reading beyond a table's end would give
-abbrev pub no_part : Part
-no_part = record { key = 0; key_end = 0; value = 0; value_end = 0 }
-
 -- ---- a table, with the places and without
 
 -- the same parts, each read in a way that follows from the first
-gives-map : {A B : Type 0} {read : Part → A} {s : Bytes} {l : List A} {r : Entered} (f : A → B) → Gives read s l r → Gives (λ (p : Part). f (read p)) s (map f l) r
-gives-map {A} {B} {read} {s} {l} {r} f m = record {
-  table = λ g. sym (map-map f read (held r.table)) ∙ ap (map f) (m.table g);
-  good = m.good;
-  no_room = λ g. omega (arith, m.no_room g, length-map l f);
-}
+gives-map : {A B : Type 0} (read : Part → A) (l : List A) (p : Parameters) (f : A → B) (r : Result (Unit {0}) Full) → Gives read l p r → Gives (λ (q : Part). f (read q)) (map f l) p r
+gives-map read l p f (Ok _) m = (sym (map-map f read (held (table_in p))) ∙ ap (map f) m.0, tt)
+gives-map read l p f (Err _) m = (tt, omega (arith, m.1, length-map l f))
 
--- what entering the words of a text gives
-given-entered : (s : Bytes) (t : Parts) (first : Bool) (at : ℕ) (u : Bytes) (r : Entered) → EntersAll s t (elements_at first (words_at at u)) r
-    → Gives (part_of s) s (entered_all (elements_from first (words u)) (listed s t)) r
-given-entered s t first at u r m =
+-- what entering the words of a text comes to
+given-entered : (first : Bool) (at : ℕ) (u : Bytes) (qs : List Placed) → map given (placed_all (elements_at first (words_at at u)) qs) ≡ entered_all (elements_from first (words u)) (map given qs)
+given-entered first at u qs =
     let a : map given (elements_at first (words_at at u)) ≡ elements_from first (words u) = given-from first (words_at at u) ∙ ap (elements_from first) (spots-words at u) in
-    let e : map given (placed_all (elements_at first (words_at at u)) (placed_in s t)) ≡ entered_all (elements_from first (words u)) (listed s t) =
-    given-all (elements_at first (words_at at u)) (placed_in s t) ∙ ap (λ (ps : List Parameter). entered_all ps (map given (placed_in s t))) a
-    ∙ ap (entered_all (elements_from first (words u))) (map-map given (placed_of s) (held t)) in
-    rw e at (gives-map given m)
+    given-all (elements_at first (words_at at u)) qs ∙ ap (λ (ps : List Parameter). entered_all ps (map given qs)) a
 
 -- words that stand as they are cut
-module _ (s : Bytes) (n : ℕ) (e : take n s ≡ joined (words (take n s))) {t₀ : Parts} (z : Empty t₀) {r : Entered} where
-  pub cut_all : EntersAll s t₀ (elements_at true (words_at 0 (drop 0 (take n s)))) r → Cut s (words (take n s)) r
-  cut_all m =
-      let a : elements_at true (words_at 0 (take n s)) ≡ placed_elements (words (take n s)) = ap (elements_at true) (spots-joined (take n s) (take n s) e) ∙ placed-elements (words (take n s)) in
-      let b : placed_in s t₀ ≡ [] = ap (map (placed_of s)) z.none in
-      rw (a, b) at m
+pub cut_all : (s : Bytes) (n : ℕ) → take n s ≡ joined (words (take n s)) → elements_at true (words_at 0 (take n s)) ≡ placed_elements (words (take n s))
+cut_all s n e = ap (elements_at true) (spots-joined (take n s) (take n s) e) ∙ placed-elements (words (take n s))
 
 -- ---- the table of a step's words
 
@@ -93,38 +79,35 @@ module _ (s : Bytes) (n : ℕ) {k : ℕ} (l : n ≤ length s) (m : Lead (take n 
   front : words (take k s) ≡ leading (words (take n s))
   front = ap words (sym (take-take k n s lead-within.0)) ∙ m.front
 
-  module _ (e : all_of modifier (words (take n s)) ≡ false) (t₀ : Parts) (z : Empty t₀) {r₁ : Entered} (i : EntersAll s t₀ (elements_at true (words_at k (drop k (take n s)))) r₁) where
-    p : Gives (part_of s) s (entered_all (elements_from true (words (drop k (take n s)))) (listed s t₀)) r₁
-    p = given-entered s t₀ true k (drop k (take n s)) r₁ i
+  -- the elements behind the modifiers, and these
+  abbrev pub others : List Placed
+  others = elements_at true (words_at k (drop k (take n s)))
 
-    start : listed s t₀ ≡ []
-    start = ap (map (part_of s)) z.none
+  abbrev pub modifiers : List Placed
+  modifiers = elements_at false (words_at 0 (take k s))
 
-    first-all : entered_all (elements_from true (words (drop k (take n s)))) (listed s t₀) ≡ entered_all (elements (following (words (take n s)))) []
+  module _ (e : all_of modifier (words (take n s)) ≡ false) where
+    first-all : map given (placed_all others []) ≡ entered_all (elements (following (words (take n s)))) []
     unfolding elements_from
-    first-all = rw (m.rest, start)
+    first-all = given-entered true k (drop k (take n s)) [] ∙ rw m.rest
 
-    pub tabled-full : r₁.full ≡ true → Tabled s (words (take n s)) r₁
-    tabled-full f = record {
-      table = λ g. absurd (true≢false (sym f ∙ g));
-      good = λ g. absurd (true≢false (sym f ∙ g));
-      no_room =
-          λ g. rw (table_is (words (take n s)) e)
-          (omega (
-            arith,
-            p.no_room f,
-            ap length first-all,
-            entered-all-longer (λ (q : Parameter). q.key) (map parameter (leading (words (take n s)))) (entered_all (elements (following (words (take n s)))) []),
-          ));
-    }
+    all-of : map given (placed_all modifiers (placed_all others [])) ≡ table_of (words (take n s))
+    unfolding elements_from
+    all-of =
+        let then : entered_all (map parameter (words (take k s))) (map given (placed_all others [])) ≡ table_of (words (take n s)) =
+        rw (front, first-all) (sym (table_is (words (take n s)) e)) in
+        given-entered false 0 (take k s) (placed_all others []) ∙ then
 
-    module _ (f : r₁.full ≡ false) {r₂ : Entered} (j : EntersAll s r₁.table (elements_at false (words_at 0 (take k s))) r₂) where
-      q : Gives (part_of s) s (entered_all (elements_from false (words (take k s))) (listed s r₁.table)) r₂
-      q = given-entered s r₁.table false 0 (take k s) r₂ j
+    pub tabled-full : 32 < length (placed_all others []) → 32 < length (table_of (words (take n s)))
+    tabled-full f =
+        rw (table_is (words (take n s)) e)
+        (omega (
+          arith,
+          f,
+          length-map (placed_all others []) given,
+          ap length first-all,
+          entered-all-longer (λ (q : Parameter). q.key) (map parameter (leading (words (take n s)))) (entered_all (elements (following (words (take n s)))) []),
+        ))
 
-      all-of : entered_all (elements_from false (words (take k s))) (listed s r₁.table) ≡ table_of (words (take n s))
-      unfolding elements_from
-      all-of = rw (p.table f, front) (ap (entered_all (map parameter (leading (words (take n s))))) first-all) ∙ sym (table_is (words (take n s)) e)
-
-      pub tabled-both : Tabled s (words (take n s)) r₂
-      tabled-both = record { table = λ g. q.table g ∙ all-of; good = q.good; no_room = λ g. rw (← all-of) (q.no_room g) }
+    pub tabled-both : (p : Parameters) (r : Result (Unit {0}) Full) → Gives (placed_of s) (placed_all modifiers (placed_all others [])) p r → Gives (part_of s) (table_of (words (take n s))) p r
+    tabled-both p r g = rw all-of at (gives-map (placed_of s) (placed_all modifiers (placed_all others [])) p given r g)

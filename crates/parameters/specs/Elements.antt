@@ -1,11 +1,12 @@
 -- A step's elements as parts of a text that also spells `_name` and `true`, and where they stand in it.
-use Rattle.std.specs.Prelude.{◌≡◌, Bool, true, false, cond, List, [], ◌∷◌, map, ℕ, ◌+◌, ◌<◌, length}
+use Rattle.std.specs.Prelude.{◌≡◌, Bool, false, cond, List, [], ◌∷◌, ℕ, ◌+◌, length}
+use Rattle.std.specs.Coded.{Coded-set, coded_ℕ, coded_list}
 use Rattle.rules.specs.Text.Ascii.{ascii}
 use Rattle.rules.specs.Text.Lists.{kept, non_empty}
 use Rattle.rules.specs.Text.Bytes.{Bytes, Words, white, cut}
-use Rattle.rules.specs.Text.Parameters.{Placed, placed_word, placed_name, placed_elements, entered_all_by, table_of}
+use Rattle.rules.specs.Text.Parameters.{Placed, placed_word, placed_name, entered_all_by}
 use Rattle.rules.specs.Text.Reader.{part}
-use Rattle.parameters.specs.Parts.{Parts, Entered, part_of, placed_of, held, placed_in, Within, Good}
+use Rattle.parameters.specs.Parts.{placed_of, Within}
 use Rattle.parameters.specs.declared.table.Part.{Part}
 
 -- from n on, the text spells `_name` and `true`, and then it ends
@@ -13,6 +14,15 @@ pub record Spelt (s : Bytes) (n : ℕ) : Type 0 where
   pub ends : n + 9 ≡ length s
   pub name-there : part n (n + 5) s ≡ ascii "_name"
   pub true-there : part (n + 5) (n + 9) s ≡ ascii "true"
+
+-- which can be so in one way only
+pub Spelt-prop : (s : Bytes) (n : ℕ) → IsProp (Spelt s n)
+Spelt-prop s n x y =
+    λ i. record {
+      ends = Coded-set coded_ℕ (n + 9) (length s) x.ends y.ends i;
+      name-there = Coded-set (coded_list coded_ℕ) (part n (n + 5) s) (ascii "_name") x.name-there y.name-there i;
+      true-there = Coded-set (coded_list coded_ℕ) (part (n + 5) (n + 9) s) (ascii "true") x.true-there y.true-there i;
+    }
 
 -- ---- the words of a text, and where they begin
 
@@ -45,24 +55,6 @@ pub record IsPart (s : Bytes) (from to : ℕ) (first : Bool) (p : Part) : Type 0
 
 -- ---- tables of them
 
--- a table whose parts, each read in one way, are all these; or that they have no room
-pub record Gives {A : Type 0} (read : Part → A) (s : Bytes) (all_of : List A) (r : Entered) : Type 0 where
-  pub table : r.full ≡ false → map read (held r.table) ≡ all_of
-  pub good : r.full ≡ false → Good s r.table
-  pub no_room : r.full ≡ true → 32 < length all_of
-
 -- elements, each in its place, entered one after the other
 abbrev pub placed_all : List Placed → List Placed → List Placed
 placed_all qs table = entered_all_by (λ (q : Placed). q.given.key) qs table
-
--- what entering them gives
-abbrev pub EntersAll : Bytes → Parts → List Placed → Entered → Type 0
-EntersAll s t qs r = Gives (placed_of s) s (placed_all qs (placed_in s t)) r
-
--- what a step's words give
-abbrev pub Tabled : Bytes → Words → Entered → Type 0
-Tabled s ws r = Gives (part_of s) s (table_of ws) r
-
--- what words that stand as they are cut give: leading modifiers are turned already, and one space is between
-abbrev pub Cut : Bytes → Words → Entered → Type 0
-Cut s ws r = Gives (placed_of s) s (placed_all (placed_elements ws) []) r

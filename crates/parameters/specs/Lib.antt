@@ -1,3 +1,4 @@
 pub mod Replies
 pub mod Elements
 pub mod Parts
+pub mod Tables

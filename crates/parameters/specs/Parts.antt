@@ -1,37 +1,19 @@
 -- A table of parameters whose keys and values are parts of one text.
-use Rattle.std.specs.Prelude.{◌≡◌, Bool, true, false, cond, ◌||◌, List, [], ◌∷◌, ◌++◌, map, ℕ, ◌+◌, ◌-◌, ◌≤◌, ◌<◌, length, take, drop, ltb}
-use Rattle.rules.specs.Text.Bytes.{Bytes, same}
-use Rattle.rules.specs.Text.Parameters.{Parameter, Placed, precedes, entered_by}
+use Rattle.std.specs.Prelude.{◌≡◌, cond, List, [], ◌∷◌, map, ℕ, ◌-◌, ◌≤◌, ◌<◌, length, take, set, ltb, Result, Ok, Err}
+use Rattle.std.specs.List.{insert}
+use Rattle.rules.specs.Text.Bytes.{Bytes}
+use Rattle.rules.specs.Text.Parameters.{Parameter, Placed, entered_by}
 use Rattle.rules.specs.Text.Reader.{part}
 use Rattle.parameters.specs.declared.table.Part.{Part}
-use Rattle.parameters.specs.declared.table.Entered as code
+use Rattle.std.specs.Coded.{Unit-prop, ×_prop, le_prop, Coded-set, coded_ℕ}
 
 -- a table: the first n of its parts
 pub record Parts : Type 0 where
   pub parts : List Part
   pub n : ℕ
 
--- what entering a parameter gives
-pub record Entered : Type 0 where
-  pub full : Bool
-  pub table : Parts
-
 abbrev pub no_part : Part
 no_part = record { key = 0; key_end = 0; value = 0; value_end = 0 }
-
--- the parts that a row of numbers holds, four numbers each
-unfoldable pub parts_in : List ℕ → List Part
-parts_in [] = []
-parts_in (a ∷ []) = []
-parts_in (a ∷ b ∷ []) = []
-parts_in (a ∷ b ∷ c ∷ []) = []
-parts_in (a ∷ b ∷ c ∷ d ∷ l) = record { key = a; key_end = b; value = c; value_end = d } ∷ parts_in l
-
-abbrev pub table_in : List ℕ → ℕ → Parts
-table_in row n = record { parts = parts_in row; n = n }
-
-abbrev pub entered_in : List ℕ → code.Entered → Entered
-entered_in row r = record { full = r.full; table = table_in row r.n }
 
 abbrev pub key_of : Bytes → Part → Bytes
 key_of s p = part p.key p.key_end s
@@ -82,48 +64,34 @@ pub record Good (s : Bytes) (t : Parts) : Type 0 where
   pub size : length t.parts ≡ 32
   pub within : AllWithin s (held t)
 
--- a table of none, of whatever text
-pub record Empty (t : Parts) : Type 0 where
-  pub none : held t ≡ []
-  pub good : (s : Bytes) → Good s t
+-- each of these can be so in one way only
+Within-prop : (s : Bytes) (p : Part) → IsProp (Within s p)
+Within-prop s p x y =
+    λ i. record {
+      key-ahead = le_prop x.key-ahead y.key-ahead i;
+      key-within = le_prop x.key-within y.key-within i;
+      value-ahead = le_prop x.value-ahead y.value-ahead i;
+      value-within = le_prop x.value-within y.value-within i;
+    }
 
--- does p go where q is: is its key the same as q's, or before it?
-abbrev pub goes_at : Bytes → Part → Part → Bool
-goes_at s p q = same (key_of s p) (key_of s q) || precedes (key_of s p) (key_of s q)
+AllWithin-prop : (s : Bytes) (l : List Part) → IsProp (AllWithin s l)
+unfolding AllWithin
+AllWithin-prop s [] = Unit-prop
+AllWithin-prop s (p ∷ l) = ×_prop (Within-prop s p) (AllWithin-prop s l)
 
--- does p go in front of a list of parts, or at its first?
-unfoldable pub goes_first : Bytes → Part → List Part → Bool
-goes_first s p [] = true
-goes_first s p (q ∷ l) = goes_at s p q
-
--- has the first of a list of parts the key of p?
-unfoldable pub is_first : Bytes → Part → List Part → Bool
-is_first s p [] = false
-is_first s p (q ∷ l) = same (key_of s p) (key_of s q)
+pub Good-prop : (s : Bytes) (t : Parts) → IsProp (Good s t)
+Good-prop s t x y =
+    λ i. record {
+      fits = le_prop x.fits y.fits i;
+      size = Coded-set coded_ℕ (length t.parts) 32 x.size y.size i;
+      within = AllWithin-prop s (held t) x.within y.within i;
+    }
 
 -- p entered into a list of parts that is in the order of their keys
 abbrev pub parts_with : Bytes → Part → List Part → List Part
 parts_with s p l = entered_by (key_of s) p l
 
--- the list with p is its first i parts, and p entered into the others
-abbrev pub Skips : Bytes → List Part → Part → ℕ → Type 0
-Skips s l p i = parts_with s p l ≡ take i l ++ parts_with s p (drop i l)
-
--- p goes into a list of parts at place i
-pub record Place (s : Bytes) (l : List Part) (p : Part) (i : ℕ) : Type 0 where
-  pub within : i ≤ length l
-  pub skips : Skips s l p i
-  pub goes : goes_first s p (drop i l) ≡ true
-
--- the table with p put in at a place
-pub record Inserted (t : Parts) (at : ℕ) (p : Part) (r : Parts) : Type 0 where
-  pub count : r.n ≡ t.n + 1
-  pub size : length r.parts ≡ length t.parts
-  pub moved : held r ≡ take at (held t) ++ p ∷ drop at (held t)
-
--- What entering p gives: the table with it where that has room, and else that it is full.
-pub record Enters (s : Bytes) (t : Parts) (p : Part) (r : Entered) : Type 0 where
-  pub room : length (parts_with s p (held t)) ≤ 32 → r.full ≡ false
-  pub table : length (parts_with s p (held t)) ≤ 32 → held r.table ≡ parts_with s p (held t)
-  pub good : length (parts_with s p (held t)) ≤ 32 → Good s r.table
-  pub no_room : 32 < length (parts_with s p (held t)) → r.full ≡ true
+-- The place of the part with the key of p: entering p puts it there. Or the place where p goes as a new one.
+abbrev pub Found : Bytes → List Part → Part → Result ℕ ℕ → Type 0
+Found s l p (Ok i) = (i < length l) × (parts_with s p l ≡ set l i p)
+Found s l p (Err i) = (i ≤ length l) × (parts_with s p l ≡ insert l i p)

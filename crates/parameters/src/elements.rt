@@ -1,22 +1,24 @@
 // Cutting a step's words into the table of its parameters. The Rust is the loop over the elements in `split_into_parameters` of
 // src/token/mod.rs.
-ghost use Rattle.std.specs.Prelude.{◌≡◌, false, ◌≤◌, length, take, drop};
+ghost use Rattle.std.specs.Prelude.{◌≡◌, false, [], ◌≤◌, take, drop};
 ghost use Rattle.rules.specs.Text.Lists.{all_of};
 ghost use Rattle.rules.specs.Text.Bytes.{words, joined};
 ghost use Rattle.rules.specs.Text.Split.{modifier};
-ghost use Rattle.parameters.specs.Parts.{Good, table_in, entered_in};
-ghost use Rattle.parameters.specs.Elements.{Spelt, IsPart, words_at, elements_at, EntersAll, Tabled, Cut};
+ghost use Rattle.parameters.specs.Parts.{held, placed_in};
+ghost use Rattle.parameters.specs.Elements.{IsPart, words_at, elements_at};
+ghost use Rattle.parameters.specs.Tables.{text, front, table_in, EntersAll, Tabled, Cut};
 
-use crate::table::{Entered, Part, enter};
+use crate::table::{Full, Parameters, Part, Source};
 use text::{Kind, lead_end, run_end};
 
-// The parameter that the word of s from `from` up to `to` is. At `n` stand `_name` and `true`, for a word without `=`: the
-// first is the name, another has the value `true`.
-fn part_of(s: &[u8], from: usize, to: usize, n: usize, first: bool) -> Part
-    requires spelt { Spelt s.now n }
-    requires from_le_to { (from ≤ to) × (to ≤ n) }
-    ensures { IsPart s.now from to first result }
+// The parameter that the word of the text from `from` up to `to` is. A word without `=` is the name, if it is the first, and another
+// has the value `true`.
+fn part_of(source: Source, from: usize, to: usize, first: bool) -> Part
+    requires { (from ≤ to) × (to ≤ source.n) }
+    ensures { IsPart source.entry.s.now from to first result }
 {
+    let s = source.s;
+    let n = source.n;
     let q = run_end(Kind::Key, &s[from..to], 0);
     if q < to - from {
         let r = run_end(Kind::Key, &s[from..to], q + 1);
@@ -43,71 +45,53 @@ fn part_of(s: &[u8], from: usize, to: usize, n: usize, first: bool) -> Part
     }
 }
 
-// Enters the words of s from `from` up to `to` into the table of `count` parts, one after the other, until one finds no room.
-// The first of them may be the name.
-fn enter_words(
-    s: &[u8],
-    row: &mut [usize; 128],
-    count: usize,
-    from: usize,
-    to: usize,
-    n: usize,
-    first: bool,
-) -> Entered
-    requires spelt { Spelt s.now n }
-    requires from_le_to { (from ≤ to) × (to ≤ n) }
-    requires good { Good s.now (table_in row.old count) }
-    ensures { EntersAll s.now (table_in row.old count) (elements_at first (words_at from (drop from (take to s.now)))) (entered_in row.new result) }
-{
-    let mut held = count;
-    let mut name = first;
-    let mut k = from;
-    while k < to {
-        let a = run_end(Kind::White, &s[..to], k);
-        let e = run_end(Kind::Word, &s[..to], a);
-        if e <= a {
-            return Entered {
-                full: false,
-                n: held,
-            };
+impl<'a> Parameters<'a> {
+    // Enters the words of the text from `from` up to `to` into the table, one after the other, until one finds no room. The first of
+    // them may be the name.
+    fn enter_words(&mut self, from: usize, to: usize, first: bool) -> Result<(), Full>
+        requires { (from ≤ to) × (to ≤ self.old.source.n) }
+        ensures from { self.new.source ≡ self.old.source }
+        ensures entered { EntersAll (text self.old) (placed_in (text self.old) (table_in self.old)) (elements_at first (words_at from (drop from (take to (text self.old))))) self.new result }
+    {
+        let s = self.source.s;
+        let mut name = first;
+        let mut k = from;
+        // Stays: where a word begins is needed, and with an iterator over the words it would be counted by hand all the same.
+        while k < to {
+            let a = run_end(Kind::White, &s[..to], k);
+            let e = run_end(Kind::Word, &s[..to], a);
+            if e <= a {
+                return Ok(());
+            }
+            self.enter(part_of(self.source, a, e, name))?;
+            name = false;
+            k = e;
         }
-        let entered = enter(s, row, held, part_of(s, a, e, n, name));
-        if entered.full {
-            return entered;
-        }
-        held = entered.n;
-        name = false;
-        k = e;
+        Ok(())
     }
-    Entered {
-        full: false,
-        n: held,
-    }
-}
 
-// The table of a step's words, which stand in the first n bytes of s: those after the modifiers in front, then these. It is
-// made in a lent row.
-pub fn table_of(s: &[u8], n: usize, row: &mut [usize; 128]) -> Entered
-    requires spelt { Spelt s.now n }
-    requires s_value { all_of modifier (words (take n s.now)) ≡ false }
-    requires row_len { length row.old ≡ 128 }
-    ensures { Tabled s.now (words (take n s.now)) (entered_in row.new result) }
-{
-    let k = lead_end(&s[..n]);
-    let first = enter_words(s, row, 0, k, n, n, true);
-    if first.full {
-        return first;
+    // Enters the words of a step into a table of none: those after the modifiers in front, then these.
+    pub fn enter_step(&mut self) -> Result<(), Full>
+        requires s_value { all_of modifier (words (front self.old.source)) ≡ false }
+        requires none { held (table_in self.old) ≡ [] }
+        ensures from { self.new.source ≡ self.old.source }
+        ensures entered { Tabled (text self.old) (words (front self.old.source)) self.new result }
+    {
+        let n = self.source.n;
+        let k = lead_end(&self.source.s[..n]);
+        self.enter_words(k, n, true)?;
+        self.enter_words(0, k, false)
     }
-    enter_words(s, row, first.n, 0, k, n, false)
-}
 
-// The table of the words in the first n bytes of s, which stand there as they are cut: with one space between, and leading
-// modifiers turned already. It is made in a lent row.
-pub fn words_into(s: &[u8], n: usize, row: &mut [usize; 128]) -> Entered
-    requires spelt { Spelt s.now n }
-    requires s_value { take n s.now ≡ joined (words (take n s.now)) }
-    requires row_len { length row.old ≡ 128 }
-    ensures { Cut s.now (words (take n s.now)) (entered_in row.new result) }
-{
-    enter_words(s, row, 0, 0, n, n, true)
+    // Enters the words of a text that stands as it is cut into a table of none: with one space between its words, and leading modifiers
+    // turned already.
+    pub fn enter_cut(&mut self) -> Result<(), Full>
+        requires s_value { front self.old.source ≡ joined (words (front self.old.source)) }
+        requires none { held (table_in self.old) ≡ [] }
+        ensures from { self.new.source ≡ self.old.source }
+        ensures entered { Cut (text self.old) (words (front self.old.source)) self.new result }
+    {
+        let n = self.source.n;
+        self.enter_words(0, n, true)
+    }
 }

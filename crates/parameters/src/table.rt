@@ -1,11 +1,10 @@
 // A step's parameters as a fixed table of 32 parts of a text, kept in byte order as it fills: the `BTreeMap` of
 // `split_into_parameters` of src/token/mod.rs.
-ghost use Rattle.std.specs.Prelude.{◌≡◌, ◌<◌, ◌+◌, ◌≤◌, length, get_or, set, drop};
-ghost use Rattle.rules.specs.Text.Bytes.{same};
-ghost use Rattle.rules.specs.Text.Parameters.{precedes};
-ghost use Rattle.parameters.specs.Parts.{key_of, value_at, goes_at, Within, no_part, parts_in, is_first, held, Good, Place, table_in, entered_in, Inserted, Enters};
+ghost use Rattle.std.specs.Prelude.{◌≡◌, ◌≤◌, length};
+ghost use Rattle.parameters.specs.Parts.{Good, Good-prop};
+ghost use Rattle.parameters.specs.Elements.{Spelt, Spelt-prop};
 
-use text::is_same;
+use std::cmp::Ordering;
 
 // A parameter as two parts of a text: its key and its value, each from a place up to another.
 #[derive(Clone, Copy, Drop)]
@@ -16,166 +15,131 @@ pub struct Part {
     pub value_end: usize,
 }
 
-// A table of parameters is a row of 128 numbers, four for each of 32 parts, in the order of `Part`; and how many parts stand
-// in it.
-
-// What entering a parameter gives: how many there are then, or that the table is full.
+// A text to be cut, the first n bytes of s: behind it stand the words that a parameter may have and the text has not, `_name` and
+// `true`, and then s ends.
 #[derive(Clone, Copy, Drop)]
-pub struct Entered {
-    pub full: bool,
+pub struct Source<'a> {
+    pub s: &'a [u8],
     pub n: usize,
+    pub ghost spelt: { Spelt s.now n } by { Spelt-prop s.now n },
+    pub ghost small: { length s.now ≤ 40969 },
 }
 
-// Part i of the row.
-pub fn part_at(row: &[usize; 128], i: usize) -> Part
-    requires row_len { length (parts_in row.now) ≡ 32 }
-    requires i_bound { i < 32 }
-    ensures { result ≡ get_or (parts_in row.now) i no_part }
-{
-    let k = i * 4;
-    Part {
-        key: row[k],
-        key_end: row[k + 1],
-        value: row[k + 2],
-        value_end: row[k + 3],
-    }
+// The parameters of a text: a table of 32 parts of it, of which the first n are in use.
+// Stays: there is no heap, and the table is of fixed size.
+#[derive(Clone, Copy, Drop)]
+pub struct Parameters<'a> {
+    pub source: Source<'a>,
+    pub parts: [Part; 32],
+    pub n: usize,
+    pub ghost good: { Good source.s.now (record { parts = parts; n = n }) } by { Good-prop source.s.now (record { parts = parts; n = n }) },
 }
 
-// Puts p into the row as part i.
-pub fn put_part(row: &mut [usize; 128], i: usize, p: Part)
-    requires row_len { length (parts_in row.old) ≡ 32 }
-    requires i_bound { i < 32 }
-    ensures { parts_in row.new ≡ set (parts_in row.old) i p }
-{
-    let k = i * 4;
-    row[k] = p.key;
-    row[k + 1] = p.key_end;
-    row[k + 2] = p.value;
-    row[k + 3] = p.value_end;
-}
+// The table has no room for one more.
+#[derive(Clone, Copy, Drop)]
+pub struct Full;
 
-// Where in s the value of p begins: of a bare word the byte after the key, for its value is the `true` in the nine bytes that
-// s ends with.
-pub fn value_at(s: &[u8], p: Part) -> usize
-    requires { Within s.now p }
-    ensures { result ≡ value_at s.now p }
-{
-    if s.len() - p.value < 9 {
-        return p.key_end;
-    }
-    p.value
-}
+impl<'a> Parameters<'a> {
+    ghost use Rattle.std.specs.Prelude.{◌≡◌, ◌<◌, ◌+◌, ◌≤◌, [], length, OnOk, OnErr};
+    ghost use Rattle.parameters.specs.Parts.{held, Within, key_of, value_of, value_at, parts_with, Found};
+    ghost use Rattle.parameters.specs.Tables.{text, table_in};
 
-// Does a come before b in byte order?
-pub fn is_before(a: &[u8], b: &[u8]) -> bool
-    ensures { result ≡ precedes a.now b.now }
-{
-    let mut i = 0;
-    while i < a.len() {
-        if b.len() <= i {
-            return false;
-        }
-        if a[i] != b[i] {
-            return a[i] < b[i];
-        }
-        i += 1;
-    }
-    i < b.len()
-}
-
-// Is p's key the same as q's?
-pub fn is_same_key(s: &[u8], p: Part, q: Part) -> bool
-    requires within { Within s.now p }
-    requires within_2 { Within s.now q }
-    ensures { result ≡ same (key_of s.now p) (key_of s.now q) }
-{
-    let a = p.key;
-    let a_end = p.key_end;
-    let b = q.key;
-    let b_end = q.key_end;
-    is_same(&s[a..a_end], &s[b..b_end])
-}
-
-// Does p go where q is: is its key the same as q's, or before it?
-pub fn goes_at(s: &[u8], p: Part, q: Part) -> bool
-    requires within { Within s.now p }
-    requires within_2 { Within s.now q }
-    ensures { result ≡ goes_at s.now p q }
-{
-    if is_same_key(s, p, q) {
-        return true;
-    }
-    let a = p.key;
-    let a_end = p.key_end;
-    let b = q.key;
-    let b_end = q.key_end;
-    is_before(&s[a..a_end], &s[b..b_end])
-}
-
-// The place in the table where p goes.
-fn place_of(s: &[u8], row: &[usize; 128], n: usize, p: Part) -> usize
-    requires good { Good s.now (table_in row.now n) }
-    requires within { Within s.now p }
-    ensures { Place s.now (held (table_in row.now n)) p result }
-{
-    let mut i = 0;
-    while i < n {
-        let q = part_at(row, i);
-        if goes_at(s, p, q) {
-            return i;
-        }
-        i += 1;
-    }
-    i
-}
-
-// Has the part at `at`, if there is one, the key of p?
-fn is_there(s: &[u8], row: &[usize; 128], n: usize, p: Part, at: usize) -> bool
-    requires good { Good s.now (table_in row.now n) }
-    requires within { Within s.now p }
-    ensures { result ≡ is_first s.now p (drop at (held (table_in row.now n))) }
-{
-    if at < n {
-        return is_same_key(s, p, part_at(row, at));
-    }
-    false
-}
-
-// Puts p in at `at`, and what was from there on is moved up by one.
-fn insert(row: &mut [usize; 128], n: usize, at: usize, p: Part)
-    requires at_le_n { at ≤ n }
-    requires n_bound { n < 32 }
-    requires row_len { length (parts_in row.old) ≡ 32 }
-    ensures { Inserted (table_in row.old n) at p (table_in row.new (n + 1)) }
-{
-    let mut carried = p;
-    let mut j = at;
-    while j < n {
-        let x = part_at(row, j);
-        put_part(row, j, carried);
-        carried = x;
-        j += 1;
-    }
-    put_part(row, n, carried);
-}
-
-// Enters p into the table: in the place of the part with its key, or in front of the first key that comes after its own.
-pub fn enter(s: &[u8], row: &mut [usize; 128], n: usize, p: Part) -> Entered
-    requires good { Good s.now (table_in row.old n) }
-    requires within { Within s.now p }
-    ensures { Enters s.now (table_in row.old n) p (entered_in row.new result) }
-{
-    let at = place_of(s, row, n, p);
-    if is_there(s, row, n, p, at) {
-        put_part(row, at, p);
-        return Entered { full: false, n: n };
-    }
-    if n < 32 {
-        insert(row, n, at, p);
-        return Entered {
-            full: false,
-            n: n + 1,
+    // None yet.
+    pub fn new(source: Source<'a>) -> Parameters<'a>
+        ensures from { result.source ≡ source.entry }
+        ensures none { held (table_in result) ≡ [] }
+    {
+        let none = Part {
+            key: 0,
+            key_end: 0,
+            value: 0,
+            value_end: 0,
         };
+        Parameters {
+            source: source,
+            parts: [none; 32],
+            n: 0,
+        }
     }
-    Entered { full: true, n: n }
+
+    // The parts in the table, in its order.
+    pub fn held(&self) -> &[Part]
+        ensures { result.now ≡ held (table_in self.now) }
+    {
+        &self.parts[..self.n]
+    }
+
+    pub fn key(&self, p: Part) -> &'a [u8]
+        requires { Within (text self.now) p }
+        ensures { result.now ≡ key_of (text self.now) p }
+    {
+        &self.source.s[p.key..p.key_end]
+    }
+
+    pub fn value(&self, p: Part) -> &'a [u8]
+        requires { Within (text self.now) p }
+        ensures { result.now ≡ value_of (text self.now) p }
+    {
+        &self.source.s[p.value..p.value_end]
+    }
+
+    // Where in the text the value of p begins: of a bare word the byte after the key, for its value is the `true` in the nine bytes
+    // behind the text.
+    pub fn value_at(&self, p: Part) -> usize
+        requires { Within (text self.now) p }
+        ensures { result ≡ value_at (text self.now) p }
+    {
+        if self.source.s.len() - p.value < 9 {
+            return p.key_end;
+        }
+        p.value
+    }
+
+    // The place of the part with the key of p; or else the place where p goes, in front of the first key that comes after its own.
+    fn place_of(&self, p: Part) -> Result<usize, usize>
+        requires { Within (text self.now) p }
+        ensures { Found (text self.now) (held (table_in self.now)) p result }
+    {
+        for (i, q) in self.held().iter().enumerate() {
+            match self.key(p).cmp(&self.key(*q)) {
+                Ordering::Less => return Err(i),
+                Ordering::Equal => return Ok(i),
+                Ordering::Greater => {}
+            }
+        }
+        Err(self.n)
+    }
+
+    // Enters p into the table: in the place of the part with its key, or else where it goes.
+    pub fn enter(&mut self, p: Part) -> Result<(), Full>
+        requires { Within (text self.old) p }
+        ensures from { self.new.source ≡ self.old.source }
+        ensures entered { OnOk result (held (table_in self.new) ≡ parts_with (text self.old) p (held (table_in self.old))) }
+        ensures full { OnErr result (32 < length (parts_with (text self.old) p (held (table_in self.old)))) }
+    {
+        match self.place_of(p) {
+            Ok(at) => {
+                self.parts[at] = p;
+                Ok(())
+            }
+            Err(at) => self.insert(at, p),
+        }
+    }
+
+    // Puts p in at `at`, and what was from there on is moved up by one.
+    fn insert(&mut self, at: usize, p: Part) -> Result<(), Full>
+        requires within { Within (text self.old) p }
+        requires found { Found (text self.old) (held (table_in self.old)) p (Err at) }
+        ensures from { self.new.source ≡ self.old.source }
+        ensures entered { OnOk result (held (table_in self.new) ≡ parts_with (text self.old) p (held (table_in self.old))) }
+        ensures full { OnErr result (32 < length (parts_with (text self.old) p (held (table_in self.old)))) }
+    {
+        if self.n == 32 {
+            return Err(Full);
+        }
+        self.parts.copy_within(at..self.n, at + 1);
+        self.parts[at] = p;
+        self.n += 1;
+        Ok(())
+    }
 }

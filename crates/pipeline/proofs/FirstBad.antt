@@ -1,8 +1,8 @@
 -- The walk over a table's records in their order: the place of refusal 18.
+use Rattle.std.specs.Prelude.{None, Some}
 use mathlib.Core.Path.{◌≡◌, sym, ap, ◌∙◌}
 use Prim.Native.Nat.{ℕ, ◌+◌, ◌<◌, ◌≤◌}
 use mathlib.Core.Bool.{true, false}
-use mathlib.Core.Option.{none, some}
 use mathlib.Core.List.{List}
 use native.Mathlib.Omega.{arith}
 use borrow.Author.Tests.{lt-ltb}
@@ -19,7 +19,7 @@ abbrev pub Checked : ℕ → List Step → ℕ → ℕ → Type 0
 Checked reading l end i = Rest (first_bad reading end (i + 1)) l i (first_bad reading 0 1 l)
 
 module _ (t : Table) (full : length t.steps ≡ 64) where
-  pub check-long : 64 < t.n → refusal18 (listed t) ≡ some 0
+  pub check-long : 64 < t.n → refusal18 (listed t) ≡ Some 0
   unfolding refusal18
   check-long h = rw (listed-length t full, lt-ltb 64 t.n h)
 
@@ -38,12 +38,12 @@ module _ (t : Table) (full : length t.steps ≡ 64) where
           rest-next (first_bad first next (i + 1 + 1)) x r (omega (arith, many))
           (bad-next first end (i + 1) _ _ (ap (good_in first end) here ∙ e) (f ∙ ap (λ (s : Step). span_end s.span) (sym here)))
 
-      pub check-bad : good_in first end (get_or t.steps i x) ≡ false → refusal18 (listed t) ≡ some (i + 1)
+      pub check-bad : good_in first end (get_or t.steps i x) ≡ false → refusal18 (listed t) ≡ Some (i + 1)
       check-bad e =
           bad-few t z full few
           ∙ sym (rest-here x r (omega (arith, many)) (bad-here first end (i + 1) _ _ (ap (good_in first end) (get_or-take t.n t.steps i x h) ∙ e)))
 
-    pub check-end : (end i : ℕ) → Checked first (take t.n t.steps) end i → t.n ≤ i → refusal18 (listed t) ≡ none
+    pub check-end : (end i : ℕ) → Checked first (take t.n t.steps) end i → t.n ≤ i → refusal18 (listed t) ≡ None
     check-end end i r h = bad-few t z full few ∙ sym (sym (bad-none first end (i + 1)) ∙ rest_end r (omega (arith, many)))
 
 pub check-none : (reading : ℕ) (l : List Step) → Checked reading l 0 0

@@ -1,8 +1,11 @@
 -- What the run answers and leaves at the end, and each refusal.
+use Rattle.rules.specs.declared.Refusal.{Refusal}
+use Rattle.rules.specs.declared.Finished.{Finished}
+use Rattle.rules.specs.Text.Refusal.{refusal}
+use Rattle.std.specs.Prelude.{Option, None, Some, Result}
 use mathlib.Core.Path.{◌≡◌, refl, sym, ap, ◌∙◌}
 use Prim.Native.Nat.{ℕ, ◌-◌, ◌*◌, ◌/◌, ◌%◌, ◌<◌, ◌≤◌, max}
 use mathlib.Core.Bool.{Bool, true, false, cond, not}
-use mathlib.Core.Option.{Option, none, some}
 use mathlib.Core.List.{List, [], ◌∷◌, ◌++◌, reverse, flat_map}
 use native.Mathlib.Nat.{mul-le-mul_right}
 use native.Mathlib.Omega.{arith}
@@ -16,11 +19,9 @@ use Rattle.rules.specs.Pipeline.Record.{refusal18}
 use Rattle.rules.specs.Pipeline.Running.{Numbered, running}
 use Rattle.rules.specs.Pipeline.Columns.{after, deepest}
 use Rattle.rules.specs.Pipeline.Tuples.{State, numbers, acted}
-use Rattle.rules.specs.Pipeline.Run.{start, bad_list, store_after, refused, finished, unless16, unless15, unless18, runs, Runs}
+use Rattle.rules.specs.Pipeline.Run.{start, bad_list, store_after, refused, finished, unless16, unless15, unless18, runs, Runs, done}
 use Rattle.rules.specs.declared.Step.{Step}
 use Rattle.rules.specs.declared.Direction.{Direction}
-use Rattle.rules.specs.declared.Ran.{Ran}
-use Rattle.rules.specs.declared.Ran.TheVariants.{Done, Refused}
 use Rattle.laws_lists.specs.Tests.{or_left, or_right, never}
 use Rattle.laws_steps.specs.Depth.{depth_after}
 use Rattle.laws_steps.specs.Lengths.{numbers-tuples}
@@ -43,7 +44,7 @@ module _ (xs : List Float) (h : bad_list xs ≡ false) where
   tuples-few = ltb-false 65536 (length xs / 4) (or_right (not (eqb (length xs % 4) 0)) (ltb 65536 (length xs / 4)) h)
 
 -- a run that is not refused 16 goes no deeper than 64
-deepest-64 : (l : List Numbered) (d : ℕ) → passes_from l d ≡ none → deepest_from l d ≤ 64
+deepest-64 : (l : List Numbered) (d : ℕ) → passes_from l d ≡ None → deepest_from l d ≤ 64
 unfolding passes_from deepest_from
 deepest-64 [] d h = omega arith
 deepest-64 (s ∷ l) d h = both (ltb 64 d') refl h (deepest-64 l d')
@@ -51,35 +52,35 @@ deepest-64 (s ∷ l) d h = both (ltb 64 d') refl h (deepest-64 l d')
     d' : ℕ
     d' = depth_after s.does d
 
-    both : (b : Bool) → ltb 64 d' ≡ b → cond b (some s.place) (passes_from l d') ≡ none → (passes_from l d' ≡ none → deepest_from l d' ≤ 64) → max d' (deepest_from l d') ≤ 64
+    both : (b : Bool) → ltb 64 d' ≡ b → cond b (Some s.place) (passes_from l d') ≡ None → (passes_from l d' ≡ None → deepest_from l d' ≤ 64) → max d' (deepest_from l d') ≤ 64
     both true e h f = absurd (never (cc h))
     both false e h f = omega (arith, ltb-false 64 d' e, f h)
 
 -- the store in use
-pub used-few : (l : List Numbered) (deepest n : ℕ) → passes_from l 0 ≡ none → deepest ≡ deepest_from l 0 → n ≤ 65536 → deepest * n ≤ 4194304
+pub used-few : (l : List Numbered) (deepest n : ℕ) → passes_from l 0 ≡ None → deepest ≡ deepest_from l 0 → n ≤ 65536 → deepest * n ≤ 4194304
 used-few l deepest n p q h = omega (arith, mul-le-mul_right {m = deepest} {n = 64} n (omega (arith, deepest-64 l 0 p)))
 
 -- ---- refusals
 
-pub refuses-17 : (l : List Numbered) (xs store : List Float) (used : ℕ) → length store < used → Gives (finished l xs store used) (Refused 17 0) xs store
+pub refuses-17 : (l : List Numbered) (xs store : List Float) (used : ℕ) → length store < used → Gives (finished l xs store used) (refusal 17 0) xs store
 unfolding finished refused
 refuses-17 l xs store used h = record { exactly = rw (lt-ltb (length store) used h) }
 
-pub refuses-16 : (l : List Numbered) (xs store : List Float) (place : ℕ) → passes_from l 0 ≡ some place → Gives (unless15 false l xs store) (Refused 16 place) xs store
+pub refuses-16 : (l : List Numbered) (xs store : List Float) (place : ℕ) → passes_from l 0 ≡ Some place → Gives (unless15 false l xs store) (refusal 16 place) xs store
 unfolding unless15 unless16 refused
 refuses-16 l xs store place h = record { exactly = rw (passes_same l (start xs), h) }
 
-pub refuses-15 : (l : List Numbered) (xs store : List Float) → bad_list xs ≡ true → Gives (unless15 (bad_list xs) l xs store) (Refused 15 0) xs store
+pub refuses-15 : (l : List Numbered) (xs store : List Float) → bad_list xs ≡ true → Gives (unless15 (bad_list xs) l xs store) (refusal 15 0) xs store
 unfolding unless15 refused
 refuses-15 l xs store h = record { exactly = rw h }
 
-pub refuses-18 : (d : Direction) (t : List Step) (xs store : List Float) (place : ℕ) → refusal18 t ≡ some place → Runs d t xs store (Refused 18 place) xs store
+pub refuses-18 : (d : Direction) (t : List Step) (xs store : List Float) (place : ℕ) → refusal18 t ≡ Some place → Runs d t xs store (refusal 18 place) xs store
 unfolding runs unless18 refused
 refuses-18 d t xs store place h = record { exactly = rw h }
 
 -- ---- past a refusal that is not given
 
-pub past-16 : (l : List Numbered) (xs store : List Float) (deep : ℕ) (r : Ran) (xs' store' : List Float) → passes_from l 0 ≡ none → deep ≡ deepest_from l 0
+pub past-16 : (l : List Numbered) (xs store : List Float) (deep : ℕ) (r : Result Finished Refusal) (xs' store' : List Float) → passes_from l 0 ≡ None → deep ≡ deepest_from l 0
     → Gives (finished l xs store (deep * (length xs / 4))) r xs' store' → Gives (unless15 false l xs store) r xs' store'
 unfolding unless15 unless16
 past-16 l xs store deep r xs' store' p q h =
@@ -90,11 +91,11 @@ past-16 l xs store deep r xs' store' p q h =
           ∙ ap (λ (o : Option ℕ). unless16 o l xs store) (sym (passes_same l (start xs) ∙ p));
     }
 
-pub past-15 : (l : List Numbered) (xs store : List Float) (r : Ran) (xs' store' : List Float) → bad_list xs ≡ false → Gives (unless15 false l xs store) r xs' store'
+pub past-15 : (l : List Numbered) (xs store : List Float) (r : Result Finished Refusal) (xs' store' : List Float) → bad_list xs ≡ false → Gives (unless15 false l xs store) r xs' store'
     → Gives (unless15 (bad_list xs) l xs store) r xs' store'
 past-15 l xs store r xs' store' h g = record { exactly = g.exactly ∙ ap (λ (b : Bool). unless15 b l xs store) (sym h) }
 
-pub past-18 : (d : Direction) (t : List Step) (xs store : List Float) (r : Ran) (xs' store' : List Float) → refusal18 t ≡ none → Gives (unless15 (bad_list xs) (running d t) xs store) r xs' store'
+pub past-18 : (d : Direction) (t : List Step) (xs store : List Float) (r : Result Finished Refusal) (xs' store' : List Float) → refusal18 t ≡ None → Gives (unless15 (bad_list xs) (running d t) xs store) r xs' store'
     → Runs d t xs store r xs' store'
 unfolding runs unless18
 past-18 d t xs store r xs' store' h g = record { exactly = g.exactly ∙ ap (λ (o : Option ℕ). unless18 o d t xs store) (sym h) }
@@ -105,7 +106,7 @@ past-18 d t xs store r xs' store' h g = record { exactly = g.exactly ∙ ap (λ 
 pub finishes : (l : List Numbered) (deep : ℕ) (xs s xs' s' s'' : List Float) (c left : ℕ) → bad_list xs ≡ false → length xs' ≡ length xs → length s' ≡ length s
     → deep * (length xs / 4) ≤ length s → Ends l deep xs s c left xs' s'
     → s'' ≡ take (left * (length xs / 4)) s' ++ (replicate (deep * (length xs / 4) - left * (length xs / 4)) (fin false 0 (pos 0)) ++ drop (deep * (length xs / 4)) s')
-    → Gives (finished l xs s (deep * (length xs / 4))) (Done c left) xs' s''
+    → Gives (finished l xs s (deep * (length xs / 4))) (done c left) xs' s''
 unfolding finished store_after held
 finishes l deep xs s xs' s' s'' c left bad lx ls room e z =
     let n = length xs / 4 in
@@ -120,7 +121,7 @@ finishes l deep xs s xs' s' s'' c left bad lx ls room e z =
     sym (columns-flat n left s') ∙ ap (λ (c : List (List Float)). flat_map (λ (v : List Float). v) (reverse c)) cols in
     let long : left * n ≡ length (flat_map (λ (v : List Float). v) (reverse end.columns)) = sym (length-take-le (left * n) s' (omega arith)) ∙ ap length flat in
     let store : s'' ≡ store_after used end.columns s = z ∙ (λ i. flat i ++ (replicate (used - long i) (fin false 0 (pos 0)) ++ e.beyond i)) in
-    record { exactly = rw (le-ltb (length s) used room) (λ i. record { answer = Done (e.counted i) (gone i); list = list i; store = store i }) }
+    record { exactly = rw (le-ltb (length s) used room) (λ i. record { answer = done (e.counted i) (gone i); list = list i; store = store i }) }
 
 -- ---- the test of 15
 

@@ -1,8 +1,8 @@
 -- The walk over a table's steps in running order, and the depths that it tells.
+use Rattle.std.specs.Prelude.{None, Some}
 use mathlib.Core.Path.{◌≡◌, refl, sym, ap, subst, ◌∙◌}
 use Prim.Native.Nat.{ℕ, ◌+◌, ◌*◌, ◌/◌, ◌<◌, ◌≤◌, max}
 use mathlib.Core.Bool.{Bool, true, false, cond}
-use mathlib.Core.Option.{none, some}
 use mathlib.Core.List.{List, [], ◌∷◌}
 use native.Mathlib.Omega.{arith}
 use borrow.Author.Tests.{lt-ltb, le-ltb}
@@ -27,7 +27,7 @@ use Rattle.pipeline.specs.Plans.{depth_stepped, passes_from, deepest_from}
 
 -- ---- a table that is not refused 18
 
-module _ (t : Table) (full : length t.steps ≡ 64) (h : refusal18 (listed t) ≡ none) where
+module _ (t : Table) (full : length t.steps ≡ 64) (h : refusal18 (listed t) ≡ None) where
   pub table-few : t.n ≤ 64
   table-few = (sound-so t full h).few
 
@@ -51,7 +51,7 @@ unfolding passes64 passes_from
 passes_same [] m = refl
 passes_same (s ∷ l) m =
     let e = acted-depth s.does m in
-    (λ i. cond (ltb 64 (e i)) (some s.place) ((passes_same l (acted s.does m) ∙ ap (passes_from l) e) i))
+    (λ i. cond (ltb 64 (e i)) (Some s.place) ((passes_same l (acted s.does m) ∙ ap (passes_from l) e) i))
 
 pub deepest-same : (l : List Numbered) (m : State) → deepest (depths acted l m) ≡ deepest_from l (length m.columns)
 unfolding depths deepest deepest_from
@@ -102,7 +102,7 @@ module _ (d : Direction) (l : List Step) where
     deepest-next depth' false e r k = rw (← e) (omega arith)
 
     passes_over : (depth' : ℕ) → 64 < depth' → (b : Bool) → depth' ≡ cond b depth (depth_after (act d s) depth) → (r : List Numbered) (k : ℕ)
-        → passes_from (cond b r (record { place = k; does = act d s } ∷ r)) depth ≡ some k
+        → passes_from (cond b r (record { place = k; does = act d s } ∷ r)) depth ≡ Some k
     unfolding passes_from
     passes_over depth' w true e r k = absurd (never (omega (arith, inv.within, e)))
     passes_over depth' w false e r k = rw (← e, lt-ltb 64 depth' w)
@@ -126,19 +126,19 @@ module _ (d : Direction) (l : List Step) where
         }
 
     pub plan-over : (depth' k : ℕ) → depth' ≡ depth_stepped d s depth → 64 < depth' → k ≡ visited d i (length l)
-        → passes_from (running d l) 0 ≡ some (k + 1)
+        → passes_from (running d l) 0 ≡ Some (k + 1)
     unfolding depth_stepped
     plan-over depth' k e w f =
         inv.passes
         ∙ ap (λ (z : List Numbered). passes_from z depth) (left-next d l i x h)
         ∙ passes_over depth' w (omitted d s) e (left_from d (i + 1) l) (visited d i (length l) + 1)
-        ∙ ap (λ (z : ℕ). some (z + 1)) (sym f)
+        ∙ ap (λ (z : ℕ). Some (z + 1)) (sym f)
 
-  pub plan-end : (depth deep i : ℕ) → Planning d l depth deep i → length l ≤ i → (passes_from (running d l) 0 ≡ none) × (deep ≡ deepest_from (running d l) 0)
+  pub plan-end : (depth deep i : ℕ) → Planning d l depth deep i → length l ≤ i → (passes_from (running d l) 0 ≡ None) × (deep ≡ deepest_from (running d l) 0)
   unfolding passes_from deepest_from
   plan-end depth deep i inv h =
       let e = left-none d l i h in
-      let p : passes_from (running d l) 0 ≡ none = inv.passes ∙ ap (λ (z : List Numbered). passes_from z depth) e in
+      let p : passes_from (running d l) 0 ≡ None = inv.passes ∙ ap (λ (z : List Numbered). passes_from z depth) e in
       let q : deepest_from (running d l) 0 ≡ deep = inv.deep ∙ ap (λ (z : List Numbered). max deep (deepest_from z depth)) e ∙ own deep in
       (p, sym q)
     where
@@ -147,7 +147,7 @@ module _ (d : Direction) (l : List Step) where
 
 -- ---- the same of a table
 
-module _ (t : Table) (full : length t.steps ≡ 64) (h : refusal18 (listed t) ≡ none) (d : Direction) where
+module _ (t : Table) (full : length t.steps ≡ 64) (h : refusal18 (listed t) ≡ None) (d : Direction) where
   abbrev steps : List Step
   steps = take t.n t.steps
 
@@ -163,11 +163,11 @@ module _ (t : Table) (full : length t.steps ≡ 64) (h : refusal18 (listed t) �
     table-turn deep' f g =
         plan-turn d steps depth deep i x inv (omega (arith, steps-length t full h)) depth' deep' (did ∙ ap (λ (s : Step). depth_stepped d s depth) (step_is i k x e w)) f g
 
-    pub table-over : 64 < depth' → passes_from (running d (listed t)) 0 ≡ some (k + 1)
+    pub table-over : 64 < depth' → passes_from (running d (listed t)) 0 ≡ Some (k + 1)
     table-over f =
         rw (table-steps t full h)
         (plan-over d steps depth deep i x inv (omega (arith, steps-length t full h)) depth' k
         (did ∙ ap (λ (s : Step). depth_stepped d s depth) (step_is i k x e w)) f (e ∙ ap (visited d i) (sym (steps-length t full h))))
 
-  pub table-end : (depth deep i : ℕ) → Planning d steps depth deep i → t.n ≤ i → (passes_from (running d (listed t)) 0 ≡ none) × (deep ≡ deepest_from (running d (listed t)) 0)
+  pub table-end : (depth deep i : ℕ) → Planning d steps depth deep i → t.n ≤ i → (passes_from (running d (listed t)) 0 ≡ None) × (deep ≡ deepest_from (running d (listed t)) 0)
   table-end depth deep i inv b = rw (table-steps t full h) (plan-end d steps depth deep i inv (omega (arith, steps-length t full h)))

@@ -1,8 +1,8 @@
 -- The loop of the run: what has been done, and what is left, make the written run.
+use Rattle.std.specs.Prelude.{None, Some}
 use mathlib.Core.Path.{◌≡◌, refl, sym, ap, ◌∙◌, subst}
 use Prim.Native.Nat.{ℕ, ◌+◌, ◌-◌, ◌*◌, ◌/◌, ◌<◌, ◌≤◌, max, min}
 use mathlib.Core.Bool.{Bool, true, false, cond}
-use mathlib.Core.Option.{none, some}
 use mathlib.Core.List.{List, ◌∷◌}
 use native.Mathlib.Nat.{mul-le-mul_right}
 use native.Mathlib.Omega.{arith}
@@ -39,7 +39,7 @@ drop-further a b l l' h e =
 pub record Running (d : Direction) (l : List Step) (deepest : ℕ) (xs₀ s₀ xs s : List Float) (c depth i : ℕ) : Type 0 where
   pub machine : after acted (left_from d i l) (held xs s depth) ≡ after acted (running d l) (start xs₀)
   pub counted : count_from c (left_from d i l) (held xs s depth) ≡ count (running d l) (start xs₀)
-  pub passes : passes_from (left_from d i l) depth ≡ none
+  pub passes : passes_from (left_from d i l) depth ≡ None
   pub deep : max depth (deepest_from (left_from d i l) depth) ≤ deepest
   pub within : depth ≤ 64
   pub beyond : drop (deepest * (length xs₀ / 4)) s ≡ drop (deepest * (length xs₀ / 4)) s₀
@@ -49,7 +49,7 @@ pub record Running (d : Direction) (l : List Step) (deepest : ℕ) (xs₀ s₀ x
   pub upto : i ≤ length l
 
 module _ (d : Direction) (l : List Step) (deepest : ℕ) (xs₀ s₀ : List Float) where
-  pub run_none : passes_from (running d l) 0 ≡ none → deepest ≡ deepest_from (running d l) 0 → Running d l deepest xs₀ s₀ xs₀ s₀ (length xs₀ / 4) 0 0
+  pub run_none : passes_from (running d l) 0 ≡ None → deepest ≡ deepest_from (running d l) 0 → Running d l deepest xs₀ s₀ xs₀ s₀ (length xs₀ / 4) 0 0
   unfolding held columns_of count
   run_none p q =
       let e = left-all d l in
@@ -74,16 +74,16 @@ module _ (d : Direction) (l : List Step) (deepest : ℕ) (xs₀ s₀ : List Floa
     record Next (depth' : ℕ) (r : List Numbered) : Type 0 where
       within : depth' ≤ 64
       below : max depth depth' ≤ deepest
-      passes : passes_from r depth' ≡ none
+      passes : passes_from r depth' ≡ None
       deep : max depth' (deepest_from r depth') ≤ deepest
 
-    next-if : (b : Bool) (k : ℕ) (r : List Numbered) → passes_from (cond b r (record { place = k; does = act d step } ∷ r)) depth ≡ none
+    next-if : (b : Bool) (k : ℕ) (r : List Numbered) → passes_from (cond b r (record { place = k; does = act d step } ∷ r)) depth ≡ None
         → max depth (deepest_from (cond b r (record { place = k; does = act d step } ∷ r)) depth) ≤ deepest → Next (cond b depth (depth_after (act d step) depth)) r
     unfolding passes_from deepest_from
     next-if true k r p q = record { within = inv.within; below = omega arith; passes = p; deep = q }
     next-if false k r p q = go (ltb 64 (depth_after (act d step) depth)) refl p
       where
-        go : (b : Bool) → ltb 64 (depth_after (act d step) depth) ≡ b → cond b (some k) (passes_from r (depth_after (act d step) depth)) ≡ none → Next (depth_after (act d step) depth) r
+        go : (b : Bool) → ltb 64 (depth_after (act d step) depth) ≡ b → cond b (Some k) (passes_from r (depth_after (act d step) depth)) ≡ None → Next (depth_after (act d step) depth) r
         go true e p = absurd (never (cc p))
         go false e p = record { within = ltb-false 64 (depth_after (act d step) depth) e; below = omega arith; passes = p; deep = omega arith }
 
@@ -92,7 +92,7 @@ module _ (d : Direction) (l : List Step) (deepest : ℕ) (xs₀ s₀ : List Floa
     next =
         let e = left-next d l i x h in
         next-if (omitted d step) (visited d i (length l) + 1) (left_from d (i + 1) l)
-        (subst (λ (r : List Numbered). passes_from r depth ≡ none) e inv.passes)
+        (subst (λ (r : List Numbered). passes_from r depth ≡ None) e inv.passes)
         (subst (λ (r : List Numbered). max depth (deepest_from r depth) ≤ deepest) e inv.deep)
 
     -- room for the columns before the step, and after it
@@ -166,11 +166,11 @@ module _ (d : Direction) (l : List Step) (deepest : ℕ) (xs₀ s₀ : List Floa
 
 -- ---- the same of a table
 
-module _ (t : Table) (full : length t.steps ≡ 64) (h : refusal18 (listed t) ≡ none) (d : Direction) (deepest : ℕ) (xs₀ s₀ : List Float) where
+module _ (t : Table) (full : length t.steps ≡ 64) (h : refusal18 (listed t) ≡ None) (d : Direction) (deepest : ℕ) (xs₀ s₀ : List Float) where
   abbrev steps : List Step
   steps = take t.n t.steps
 
-  pub table_none : passes_from (running d (listed t)) 0 ≡ none → deepest ≡ deepest_from (running d (listed t)) 0 → Running d steps deepest xs₀ s₀ xs₀ s₀ (length xs₀ / 4) 0 0
+  pub table_none : passes_from (running d (listed t)) 0 ≡ None → deepest ≡ deepest_from (running d (listed t)) 0 → Running d steps deepest xs₀ s₀ xs₀ s₀ (length xs₀ / 4) 0 0
   table_none p q = run_none d steps deepest xs₀ s₀ (rw (table-steps t full h) at p) (rw (table-steps t full h) at q)
 
   module _ (xs s : List Float) (c depth i k : ℕ) (x : Step) (inv : Running d steps deepest xs₀ s₀ xs s c depth i) (b : i < t.n) (e : k ≡ visited d i t.n) (w : k < t.n) where

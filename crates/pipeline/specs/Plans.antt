@@ -1,13 +1,13 @@
 -- The depths of a run: what a pass without numbers tells of refusals 16 and 17.
-use Rattle.std.specs.Prelude.{◌≡◌, ℕ, ◌*◌, ◌/◌, ◌≤◌, max, min, Bool, false, cond, List, [], ◌∷◌, length, drop, ltb, Float}
-use Rattle.std.proofs.Math.Option.{Option, none, some}
+use Rattle.rules.specs.declared.Refusal.{Refusal}
+use Rattle.rules.specs.declared.Finished.{Finished}
+use Rattle.std.specs.Prelude.{◌≡◌, ℕ, ◌*◌, ◌/◌, ◌≤◌, max, min, Bool, false, cond, List, [], ◌∷◌, length, drop, ltb, Float, Option, None, Some, Result}
 use Rattle.rules.specs.Pipeline.Running.{act, Numbered, omitted}
 use Rattle.rules.specs.Pipeline.Tuples.{State, acted, counts_none}
 use Rattle.rules.specs.Pipeline.Columns.{after}
 use Rattle.rules.specs.Pipeline.Run.{start, count, Outcome}
 use Rattle.rules.specs.declared.Step.{Step}
 use Rattle.rules.specs.declared.Direction.{Direction}
-use Rattle.rules.specs.declared.Ran.{Ran}
 use Rattle.laws_steps.specs.Depth.{depth_after}
 use Rattle.columns.specs.Stores.{held}
 use Rattle.pipeline.specs.declared.Stood.{Stood}
@@ -32,11 +32,11 @@ count_stepped d s depth tuples count = cond (omitted d s) count (min count (cond
 
 -- 16: the place of the first step after which there are more than 64
 unfoldable pub passes_from : List Numbered → ℕ → Option ℕ
-passes_from [] depth = none
+passes_from [] depth = None
 passes_from (s ∷ l) depth =
     let d = depth_after s.does depth in
     let rest = passes_from l d in
-    cond (ltb 64 d) (some s.place) rest
+    cond (ltb 64 d) (Some s.place) rest
 
 unfoldable pub deepest_from : List Numbered → ℕ → ℕ
 deepest_from [] depth = 0
@@ -56,7 +56,7 @@ pub record Stands (d : Direction) (s : Step) (depth : ℕ) (xs store xs' store' 
   pub leaves : Stepped d s depth xs store xs' store'
 
 -- what a call answers and leaves is a given outcome
-pub record Gives (o : Outcome) (result : Ran) (xs store : List Float) : Type 0 where
+pub record Gives (o : Outcome) (result : Result Finished Refusal) (xs store : List Float) : Type 0 where
   pub exactly : ◌≡◌ {A = Outcome} (record { answer = result; list = xs; store = store }) o
 
 -- what the steps of a run leave, `deepest` columns deep at the most: the machine, the count, and the store untouched beyond

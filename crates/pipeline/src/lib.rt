@@ -1,7 +1,7 @@
 // The run of a step table over a list of tuples and a lent store of columns, both ways.
 #![tactic(auto)]
 
-ghost use Rattle.std.specs.Prelude.{◌≡◌, true, cond, ◌*◌, ◌≤◌, ◌/◌, max, length};
+ghost use Rattle.std.specs.Prelude.{◌≡◌, true, cond, ◌*◌, ◌≤◌, ◌/◌, length};
 ghost use Rattle.rules.specs.Pipeline.Record.{made, listed};
 ghost use Rattle.rules.specs.Pipeline.Run.{bad_list, Runs};
 ghost use Rattle.laws_steps.specs.Depth.{depth_after};
@@ -14,7 +14,7 @@ use axisswap::axisswap;
 use columns::{Act, Doing, counts_none, depth_after, zero_rest};
 use pushpop::{pop, push};
 use record::{act_of, end_of, good_in, is_omitted, visited_of};
-use rules::{Direction, Ran, Step, Table};
+use rules::{Direction, Finished, Refusal, Step, Table};
 use stack::{flip, pop_all, roll, swap};
 
 // ---- one act
@@ -90,13 +90,6 @@ fn counted(none: bool, count: usize) -> usize
     if none { 0 } else { count }
 }
 
-// The greater of two.
-fn max_of(a: usize, b: usize) -> usize
-    ensures { result ≡ max a b }
-{
-    if a < b { b } else { a }
-}
-
 // 15: is the length of a list no multiple of 4, or over 65,536 tuples?
 fn is_bad_list(tuples: &[f64]) -> bool
     ensures { result ≡ bad_list tuples.now }
@@ -111,82 +104,83 @@ fn is_bad_list(tuples: &[f64]) -> bool
 // The run of a table over a list, four numbers per tuple, and a store of columns: the count and how many columns are left, or
 // the refusal. The table is large and given by value: every pass over it stands here, so that it is not copied for each. The
 // passes are short, so that it is not copied at all: what is long stands in `run_step`, which two of them call.
-pub fn run(table: Table, direction: Direction, tuples: &mut [f64], columns: &mut [f64]) -> Ran
+pub fn run(
+    table: Table,
+    direction: Direction,
+    tuples: &mut [f64],
+    columns: &mut [f64],
+) -> Result<Finished, Refusal>
     ensures { Runs (direction) (listed (table)) tuples.old columns.old result tuples.new columns.new }
 {
     let n = table.n;
     let steps = table.steps;
     if 64 < n {
-        return Ran::Refused {
+        return Err(Refusal {
             number: 18,
             place: 0,
-        };
+            offset: 0,
+        });
     }
     // 18: the first record that no preparation makes, whose reading is not the first's, or whose span is not one behind the last
     let first = steps[0];
     let reading = first.reading;
     let mut end = 0;
-    let mut i = 0;
-    while i < n {
+    for i in 0..n {
         let s = steps[i];
-        i += 1;
         if !good_in(s, reading, end) {
-            return Ran::Refused {
+            return Err(Refusal {
                 number: 18,
-                place: i,
-            };
+                place: i + 1,
+                offset: 0,
+            });
         }
         end = end_of(s);
     }
     if is_bad_list(tuples) {
-        return Ran::Refused {
+        return Err(Refusal {
             number: 15,
             place: 0,
-        };
+            offset: 0,
+        });
     }
     // 16: the depths, by a run over no tuples
     let mut no_tuples = [0.0; 0];
     let mut no_columns = [0.0; 0];
     let mut depth = 0;
     let mut deepest = 0;
-    let mut i = 0;
-    while i < n {
+    for i in 0..n {
         let k = visited_of(direction, i, n);
         let s = steps[k];
         let stood = run_step(&mut no_tuples, &mut no_columns, depth, s, direction);
         depth = stood.depth;
         if 64 < depth {
-            return Ran::Refused {
+            return Err(Refusal {
                 number: 16,
                 place: k + 1,
-            };
+                offset: 0,
+            });
         }
-        deepest = max_of(deepest, depth);
-        i += 1;
+        deepest = deepest.max(depth);
     }
     let whole = tuples.len() / 4;
     let used = deepest * whole;
     if columns.len() < used {
-        return Ran::Refused {
+        return Err(Refusal {
             number: 17,
             place: 0,
-        };
+            offset: 0,
+        });
     }
     // every step that runs, one after the other, in running order
     let mut count = whole;
     let mut left = 0;
-    let mut i = 0;
-    while i < n {
+    for i in 0..n {
         let k = visited_of(direction, i, n);
         let s = steps[k];
         let stood = run_step(tuples, columns, left, s, direction);
         count = counted(stood.none, count);
         left = stood.depth;
-        i += 1;
     }
     zero_rest(columns, left * whole, used);
-    Ran::Done {
-        count: count,
-        left: left,
-    }
+    Ok(Finished { count, left })
 }

@@ -1,30 +1,32 @@
 -- Digits: the invariant of the loop that reads them, and its laws; digits after a point in millionths.
 use mathlib.Core.Path.{◌≡◌, refl, sym, ap, ◌∙◌}
-use mathlib.Core.Bool.{true, false}
+use Rattle.std.specs.Char.{is_ascii_digit}
+use mathlib.Core.Bool.{Bool, true, false, and-false}
 use Prim.Native.Nat.{ℕ, ◌+◌, ◌-◌, ◌*◌, ◌^◌, ◌≤◌, ◌<◌}
-use native.Mathlib.Nat.{pow-suc, pow-le-pow_right}
+use native.Mathlib.Nat.{pow-suc, pow-le-pow_right, mul-lt-mul_of_pos_right}
 use native.Mathlib.Numerals.{add-one}
 use native.Mathlib.Omega.{arith}
 use borrow.Author.Tests.{le-leb, lt-leb, leb-true}
 use lib.ListN.{length, drop, get_or, drop_of_length-le}
 use lib.Dec.{leb}
+use lib.Pow.{pow-add}
 use Rattle.rules.specs.Text.Lists.{all_of}
 use Rattle.rules.specs.Text.Bytes.{Bytes}
 use Rattle.rules.specs.Text.Decimal.{digit, digits_to, spelled}
 use Rattle.laws_lists.specs.Tests.{and_left, and_right}
 use Rattle.text.proofs.RunEnd.{drop-next}
-use Rattle.prepare.specs.declared.decimal.Spelled.TheVariants.{Are, Not}
+use Rattle.std.specs.Prelude.{Some, None}
 use Rattle.prepare.specs.SeriesRead.{spelled_to}
 
 -- ---- too few or too many
 
-pub none-spelled : (most : ℕ) (t : Bytes) → length t < 1 → Not ≡ spelled_to most t
+pub none-spelled : (most : ℕ) (t : Bytes) → length t < 1 → None ≡ spelled_to most t
 unfolding spelled_to digits_to
 none-spelled most t h = sym (rw (lt-leb 1 (length t) h))
 
-pub many-spelled : (most : ℕ) (t : Bytes) → 1 ≤ length t → most < length t → Not ≡ spelled_to most t
+pub many-spelled : (most : ℕ) (t : Bytes) → most < length t → None ≡ spelled_to most t
 unfolding spelled_to digits_to
-many-spelled most t h l = sym (rw (le-leb 1 (length t) h, lt-leb (length t) most l))
+many-spelled most t l = sym (rw (lt-leb (length t) most l, and-false (leb 1 (length t))))
 
 -- ---- the loop
 
@@ -40,6 +42,11 @@ pub record Spells (most : ℕ) (t : Bytes) (n i : ℕ) : Type 0 where
 
 pub spells-none : (most : ℕ) (t : Bytes) → 1 ≤ length t → length t ≤ most → most ≤ 9 → Spells most t 0 0
 spells-none most t h l k = record { within = omega arith; some = h; few = l; most-nine = k; small = omega arith; number = refl; digits = refl }
+
+-- the library's test of a digit
+pub ascii-digit : (b : ℕ) {r : Bool} → r ≡ is_ascii_digit b → digit b ≡ r
+unfolding digit
+ascii-digit b e = sym e
 
 -- a digit is from 48 to 57
 pub digit_low : (b : ℕ) → digit b ≡ true → 48 ≤ b
@@ -57,7 +64,7 @@ module _ {most : ℕ} {t : Bytes} {n i : ℕ} (m : Spells most t n i) where
       let p : 10 ^ i ≤ 10 ^ 8 = pow-le-pow_right {n = 10} (omega arith) {i = i} {j = 8} (omega (arith, m.few, m.most-nine)) in
       omega (arith, p, m.small)
 
-  pub spells-not : i < length t → digit (get_or t i 0) ≡ false → Not ≡ spelled_to most t
+  pub spells-not : i < length t → digit (get_or t i 0) ≡ false → None ≡ spelled_to most t
   unfolding spelled_to digits_to all_of
   spells-not h e =
       let d : all_of digit t ≡ false = m.digits ∙ ap (all_of digit) (drop-next t i h) ∙ rw e in
@@ -78,7 +85,7 @@ module _ {most : ℕ} {t : Bytes} {n i : ℕ} (m : Spells most t n i) where
         digits = m.digits ∙ ap (all_of digit) (drop-next t i h) ∙ rw e;
       }
 
-  pub spells-all : length t ≤ i → Are n ≡ spelled_to most t
+  pub spells-all : length t ≤ i → Some n ≡ spelled_to most t
   unfolding spelled_to digits_to all_of spelled
   spells-all h =
       let d : all_of digit t ≡ true = m.digits ∙ ap (all_of digit) (drop_of_length-le t h) in
@@ -87,12 +94,9 @@ module _ {most : ℕ} {t : Bytes} {n i : ℕ} (m : Spells most t n i) where
 
 -- ---- millionths
 
--- v below 10 ^ k, for a k that is told
-pub below-ten : (v k j : ℕ) → v < 10 ^ k → k ≡ j → v < 10 ^ j
-below-ten v k j h e = rw e at h
-
-pub in-millionths : (v k j : ℕ) → k ≡ j → v * 10 ^ (6 - j) ≡ v * 10 ^ (6 - k)
-in-millionths v k j e = ap (λ (x : ℕ). v * 10 ^ (6 - x)) (sym e)
-
-pub whole-millionths : (v k : ℕ) → k ≡ 6 → v ≡ v * 10 ^ (6 - k)
-whole-millionths v k e = let z : v ≡ v * 1 = omega arith in z ∙ in-millionths v k 6 e
+pub millionths-small : (v k : ℕ) → k ≤ 6 → v < 10 ^ k → v * 10 ^ (6 - k) < 1000000
+millionths-small v k f h =
+    let six : k + (6 - k) ≡ 6 = omega arith in
+    let e : 10 ^ k * 10 ^ (6 - k) ≡ 10 ^ 6 = sym (pow-add 10 k (6 - k)) ∙ ap (λ (j : ℕ). 10 ^ j) six in
+    let p : 10 ^ 0 ≤ 10 ^ (6 - k) = pow-le-pow_right {n = 10} (omega arith) {i = 0} {j = 6 - k} (omega arith) in
+    rw e at (mul-lt-mul_of_pos_right {m = v} {n = 10 ^ k} {k = 10 ^ (6 - k)} h p)

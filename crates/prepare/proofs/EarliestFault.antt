@@ -3,14 +3,15 @@
 use mathlib.Core.Path.{◌≡◌, refl, sym, ap, ◌∙◌}
 use Prim.Native.Nat.{ℕ, ◌+◌, ◌-◌, ◌≤◌, ◌<◌, min}
 use mathlib.Core.Bool.{Bool, true, false, cond, ◌||◌, false≢true}
-use mathlib.Core.List.{List, [], ◌∷◌, ◌++◌, map}
+use mathlib.Core.List.{List, [], ◌∷◌, ◌++◌, append-nil, map, map-append}
 use native.Mathlib.Nat.{add-zero}
 use native.Mathlib.Omega.{arith}
-use borrow.Author.Tests.{ltb-true, ltb-false, eqb-true, eqb-false}
-use lib.ListN.{length, drop, get_or, length-map, drop_of_length-le}
-use lib.Seq.{drop-cons}
+use borrow.Author.Tests.{ltb-true, eqb-true, eqb-false}
+use lib.ListN.{length, take, get_or}
+use lib.Seq.{take-suc, take_all}
 use lib.Dec.{eqb, ltb}
 use native.Mathlib.Numerals.{add-one}
+use Rattle.std.specs.Prelude.{Some, None}
 use Rattle.rules.specs.Text.Ascii.{ascii}
 use Rattle.rules.specs.Text.Lists.{any_of, non_empty, is_none}
 use Rattle.rules.specs.Text.Bytes.{Bytes, same}
@@ -21,17 +22,15 @@ use Rattle.rules.specs.Pipeline.Keys.{every_key, own_keys, kind_of, unknown, mis
 use Rattle.rules.specs.Pipeline.Offsets.{fault_in, is_fault, fault_at, faults, earliest}
 use Rattle.rules.specs.declared.Kind.TheVariants as kind
 use Rattle.rules.specs.declared.Name.{Name}
-use Rattle.laws_lists.specs.Lists.{drop-map}
 use Rattle.laws_lists.specs.Tests.{never}
 use Rattle.text.proofs.RunEnd.{length_part}
-use Rattle.parameters.specs.Parts.{Parts, placed_of, key_of, value_of as value_part, value_at, held, listed, placed_in, Within, Good}
+use Rattle.parameters.specs.Parts.{Parts, placed_of, key_of, value_of as value_part, value_at, held, listed, placed_in, Within}
 use Rattle.parameters.specs.declared.table.Part.{Part}
-use Rattle.parameters.proofs.Places.{held-length, held_at, good-at}
 use Rattle.prepare.specs.SeriesRead.{lowest, Reads}
-use Rattle.prepare.specs.Faults.{by, placed, unplaced, flag_fault, lower, earlier, lowest_of, without, joined, Finds}
+use Rattle.prepare.specs.Faults.{by, placed, unplaced, flag_fault, earlier, lowest_of, without, joined, Finds}
 use Rattle.prepare.specs.declared.faults.Lowest.{Lowest}
 use Rattle.prepare.specs.declared.series.Numbers.{Numbers}
-use Rattle.prepare.proofs.LowestFault.{lowers-none, lowers-more, lowest-one, fault-lacking, fault-flag, fault-word, fault-series}
+use Rattle.prepare.proofs.LowestFault.{lowers-none, lowers-behind, fault-lacking, fault-flag, fault-word, fault-series}
 
 -- ---- of two numbers
 
@@ -42,45 +41,42 @@ by-12 false true c h = refl
 by-12 false false true h = refl
 by-12 false false false h = refl
 
-lower-12 : (x y : ℕ) → lower x y ≡ 12 → (12 ≤ x) × (12 ≤ y)
-unfolding lower
-lower-12 x y e = go (ltb x y) refl e
-  where
-    go : (b : Bool) → ltb x y ≡ b → cond b x y ≡ 12 → (12 ≤ x) × (12 ≤ y)
-    go true l f = (omega arith, omega (arith, ltb-true x y l))
-    go false l f = (omega (arith, ltb-false x y l), omega arith)
+lower-12 : (x y : ℕ) → min x y ≡ 12 → (12 ≤ x) × (12 ≤ y)
+lower-12 x y e = (omega (arith, e), omega (arith, e))
 
-lower-other : (x y : ℕ) → lower x y ≡ 12 → eqb x 12 ≡ false → y ≡ 12
-unfolding lower
-lower-other x y e f = go (ltb x y) e
-  where
-    go : (b : Bool) → cond b x y ≡ 12 → y ≡ 12
-    go true g = absurd (eqb-false x 12 f g)
-    go false g = g
+lower-other : (x y : ℕ) → min x y ≡ 12 → eqb x 12 ≡ false → y ≡ 12
+lower-other x y e f = let g : (x ≡ 12 → ⊥) = eqb-false x 12 f in omega (arith, e, g)
 
 no-12 : (b : Bool) → ◌≡◌ {A = ℕ} (cond b 13 14) 12 → ⊥
 no-12 true g = never (omega arith)
 no-12 false g = never (omega arith)
-
--- the earlier of two
-min-is : (x y : ℕ) → cond (ltb x y) x y ≡ min x y
-min-is x y = go (ltb x y) refl
-  where
-    go : (b : Bool) → ltb x y ≡ b → cond b x y ≡ min x y
-    go true l = let h = ltb-true x y l in omega arith
-    go false l = let h = ltb-false x y l in omega arith
 
 earliest-more : (x : ℕ) (l : List ℕ) → non_empty l ≡ true → earliest (x ∷ l) ≡ min x (earliest l)
 unfolding earliest non_empty
 earliest-more x [] h = absurd (false≢true h)
 earliest-more x (y ∷ l) h = refl
 
-earliest-one : (x : ℕ) (l : List ℕ) → non_empty l ≡ false → earliest (x ∷ l) ≡ x
-unfolding earliest non_empty
-earliest-one x [] h = refl
-earliest-one x (y ∷ l) h = absurd (false≢true (sym h))
+-- of some and of others
+none-behind : (u v : List ℕ) → non_empty v ≡ false → u ++ v ≡ u
+unfolding non_empty
+none-behind u [] h = append-nil u
+none-behind u (y ∷ v) h = absurd (false≢true (sym h))
 
--- ---- of a parameter and of others
+none-before : (u v : List ℕ) → non_empty u ≡ false → u ++ v ≡ v
+unfolding non_empty
+none-before [] v h = refl
+none-before (x ∷ u) v h = absurd (false≢true (sym h))
+
+earliest-both : (u v : List ℕ) → non_empty u ≡ true → non_empty v ≡ true → earliest (u ++ v) ≡ min (earliest u) (earliest v)
+unfolding earliest non_empty
+earliest-both [] v g h = absurd (false≢true g)
+earliest-both (x ∷ []) v g h = earliest-more x v h
+earliest-both (x ∷ y ∷ l) v g h = let e = earliest-both (y ∷ l) v refl h in omega (arith, e)
+
+-- ---- of parameters and of others
+
+unplaced-behind : (xs ys : List Placed) → unplaced (xs ++ ys) ≡ unplaced xs ++ unplaced ys
+unplaced-behind xs ys = map-append (λ (q : Placed). q.given) xs ys
 
 module _ (n : Name) where
   any-fault : (qs : List Placed) → any_of (λ (p : Parameter). misspelt (kind_of n p) p.value) (unplaced qs) ≡ non_empty (faults n qs)
@@ -93,48 +89,46 @@ module _ (n : Name) where
       go true h = refl
       go false h = h
 
-  -- the fault of one
-  only : (q : Placed) → is_fault n q ≡ true → earliest (faults n (q ∷ [])) ≡ fault_at n q
-  unfolding faults earliest
-  only q h = rw h
+  faults-behind : (xs ys : List Placed) → faults n (xs ++ ys) ≡ faults n xs ++ faults n ys
+  unfolding faults
+  faults-behind [] ys = refl
+  faults-behind (q ∷ xs) ys = go (is_fault n q) (faults-behind xs ys)
+    where
+      go : (b : Bool) → faults n (xs ++ ys) ≡ faults n xs ++ faults n ys
+          → cond b (fault_at n q ∷ faults n (xs ++ ys)) (faults n (xs ++ ys)) ≡ cond b (fault_at n q ∷ faults n xs) (faults n xs) ++ faults n ys
+      go true h = ap (λ (l : List ℕ). fault_at n q ∷ l) h
+      go false h = h
 
   pub finds-none : Finds n [] (without 14 0)
   finds-none = record { lowers = lowers-none n; at = unfold without in λ e. absurd (never (omega arith)) }
 
-  module _ {q : Placed} {qs : List Placed} {a b : Lowest} (f : Finds n (q ∷ []) a) (m : Finds n qs b) where
-    fault-first : 12 ≤ a.number → eqb a.number 12 ≡ is_fault n q
-    unfolding is_fault
-    fault-first h =
-        let e = f.lowers.number ∙ lowest-one n q.given in
-        rw e (by-12 (unknown n q.given) (misspelt (kind_of n q.given) q.given.value) (too_long (kind_of n q.given) q.given.value) (rw e at h))
+  fault-there : {qs : List Placed} {a : Lowest} → Finds n qs a → 12 ≤ a.number → eqb a.number 12 ≡ non_empty (faults n qs)
+  fault-there {qs} {a} m h =
+      let lacking = any_of (unknown n) (unplaced qs) in
+      let wrong = any_of (λ (p : Parameter). misspelt (kind_of n p) p.value) (unplaced qs) in
+      let long = any_of (λ (p : Parameter). too_long (kind_of n p) p.value) (unplaced qs) in
+      let e : a.number ≡ by lacking wrong long = unfold lowest_of in m.lowers.number in
+      rw (e, ← any-fault qs) (by-12 lacking wrong long (rw e at h))
 
-    fault-others : 12 ≤ b.number → eqb b.number 12 ≡ non_empty (faults n qs)
-    fault-others h =
-        let lacking = any_of (unknown n) (unplaced qs) in
-        let wrong = any_of (λ (p : Parameter). misspelt (kind_of n p) p.value) (unplaced qs) in
-        let long = any_of (λ (p : Parameter). too_long (kind_of n p) p.value) (unplaced qs) in
-        let e : b.number ≡ by lacking wrong long = unfold lowest_of in m.lowers.number in
-        rw (e, ← any-fault qs) (by-12 lacking wrong long (rw e at h))
-
-    earlier-is : lower a.number b.number ≡ 12 → earlier a.number a.at b.number b.at ≡ earliest (faults n (q ∷ qs))
-    unfolding earlier faults
+  module _ {xs ys : List Placed} {a b : Lowest} (f : Finds n xs a) (m : Finds n ys b) where
+    earlier-is : min a.number b.number ≡ 12 → earlier a.number a.at b.number b.at ≡ earliest (faults n (xs ++ ys))
+    unfolding earlier
     earlier-is e =
         let l = lower-12 a.number b.number e in
-        go (is_fault n q) refl (fault-first l.0) (non_empty (faults n qs)) refl (fault-others l.1)
+        rw (faults-behind xs ys) (go (non_empty (faults n xs)) refl (fault-there f l.0) (non_empty (faults n ys)) refl (fault-there m l.1))
       where
-        here : is_fault n q ≡ true → eqb a.number 12 ≡ true → a.at ≡ fault_at n q
-        here w z = f.at (eqb-true a.number 12 z) ∙ only q w
-
-        go : (w : Bool) → is_fault n q ≡ w → eqb a.number 12 ≡ w → (v : Bool) → non_empty (faults n qs) ≡ v → eqb b.number 12 ≡ v
-            → cond (eqb a.number 12) (cond (eqb b.number 12) (cond (ltb a.at b.at) a.at b.at) a.at) b.at
-            ≡ earliest (cond w (fault_at n q ∷ faults n qs) (faults n qs))
+        go : (w : Bool) → non_empty (faults n xs) ≡ w → eqb a.number 12 ≡ w → (v : Bool) → non_empty (faults n ys) ≡ v → eqb b.number 12 ≡ v
+            → cond (eqb a.number 12) (cond (eqb b.number 12) (min a.at b.at) a.at) b.at ≡ earliest (faults n xs ++ faults n ys)
         go true w z true v y =
-            rw (z, y, min-is a.at b.at, here w z, m.at (eqb-true b.number 12 y)) (sym (earliest-more (fault_at n q) (faults n qs) v))
-        go true w z false v y = rw (z, y) (here w z ∙ sym (earliest-one (fault_at n q) (faults n qs) v))
-        go false w z v u y = rw z (m.at (lower-other a.number b.number e z))
+            rw (z, y, f.at (eqb-true a.number 12 z), m.at (eqb-true b.number 12 y)) (sym (earliest-both (faults n xs) (faults n ys) w v))
+        go true w z false v y = rw (z, y, none-behind (faults n xs) (faults n ys) v) (f.at (eqb-true a.number 12 z))
+        go false w z v u y = rw (z, none-before (faults n xs) (faults n ys) w) (m.at (lower-other a.number b.number e z))
 
-    pub finds-more : Finds n (q ∷ qs) (joined a b)
-    finds-more = record { lowers = lowers-more n f.lowers m.lowers; at = unfold joined in earlier-is }
+    pub finds-behind : Finds n (xs ++ ys) (joined a b)
+    finds-behind = record {
+      lowers = rw (unplaced-behind xs ys) (lowers-behind n f.lowers m.lowers);
+      at = unfold joined in earlier-is;
+    }
 
 -- ---- one parameter, by what its key takes
 
@@ -142,13 +136,13 @@ abbrev alone : Bytes → Bytes → ℕ → List Placed
 alone key value at = placed key value at ∷ []
 
 module _ {n : Name} {key value : Bytes} (at : ℕ) where
-  pub finds-lacking : kind.Lacking ≡ kind_in (every_key ++ own_keys n) key → Finds n (alone key value at) (without 11 at)
+  pub finds-lacking : None ≡ kind_in (every_key ++ own_keys n) key → Finds n (alone key value at) (without 11 at)
   finds-lacking e = record { lowers = fault-lacking e at; at = unfold without in λ z. absurd (never (omega arith)) }
 
-  pub finds-word : kind.Word ≡ kind_in (every_key ++ own_keys n) key → Finds n (alone key value at) (without 14 at)
+  pub finds-word : Some kind.Word ≡ kind_in (every_key ++ own_keys n) key → Finds n (alone key value at) (without 14 at)
   finds-word e = record { lowers = fault-word e at; at = unfold without in λ z. absurd (never (omega arith)) }
 
-  pub finds-flag : {r : ℕ} → kind.Flag ≡ kind_in (every_key ++ own_keys n) key → r ≡ flag_fault value → Finds n (alone key value at) (without r at)
+  pub finds-flag : {r : ℕ} → Some kind.Flag ≡ kind_in (every_key ++ own_keys n) key → r ≡ flag_fault value → Finds n (alone key value at) (without r at)
   unfolding flag_fault faults is_fault fault_at fault_in misspelt kind_of earliest
   finds-flag {r} e h = record { lowers = fault-flag e h at; at = unfold without in λ z. wrong (same value (ascii "true")) refl (sym h ∙ z) }
     where
@@ -156,8 +150,8 @@ module _ {n : Name} {key value : Bytes} (at : ℕ) where
       wrong true f g = absurd (never (omega (arith, rw f at g)))
       wrong false f g = sym (rw (← e, f) (add-zero at))
 
-  pub finds-series : {r : Numbers} → kind.Series ≡ kind_in (every_key ++ own_keys n) key → Reads value at r
-      → Finds n (alone key value at) (record { number = r.number; at = r.at; found = true; numbers = r })
+  pub finds-series : {r : Numbers} → Some kind.Series ≡ kind_in (every_key ++ own_keys n) key → Reads value at r
+      → Finds n (alone key value at) (record { number = r.number; at = r.at; series = Some r })
   unfolding lowest faults is_fault fault_at fault_in misspelt kind_of earliest
   finds-series {r} e h = record { lowers = fault-series e h; at = λ z. h.at z ∙ wrong (is_none (series value)) refl (sym h.number ∙ z) }
     where
@@ -174,53 +168,32 @@ given-placed s (p ∷ l) = ap (λ (r : List Parameter). (placed_of s p).given �
 pub given-in : (s : Bytes) (t : Parts) → unplaced (placed_in s t) ≡ listed s t
 given-in s t = given-placed s (held t)
 
-module _ {s : Bytes} {t : Parts} (g : Good s t) where
-  placed-next : (i : ℕ) (d : Part) → i < t.n → drop i (placed_in s t) ≡ placed_of s (get_or t.parts i d) ∷ drop (i + 1) (placed_in s t)
-  placed-next i d h =
-      let k : i < length (held t) = omega (arith, held-length g) in
-      drop-map (placed_of s) i (held t)
-      ∙ ap (map (placed_of s)) (drop-cons (held t) i d k)
-      ∙ rw (held_at g i d h, drop-map (placed_of s) (i + 1) (held t), add-one i)
+-- ---- the loop: what is so of the first i
 
-  placed_end : drop t.n (placed_in s t) ≡ []
-  placed_end =
-      let k : length (placed_in s t) ≤ t.n = omega (arith, length-map (held t) (placed_of s), held-length g) in
-      drop_of_length-le (placed_in s t) k
+abbrev pub Lowering : Bytes → List Part → Name → ℕ → Lowest → Type 0
+Lowering s l n i low = Finds n (map (placed_of s) (take i l)) low
 
--- ---- the loop: what is so of those from i on
+pub lowering-none : (s : Bytes) (l : List Part) (n : Name) {low : Lowest} → low ≡ without 14 0 → Lowering s l n 0 low
+lowering-none s l n e = rw e (finds-none n)
 
-pub record Lowering (s : Bytes) (t : Parts) (n : Name) (i : ℕ) (low : Lowest) : Type 0 where
-  pub good : Good s t
-  pub within : i ≤ t.n
-  pub so_far : Finds n (drop i (placed_in s t)) low
-
-pub lowering-none : {s : Bytes} {t : Parts} (n : Name) {low : Lowest} → Good s t → low ≡ without 14 0 → Lowering s t n t.n low
-lowering-none {s} {t} n g e = record { good = g; within = omega arith; so_far = rw (placed_end g, e) (finds-none n) }
-
--- a place in a short text, and a value of it behind that
-pub value-small : {s : Bytes} {p : Part} → Within s p → length s ≤ 4105 → {at : ℕ} → at ≡ value_at s p → at + length (value_part s p) ≤ 65535
-value-small {s} {p} w h {at} e =
+-- a place in the text, and a value of it behind that
+pub value-small : {s : Bytes} {p : Part} → Within s p → length s ≤ 40969 → {at : ℕ} {v : Bytes} → at ≡ value_at s p → v ≡ value_part s p → at + length v ≤ 65535
+value-small {s} {p} w h {at} {v} e f =
     let l = length_part s p.value p.value_end w.value-ahead w.value-within in
-    let k : value_at s p ≤ length s = inside (ltb (length s - p.value) 9) in
-    omega (arith, l, k, w.value-within)
+    let k = inside (ltb (length s - p.value) 9) refl in
+    omega (arith, ap length f, l, k, w.value-within)
   where
-    inside : (b : Bool) → cond b p.key_end p.value ≤ length s
-    inside true = w.key-within
-    inside false = omega (arith, w.value-ahead, w.value-within)
+    inside : (b : Bool) → ltb (length s - p.value) 9 ≡ b → value_at s p + (p.value_end - p.value) ≤ length s + 9
+    inside true b = let c = ltb-true (length s - p.value) 9 b in rw b (omega (arith, w.key-within, w.value-ahead, w.value-within, c))
+    inside false b = rw b (omega (arith, w.value-ahead, w.value-within))
 
-module _ {s : Bytes} {t : Parts} {n : Name} {i : ℕ} {low : Lowest} (m : Lowering s t n i low) (d : Part) (h : 0 < i) {p : Part} (g : p ≡ get_or t.parts (i - 1) d) where
-  pub lowering-at : Within s p
-  lowering-at = rw g (good-at m.good (i - 1) d (omega (arith, m.within)))
+module _ (s : Bytes) (l : List Part) {n : Name} {i : ℕ} {low : Lowest} (m : Lowering s l n i low) (d : Part) where
+  pub lowering-more : i < length l → {at : ℕ} {k v : Bytes} {f r : Lowest} → at ≡ value_at s (get_or l i d) → k ≡ key_of s (get_or l i d) → v ≡ value_part s (get_or l i d)
+      → Finds n (placed k v at ∷ []) f → r ≡ joined low f → Lowering s l n (i + 1) r
+  lowering-more h a k v f e =
+      let one : take (i + 1) l ≡ take i l ++ (get_or l i d ∷ []) = rw (add-one i) (take-suc l i d h) in
+      let more : map (placed_of s) (take (i + 1) l) ≡ map (placed_of s) (take i l) ++ (placed_of s (get_or l i d) ∷ []) = ap (map (placed_of s)) one ∙ map-append (placed_of s) (take i l) (get_or l i d ∷ []) in
+      rw (more, e) (finds-behind n m (rw (a, k, v) at f))
 
-  -- the part that is read, and those behind it
-  here : drop (i - 1) (placed_in s t) ≡ placed_of s p ∷ drop i (placed_in s t)
-  here =
-      let k : i - 1 < t.n = omega (arith, m.within) in
-      let z : i - 1 + 1 ≡ i = omega arith in
-      rw (g, placed-next m.good (i - 1) d k, z)
-
-  pub lowering-more : {at : ℕ} {f r : Lowest} → at ≡ value_at s p → Finds n (placed (key_of s p) (value_part s p) at ∷ []) f → r ≡ joined f low → Lowering s t n (i - 1) r
-  lowering-more {at} a f e = record { good = m.good; within = omega (arith, m.within); so_far = rw (here, e) (finds-more n (rw a at f) m.so_far) }
-
-pub lowering-end : {s : Bytes} {t : Parts} {n : Name} {i : ℕ} {low : Lowest} → Lowering s t n i low → i ≤ 0 → Finds n (placed_in s t) low
-lowering-end {s} {t} {n} {i} m h = let z : i ≡ 0 = omega arith in rw z at m.so_far
+  pub lowering-end : length l ≤ i → Finds n (map (placed_of s) l) low
+  lowering-end h = rw (take_all i l h) at m

@@ -2,10 +2,10 @@
 use mathlib.Core.Path.{◌≡◌, refl, sym, ◌∙◌}
 use Prim.Native.Nat.{ℕ, ◌<◌}
 use mathlib.Core.Bool.{Bool, true, false, cond, ◌&&◌, false≢true}
-use mathlib.Core.Option.{Option, none, some}
 use mathlib.Core.List.{List, [], ◌∷◌, ◌++◌}
 use lib.Dec.{lit≤}
 use lib.IntN.{ℤ}
+use Rattle.std.specs.Prelude.{Some, None, Option}
 use Rattle.rules.specs.Text.Ascii.{ascii}
 use Rattle.rules.specs.Text.Lists.{any_of}
 use Rattle.rules.specs.Text.Bytes.{Bytes, same}
@@ -20,10 +20,11 @@ use Rattle.rules.specs.declared.Kind.TheVariants as kind
 use Rattle.rules.specs.declared.Name.{Name}
 use Rattle.rules.specs.declared.Name.TheVariants as name
 use Rattle.laws_lists.specs.Tests.{same_self, same-is, or_left, or_right, never}
-use Rattle.prepare.specs.SeriesRead.{args_of, lowest, Good, Reads, no_numbers}
-use Rattle.prepare.specs.Faults.{Kept, is_series, first_series, Lowers}
+use Rattle.prepare.specs.SeriesRead.{args_of, lowest, Good, no_numbers}
+use Rattle.prepare.specs.Faults.{Kept, is_series, first_series, numbers_of, Lowers}
 use Rattle.prepare.specs.Actions.{action_at, key_at}
 use Rattle.prepare.specs.declared.faults.Lowest.{Lowest}
+use Rattle.prepare.specs.declared.series.Numbers.{Numbers}
 use Rattle.prepare.proofs.LowestFault.{Passed, passed}
 
 -- ---- in any list of parameters
@@ -33,34 +34,34 @@ unfoldable pub takes : Name → Bytes → Bool
 takes n key = is_series (kind_in (every_key ++ own_keys n) key)
 
 -- the first parameter gives its key
-value-here : (p : Parameter) (ps : List Parameter) → value_of p.key (p ∷ ps) ≡ none → ⊥
+value-here : (p : Parameter) (ps : List Parameter) → value_of p.key (p ∷ ps) ≡ None → ⊥
 unfolding value_of
 value-here p ps e = go (same_self p.key) e
   where
-    go : same p.key p.key ≡ true → cond (same p.key p.key) (some p.value) (value_of p.key ps) ≡ none → ⊥
-    go t h = let z : some p.value ≡ none = rw t at h in never (cc z)
+    go : same p.key p.key ≡ true → cond (same p.key p.key) (Some p.value) (value_of p.key ps) ≡ None → ⊥
+    go t h = let z : Some p.value ≡ None = rw t at h in never (cc z)
 
-value-past : (key : Bytes) (p : Parameter) (ps : List Parameter) → value_of key (p ∷ ps) ≡ none → value_of key ps ≡ none
+value-past : (key : Bytes) (p : Parameter) (ps : List Parameter) → value_of key (p ∷ ps) ≡ None → value_of key ps ≡ None
 unfolding value_of
 value-past key p ps e = go (same key p.key) e
   where
-    go : (b : Bool) → cond b (some p.value) (value_of key ps) ≡ none → value_of key ps ≡ none
+    go : (b : Bool) → cond b (Some p.value) (value_of key ps) ≡ None → value_of key ps ≡ None
     go true h = absurd (never (cc h))
     go false h = h
 
 module _ (n : Name) where
   -- no key that takes a series is given
-  pub first-none : (ps : List Parameter) → ((k : Bytes) → takes n k ≡ true → value_of k ps ≡ none) → first_series n ps ≡ none
+  pub first-none : (ps : List Parameter) → ((k : Bytes) → takes n k ≡ true → value_of k ps ≡ None) → first_series n ps ≡ None
   unfolding first_series takes kind_of
   first-none [] f = refl
   first-none (p ∷ ps) f = go (is_series (kind_of n p)) refl (first-none ps (λ k t. value-past k p ps (f k t)))
     where
-      go : (b : Bool) → is_series (kind_of n p) ≡ b → first_series n ps ≡ none → cond b (some p.value) (first_series n ps) ≡ none
+      go : (b : Bool) → is_series (kind_of n p) ≡ b → first_series n ps ≡ None → cond b (Some p.value) (first_series n ps) ≡ None
       go true e h = absurd (value-here p ps (f p.key e))
       go false e h = h
 
   -- one is, and no other
-  pub first-only : (key : Bytes) → takes n key ≡ true → (ps : List Parameter) → ((k : Bytes) → takes n k ≡ true → (k ≡ key → ⊥) → value_of k ps ≡ none)
+  pub first-only : (key : Bytes) → takes n key ≡ true → (ps : List Parameter) → ((k : Bytes) → takes n k ≡ true → (k ≡ key → ⊥) → value_of k ps ≡ None)
       → first_series n ps ≡ value_of key ps
   unfolding first_series value_of takes kind_of
   first-only key t [] f = refl
@@ -71,19 +72,19 @@ module _ (n : Name) where
       other d e = false≢true (sym d ∙ rw e (same_self key))
 
       go : (b : Bool) → is_series (kind_of n p) ≡ b → (d : Bool) → same key p.key ≡ d → first_series n ps ≡ value_of key ps
-          → cond b (some p.value) (first_series n ps) ≡ cond d (some p.value) (value_of key ps)
+          → cond b (Some p.value) (first_series n ps) ≡ cond d (Some p.value) (value_of key ps)
       go true e true d h = refl
       go true e false d h = absurd (value-here p ps (f p.key e (other d)))
       go false e true d h = absurd (false≢true (sym e ∙ rw (same-is key p.key d) at t))
       go false e false d h = h
 
   -- where no number below 14 applies, the series is good
-  one-passed : (k : Kind) (v : Bytes) → is_series k ≡ true → misspelt k v ≡ false → too_long k v ≡ false → lowest v ≡ 14
+  one-passed : (k : Option Kind) (v : Bytes) → is_series k ≡ true → misspelt k v ≡ false → too_long k v ≡ false → lowest v ≡ 14
   unfolding is_series lowest misspelt too_long
-  one-passed kind.Flag v s a b = absurd (false≢true s)
-  one-passed kind.Series v s a b = rw (a, b)
-  one-passed kind.Word v s a b = absurd (false≢true s)
-  one-passed kind.Lacking v s a b = absurd (false≢true s)
+  one-passed (Some kind.Flag) v s a b = absurd (false≢true s)
+  one-passed (Some kind.Series) v s a b = rw (a, b)
+  one-passed (Some kind.Word) v s a b = absurd (false≢true s)
+  one-passed None v s a b = absurd (false≢true s)
 
   abbrev wrong : Parameter → Bool
   wrong p = misspelt (kind_of n p) p.value
@@ -91,68 +92,78 @@ module _ (n : Name) where
   abbrev long : Parameter → Bool
   long p = too_long (kind_of n p) p.value
 
-  all-passed : (ps : List Parameter) {v : Bytes} → any_of wrong ps ≡ false → any_of long ps ≡ false → first_series n ps ≡ some v → lowest v ≡ 14
+  all-passed : (ps : List Parameter) {v : Bytes} → any_of wrong ps ≡ false → any_of long ps ≡ false → first_series n ps ≡ Some v → lowest v ≡ 14
   unfolding any_of first_series
   all-passed [] a b e = absurd (never (cc e))
   all-passed (p ∷ ps) {v} a b e = go (is_series (kind_of n p)) refl e (λ h. all-passed ps (or_right (wrong p) _ a) (or_right (long p) _ b) h)
     where
-      go : (t : Bool) → is_series (kind_of n p) ≡ t → cond t (some p.value) (first_series n ps) ≡ some v → (first_series n ps ≡ some v → lowest v ≡ 14) → lowest v ≡ 14
+      go : (t : Bool) → is_series (kind_of n p) ≡ t → cond t (Some p.value) (first_series n ps) ≡ Some v → (first_series n ps ≡ Some v → lowest v ≡ 14) → lowest v ≡ 14
       go true s h r =
           let z : p.value ≡ v = cc h in
           rw z at (one-passed (kind_of n p) p.value s (or_left (wrong p) _ a) (or_left (long p) _ b))
       go false s h r = r h
 
-  first-passed : (ps : List Parameter) {v : Bytes} → Passed n ps → first_series n ps ≡ some v → lowest v ≡ 14
+  first-passed : (ps : List Parameter) {v : Bytes} → Passed n ps → first_series n ps ≡ Some v → lowest v ≡ 14
   first-passed ps m e = all-passed ps m.spelt m.short e
 
 -- ---- what is kept of it
+
+numbers-some : (r : Lowest) {x : Numbers} → r.series ≡ Some x → numbers_of r ≡ x
+numbers-some r e = rw e
+
+numbers-none : (r : Lowest) → r.series ≡ None → numbers_of r ≡ no_numbers
+numbers-none r e = rw e
 
 module _ {n : Name} {ps : List Parameter} {low : Lowest} (m : Lowers n ps low) (e : low.number ≡ 14) where
   well : Passed n ps
   well = passed n ps (sym m.number ∙ e)
 
-  module _ {v : Bytes} (f : first_series n ps ≡ some v) where
+  module _ {v : Bytes} (f : first_series n ps ≡ Some v) where
     kept : Kept v low
     kept = rw f at m.series
 
-    read : Reads v kept.from low.numbers
-    read = kept.read
+    its-numbers : numbers_of low ≡ kept.numbers
+    its-numbers = numbers-some low kept.is
 
-    fine : low.numbers.number ≡ 14
-    fine = read.number ∙ first-passed n ps well f
+    fine : kept.numbers.number ≡ 14
+    fine = kept.read.number ∙ first-passed n ps well f
 
     pub kept-is : (rule : List ℤ → Bool)
-        → wholes rule (series v) ≡ cond (low.numbers.whole && rule (args_of low.numbers.args)) (some (args_of low.numbers.args)) none
-    kept-is = read.args fine
+        → wholes rule (series v) ≡ cond ((numbers_of low).whole && rule (args_of (numbers_of low).args)) (Some (args_of (numbers_of low).args)) None
+    kept-is = rw its-numbers (kept.read.args fine)
 
-    kept-good : Good low.numbers.args
-    kept-good = read.good fine
+    kept-good : Good (numbers_of low).args
+    kept-good = rw its-numbers (kept.read.good fine)
 
-  pub kept-none : first_series n ps ≡ none → low.numbers ≡ no_numbers
-  kept-none f = (rw f at m.series).read
+    pub kept-found : low.series ≡ Some (numbers_of low)
+    kept-found = rw its-numbers kept.is
 
-  pub kept-found : {v : Bytes} → first_series n ps ≡ some v → low.found ≡ true
-  kept-found f = (rw f at m.series).found
+  pub not_found : first_series n ps ≡ None → low.series ≡ None
+  not_found f = rw f at m.series
 
-  pub not_found : first_series n ps ≡ none → low.found ≡ false
-  not_found f = (rw f at m.series).found
+  pub kept-none : first_series n ps ≡ None → numbers_of low ≡ no_numbers
+  kept-none f = numbers-none low (not_found f)
 
-  pub numbers-good : Good low.numbers.args
+  pub numbers-good : Good (numbers_of low).args
   numbers-good = go (first_series n ps) refl
     where
-      go : (o : Option Bytes) → first_series n ps ≡ o → Good low.numbers.args
-      go none f = rw (kept-none f) (record { fits = lit≤ tt; size = refl; zeros = refl })
-      go (some v) f = kept-good f
+      go : (o : Option Bytes) → first_series n ps ≡ o → Good (numbers_of low).args
+      go None f = rw (kept-none f) (record { fits = lit≤ tt; size = refl; zeros = refl })
+      go (Some v) f = kept-good f
+
+  -- by what it comes to
+  pub series-is : {x : Numbers} → low.series ≡ Some x → x ≡ numbers_of low
+  series-is s = sym (numbers-some low s)
 
 -- ---- which keys take a series
 
 -- a key in a list of keys: it is the first, or one of the others
 module _ {P : Type 0} (k : Bytes) where
-  past : (x : Key) (ks : List Key) → is_series x.kind ≡ false → (is_series (kind_in ks k) ≡ true → P) → is_series (kind_in (x ∷ ks) k) ≡ true → P
+  past : (x : Key) (ks : List Key) → is_series (Some x.kind) ≡ false → (is_series (kind_in ks k) ≡ true → P) → is_series (kind_in (x ∷ ks) k) ≡ true → P
   unfolding kind_in
   past x ks s f e = go (same k x.key) e
     where
-      go : (b : Bool) → is_series (cond b x.kind (kind_in ks k)) ≡ true → P
+      go : (b : Bool) → is_series (cond b (Some x.kind) (kind_in ks k)) ≡ true → P
       go true h = absurd (false≢true (sym s ∙ h))
       go false h = f h
 
@@ -160,7 +171,7 @@ module _ {P : Type 0} (k : Bytes) where
   unfolding kind_in
   either x ks g f e = go (same k x.key) refl e
     where
-      go : (b : Bool) → same k x.key ≡ b → is_series (cond b x.kind (kind_in ks k)) ≡ true → P
+      go : (b : Bool) → same k x.key ≡ b → is_series (cond b (Some x.kind) (kind_in ks k)) ≡ true → P
       go true s h = g (same-is k x.key s)
       go false s h = f h
 

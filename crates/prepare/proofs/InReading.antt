@@ -1,4 +1,6 @@
 -- Preparing in a reading: the records of an answer are those of the crate's reading, named for it.
+use Rattle.rules.specs.declared.Refusal.{Refusal}
+use Rattle.std.specs.Prelude.{Result, Ok, Err}
 use mathlib.Core.Path.{◌≡◌, refl, sym, ap, ◌∙◌}
 use Prim.Native.Nat.{ℕ, zero, suc, ◌+◌, ◌≤◌, ◌<◌}
 use mathlib.Core.Bool.{Bool, true, false, cond, not}
@@ -9,13 +11,11 @@ use lib.Dec.{ltb}
 use lib.ListN.{length, get_or, drop, set, length-append, length-map}
 use lib.Seq.{take_at, drop_at}
 use Rattle.rules.specs.Text.Bytes.{Bytes, in_domain}
-use Rattle.rules.specs.Text.Refusal.{Reply, answers, refuses, refuses12, and_then, tested, lent, prepared}
+use Rattle.rules.specs.Text.Refusal.{Reply, answers, refuses, refuses12, and_then, tested, lent, prepared, refusal}
 use Rattle.rules.specs.Pipeline.Record.{in_reading}
 use Rattle.rules.specs.Pipeline.Prepare.{prepare_in, prepare_as}
 use Rattle.rules.specs.declared.Reading.{Reading}
 use Rattle.rules.specs.declared.Mode.{Mode}
-use Rattle.rules.specs.declared.Prepared.{Prepared}
-use Rattle.rules.specs.declared.Prepared.TheVariants as prepared-is
 use Rattle.rules.specs.declared.Step.{Step}
 use Rattle.rules.specs.declared.Table.{Table}
 use Rattle.laws_lists.specs.Tests.{never}
@@ -67,12 +67,12 @@ module _ (r : Reading) where
       go (ltb (length (row t)) (length l)) (ltb (length (row t)) (length (map (in_reading r) l))) (ap (ltb (length (row t))) (length-map l (in_reading r)))
     where
       go : (a b : Bool) → b ≡ a
-          → with_row t (cond b (prepared-is.Refused 7 0 0, row t) (prepared-is.Steps (length (map (in_reading r) l)), map (in_reading r) l ++ drop (length (map (in_reading r) l)) (row t)))
-          ≡ (let p = with_row t (cond a (prepared-is.Refused 7 0 0, row t) (prepared-is.Steps (length l), l ++ drop (length l) (row t))) in answer_named r p.answer p.table)
+          → with_row t (cond b (refusal 7 0, row t) (Ok (length (map (in_reading r) l)), map (in_reading r) l ++ drop (length (map (in_reading r) l)) (row t)))
+          ≡ (let p = with_row t (cond a (refusal 7 0, row t) (Ok (length l), l ++ drop (length l) (row t))) in answer_named r p.answer p.table)
       go true b e = unfold answer_named in rw e refl
       go false b e =
           unfold answer_named in rw (e, length-map l (in_reading r))
-          (ap (λ (steps : List Step). record { answer = prepared-is.Steps (length l); table = record { steps = steps; n = t.n } }) (sym (front-named l (drop (length l) (row t)) (drop t.n t.steps))))
+          (ap (λ (steps : List Step). record { answer = Ok (length l); table = record { steps = steps; n = t.n } }) (sym (front-named l (drop (length l) (row t)) (drop t.n t.steps))))
 
 as-named : (r : Reading) (mode : Mode) (text : Bytes) (t : Table)
     → preparing_as r mode text t ≡ answer_named r (preparing mode text t).answer (preparing mode text t).table
@@ -80,14 +80,14 @@ unfolding preparing preparing_as
 as-named r mode text t = ap (λ (o : Reply (List Step)). lent_to o t) (tested-named r mode text) ∙ lent-named r (tested (prepare_in mode) text) t
 
 -- the records that an answer counts are there
-there : (o : Reply (List Step)) (t : Table) {n : ℕ} → (lent_to o t).answer ≡ prepared-is.Steps n → n ≤ length (lent_to o t).table.steps
+there : (o : Reply (List Step)) (t : Table) {n : ℕ} → (lent_to o t).answer ≡ Ok n → n ≤ length (lent_to o t).table.steps
 unfolding lent_to with_row lent prepared
 there (refuses number place) t h = absurd (never (cc h))
 there (refuses12 place offset) t h = absurd (never (cc h))
 there (answers l) t {n} h = go (ltb (length (row t)) (length l)) h
   where
-    go : (b : Bool) → (with_row t (cond b (prepared-is.Refused 7 0 0, row t) (prepared-is.Steps (length l), l ++ drop (length l) (row t)))).answer ≡ prepared-is.Steps n
-        → n ≤ length (with_row t (cond b (prepared-is.Refused 7 0 0, row t) (prepared-is.Steps (length l), l ++ drop (length l) (row t)))).table.steps
+    go : (b : Bool) → (with_row t (cond b (refusal 7 0, row t) (Ok (length l), l ++ drop (length l) (row t)))).answer ≡ Ok n
+        → n ≤ length (with_row t (cond b (refusal 7 0, row t) (Ok (length l), l ++ drop (length l) (row t)))).table.steps
     go true h = absurd (never (cc h))
     go false h =
         let e : length l ≡ n = cc h in
@@ -101,15 +101,15 @@ module _ (r : Reading) (mode : Mode) (text : Bytes) (t : Table) {p : Preparing} 
   by_answer : answer_named r p.answer p.table ≡ preparing_as r mode text t
   by_answer = ap (λ (q : Preparing). answer_named r q.answer q.table) e ∙ sym (as-named r mode text t)
 
-  pub answers-named : {n : ℕ} {steps : List Step} → p.answer ≡ prepared-is.Steps n → steps ≡ first_named r n p.table.steps
-      → ◌≡◌ {A = Preparing} (record { answer = prepared-is.Steps n; table = record { steps = steps; n = p.table.n } }) (preparing_as r mode text t)
+  pub answers-named : {n : ℕ} {steps : List Step} → p.answer ≡ Ok n → steps ≡ first_named r n p.table.steps
+      → ◌≡◌ {A = Preparing} (record { answer = Ok n; table = record { steps = steps; n = p.table.n } }) (preparing_as r mode text t)
   unfolding answer_named
-  answers-named {n} {steps} a h = (λ i. record { answer = prepared-is.Steps n; table = record { steps = h i; n = p.table.n } }) ∙ sym (ap (λ (w : Prepared). answer_named r w p.table) a) ∙ by_answer
+  answers-named {n} {steps} a h = (λ i. record { answer = Ok n; table = record { steps = h i; n = p.table.n } }) ∙ sym (ap (λ (w : Result ℕ Refusal). answer_named r w p.table) a) ∙ by_answer
 
-  pub refuses-named : {number place offset : ℕ} → p.answer ≡ prepared-is.Refused number place offset → refusing number place offset p.table ≡ preparing_as r mode text t
+  pub refuses-named : {e : Refusal} → p.answer ≡ Err e → p ≡ preparing_as r mode text t
   unfolding answer_named
-  refuses-named a = sym (ap (λ (w : Prepared). answer_named r w p.table) a) ∙ by_answer
+  refuses-named a = (λ i. record { answer = a i; table = p.table }) ∙ sym (ap (λ (w : Result ℕ Refusal). answer_named r w p.table) a) ∙ by_answer
 
-  pub counts-records : {n : ℕ} → p.answer ≡ prepared-is.Steps n → n ≤ length p.table.steps
+  pub counts-records : {n : ℕ} → p.answer ≡ Ok n → n ≤ length p.table.steps
   unfolding preparing
   counts-records {n} a = rw e (there (tested (prepare_in mode) text) t (sym (ap (λ (q : Preparing). q.answer) e) ∙ a))

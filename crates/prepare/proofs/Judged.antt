@@ -1,9 +1,9 @@
 -- Judging a step's parameters: 10 where its name is none of the five, then the lowest number that a parameter may be refused by, and the
 -- operator's own rule where that is 14.
+use Rattle.std.specs.Prelude.{Option, None, Some}
 use mathlib.Core.Path.{◌≡◌, refl, sym, ap, ◌∙◌}
 use Prim.Native.Nat.{ℕ, ◌≤◌, ◌<◌}
 use mathlib.Core.Bool.{Bool, true, false, cond}
-use mathlib.Core.Option.{Option, none, some}
 use mathlib.Core.List.{List}
 use native.Mathlib.Omega.{arith}
 use borrow.Author.Tests.{lt-ltb, le-ltb, eqb-true}
@@ -12,7 +12,6 @@ use Rattle.rules.specs.Text.Ascii.{ascii}
 use Rattle.rules.specs.Text.Lists.{any_of}
 use Rattle.rules.specs.Text.Bytes.{Bytes}
 use Rattle.rules.specs.Text.Parameters.{Parameter, Placed}
-use Rattle.rules.specs.Text.Reader.{part}
 use Rattle.rules.specs.Text.Refusal.{Reply, refuses, refuses12}
 use Rattle.rules.specs.Operators.Arguments.{value_of}
 use Rattle.rules.specs.Operators.Table.{name_of}
@@ -21,17 +20,11 @@ use Rattle.rules.specs.Pipeline.Offsets.{faults, earliest, offset_by}
 use Rattle.rules.specs.Pipeline.Prepare.{own_rule, judged14, judged11, named, judged10, judged, at_step}
 use Rattle.rules.specs.declared.Mode.{Mode}
 use Rattle.rules.specs.declared.Name.{Name}
-use Rattle.rules.specs.declared.Named.TheVariants as named-is
 use Rattle.rules.specs.declared.Step.{Step}
-use Rattle.parameters.specs.Parts.{Parts, listed, placed_in}
 use Rattle.prepare.specs.Faults.{by, unplaced, lowest_of, Finds}
-use Rattle.prepare.specs.Lookup.{Looks}
 use Rattle.prepare.specs.Records.{refused_at}
 use Rattle.prepare.specs.StepReply.{named_reply, placed_reply}
 use Rattle.prepare.specs.declared.faults.Lowest.{Lowest}
-use Rattle.prepare.specs.declared.values.Value.{Value}
-use Rattle.prepare.proofs.KeyLookup.{value_there, value_not}
-use Rattle.prepare.proofs.EarliestFault.{given-in}
 
 -- ---- the lowest number
 
@@ -70,8 +63,8 @@ module _ (n : Name) (ps : List Parameter) where
 -- no refusal of the operator's own rule has one
 own-nowhere : (place offset : ℕ) (o : Option Step) → place ≡ 0 → at_step place offset (judged14 o) ≡ judged14 o
 unfolding at_step judged14
-own-nowhere place offset none e = rw e
-own-nowhere place offset (some s) e = refl
+own-nowhere place offset None e = rw e
+own-nowhere place offset (Some s) e = refl
 
 -- only of 12 it matters where it is
 same-refusal : (number at offset : ℕ) → (number ≡ 12 → at ≡ offset) → ◌≡◌ {A = Reply Step} (refused_at number 0 at) (refused_at number 0 offset)
@@ -101,24 +94,20 @@ module _ (n : Name) (qs : List Placed) {low : Lowest} (f : Finds n qs low) (mode
 
 -- ---- the name
 
--- a key among the parameters of a table is looked up wherever they stand
-pub in-places : {s : Bytes} (t : Parts) (key : Bytes) {v : Value} → Looks s (listed s t) key v → Looks s (unplaced (placed_in s t)) key v
-in-places {s} t key m = rw (given-in s t) m
-
-module _ (mode : Mode) {s : Bytes} (qs : List Placed) {v : Value} (m : Looks s (unplaced qs) (ascii "_name") v) where
-  pub judged-unnamed : {x : Reply Step} → v.given ≡ false → x ≡ refuses 10 0 → x ≡ placed_reply mode qs
+module _ (mode : Mode) (qs : List Placed) where
+  pub judged-unnamed : {x : Reply Step} → value_of (ascii "_name") (unplaced qs) ≡ None → x ≡ refuses 10 0 → x ≡ placed_reply mode qs
   unfolding placed_reply at_step judged named judged10
-  judged-unnamed n h = h ∙ sym (rw (value_not m n))
+  judged-unnamed n h = h ∙ sym (rw n)
 
-  module _ (g : v.given ≡ true) where
-    name-there : named (value_of (ascii "_name") (unplaced qs)) ≡ name_of (part v.from v.to s)
+  module _ {word : Bytes} (g : value_of (ascii "_name") (unplaced qs) ≡ Some word) where
+    name-there : named (value_of (ascii "_name") (unplaced qs)) ≡ name_of word
     unfolding named
-    name-there = rw (value_there m g)
+    name-there = rw g
 
-    pub judged-other : {x : Reply Step} → name_of (part v.from v.to s) ≡ named-is.Not → x ≡ refuses 10 0 → x ≡ placed_reply mode qs
+    pub judged-other : {x : Reply Step} → name_of word ≡ None → x ≡ refuses 10 0 → x ≡ placed_reply mode qs
     unfolding placed_reply at_step judged judged10
     judged-other e h = h ∙ sym (rw (name-there, e))
 
-    pub judged-named : {n : Name} {x : Reply Step} → name_of (part v.from v.to s) ≡ named-is.Is n → x ≡ named_reply mode n qs → x ≡ placed_reply mode qs
+    pub judged-named : {n : Name} {x : Reply Step} → name_of word ≡ Some n → x ≡ named_reply mode n qs → x ≡ placed_reply mode qs
     unfolding placed_reply named_reply offset_by judged judged10
     judged-named e h = h ∙ sym (rw (name-there, e))

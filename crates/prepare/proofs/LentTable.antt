@@ -1,5 +1,6 @@
 -- The lent row: a refusal leaves the table as it was, and records brought into it stand in front of what was there. So it is with the answer after
 -- all steps are read.
+use Rattle.std.specs.Prelude.{Ok}
 use mathlib.Core.Path.{◌≡◌, refl, sym, ap, ◌∙◌}
 use Prim.Native.Nat.{ℕ, ◌≤◌, ◌<◌}
 use mathlib.Core.Bool.{Bool, true, false, cond}
@@ -11,7 +12,6 @@ use lib.ListN.{length, drop, length-take, take-append-drop}
 use lib.Seq.{length-take-le, drop-append-le}
 use lib.Dec.{eqb, ltb}
 use Rattle.rules.specs.Text.Refusal.{Reply, answers, refuses, refuses12, lent, prepared}
-use Rattle.rules.specs.declared.Prepared.TheVariants as prepared-is
 use Rattle.rules.specs.declared.Step.{Step}
 use Rattle.rules.specs.declared.Table.{Table}
 use Rattle.prepare.specs.declared.Preparing.{Preparing}
@@ -41,7 +41,7 @@ module _ (t : Table) where
 
   -- an answer with these records in front
   abbrev given : List Step → ℕ → Preparing
-  given steps n = record { answer = prepared-is.Steps n; table = record { steps = steps; n = t.n } }
+  given steps n = record { answer = Ok n; table = record { steps = steps; n = t.n } }
 
   module _ (full : length t.steps ≡ 64) {reply : Reply (List Step)} {l : List Step} (e : reply ≡ answers l) (few : length l ≤ 64) where
     lent-short : t.n < length l → refusing 7 0 0 t ≡ lent_to reply t

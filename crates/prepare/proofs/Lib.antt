@@ -1,6 +1,8 @@
+pub mod ByteEnd
 pub mod DigitsSpelt
 pub mod EarliestFault
 pub mod FirstSeries
+pub mod InReading
 pub mod Judged
 pub mod KeyKind
 pub mod KeyLookup
@@ -9,10 +11,10 @@ pub mod LowestFault
 pub mod OneAction
 pub mod OwnRules
 pub mod PointDecimal
-pub mod InReading
 pub mod Promise
 pub mod Recorded
 pub mod Replies
+pub mod SameBytes
 pub mod SeriesPieces
 pub mod StepByStep
 pub mod StepText

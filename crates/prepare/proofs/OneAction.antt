@@ -1,8 +1,8 @@
 -- Which action of `stack` is given: one more is looked at, until all seven are.
+use Rattle.std.specs.Prelude.{Option, None, Some}
 use mathlib.Core.Path.{◌≡◌, refl, ap, ◌∙◌}
 use Prim.Native.Nat.{ℕ, ◌+◌, ◌-◌, ◌≤◌, ◌<◌}
 use mathlib.Core.Bool.{true, false, not}
-use mathlib.Core.Option.{Option, none, some}
 use mathlib.Core.List.{List, [], ◌∷◌, ◌++◌, append-nil}
 use native.Mathlib.Numerals.{add-one}
 use native.Mathlib.Decide.{dec_lt}
@@ -24,32 +24,32 @@ use Rattle.prepare.specs.declared.own.Choice.TheVariants.{None, One, More}
 
 -- ---- a key that is given, or not
 
-pub given-not : (key : Bytes) (ps : List Parameter) → given key ps ≡ false → value_of key ps ≡ none
+pub given-not : (key : Bytes) (ps : List Parameter) → given key ps ≡ false → value_of key ps ≡ None
 unfolding given is_none
 given-not key ps e = go (value_of key ps) e
   where
-    go : (o : Option Bytes) → not (is_none o) ≡ false → o ≡ none
-    go none h = refl
-    go (some v) h = absurd (never (cc h))
+    go : (o : Option Bytes) → not (is_none o) ≡ false → o ≡ None
+    go None h = refl
+    go (Some v) h = absurd (never (cc h))
 
 pub record There (key : Bytes) (ps : List Parameter) : Type 0 where
   pub value : Bytes
-  pub is : value_of key ps ≡ some value
+  pub is : value_of key ps ≡ Some value
 
 pub given-there : (key : Bytes) (ps : List Parameter) → given key ps ≡ true → There key ps
 unfolding given is_none
 given-there key ps e = go (value_of key ps) refl e
   where
     go : (o : Option Bytes) → value_of key ps ≡ o → not (is_none o) ≡ true → There key ps
-    go none f h = absurd (never (cc h))
-    go (some v) f h = record { value = v; is = f }
+    go None f h = absurd (never (cc h))
+    go (Some v) f h = record { value = v; is = f }
 
 -- ---- the first k actions and the next
 
 then_append : (a : Action) (o : Option Bytes) (l m : List (Option rules.Chosen)) → action_then a o (l ++ m) ≡ action_then a o l ++ m
 unfolding action_then
-then_append a none l m = refl
-then_append a (some v) l m = refl
+then_append a None l m = refl
+then_append a (Some v) l m = refl
 
 given-append : (ps : List Parameter) (l m : List Action) → actions_given ps (l ++ m) ≡ actions_given ps l ++ actions_given ps m
 unfolding actions_given
@@ -75,7 +75,7 @@ chosen_none ps = record { given = refl; others = λ j h. absurd (never (omega ar
 
 module _ (ps : List Parameter) {k : ℕ} (h : k < 7) where
   -- it is not given
-  module _ (z : value_of (key_at k) ps ≡ none) where
+  module _ (z : value_of (key_at k) ps ≡ None) where
     same : actions_given ps (take (k + 1) actions) ≡ actions_given ps (take k actions)
     unfolding action_then
     same = next-action ps k h ∙ rw z (append-nil (actions_given ps (take k actions)))
@@ -86,7 +86,7 @@ module _ (ps : List Parameter) {k : ℕ} (h : k < 7) where
 
     chosen-same : (c : Choice) → Chosen ps k c → Chosen ps (k + 1) c
     chosen-same None m =
-        record { given = same ∙ m.given; others = further {P = λ (j : ℕ). value_of (key_at j) ps ≡ none} m.others z }
+        record { given = same ∙ m.given; others = further {P = λ (j : ℕ). value_of (key_at j) ps ≡ None} m.others z }
     chosen-same (One operator) m =
         record {
           place = m.place;
@@ -95,12 +95,12 @@ module _ (ps : List Parameter) {k : ℕ} (h : k < 7) where
           value = m.value;
           is = m.is;
           given = same ∙ m.given;
-          others = further {P = λ (j : ℕ). (j ≡ m.place → ⊥) → value_of (key_at j) ps ≡ none} m.others (λ n. z);
+          others = further {P = λ (j : ℕ). (j ≡ m.place → ⊥) → value_of (key_at j) ps ≡ None} m.others (λ n. z);
         }
     chosen-same More m = rw same m
 
   -- it is given
-  module _ {v : Bytes} (here : value_of (key_at k) ps ≡ some v) where
+  module _ {v : Bytes} (here : value_of (key_at k) ps ≡ Some v) where
     longer : actions_given ps (take (k + 1) actions) ≡ actions_given ps (take k actions) ++ (rules.choose (action_at k).operator ((action_at k).arguments v) ∷ [])
     unfolding action_then
     longer = next-action ps k h ∙ rw here
@@ -134,7 +134,7 @@ module _ (ps : List Parameter) {operator : ℕ} (c : Choice) (low : 2 ≤ operat
 
   pub with-same : given key ps ≡ false → Chosen ps (operator - 1) c
   with-same n =
-      let z : value_of (key_at (operator - 2)) ps ≡ none = rw e at (given-not key ps n) in
+      let z : value_of (key_at (operator - 2)) ps ≡ None = rw e at (given-not key ps n) in
       rw next at (chosen-same ps (omega arith) z c m)
 
   module _ (g : given key ps ≡ true) where
@@ -162,7 +162,7 @@ module _ (ps : List Parameter) {operator : ℕ} (c : Choice) (low : 2 ≤ operat
 
 -- ---- all seven
 
-two_none : (l : List (Option rules.Chosen)) → 1 < length l → exactly_one l ≡ none
+two_none : (l : List (Option rules.Chosen)) → 1 < length l → exactly_one l ≡ None
 unfolding exactly_one
 two_none [] h = refl
 two_none (x ∷ []) h = absurd (never (omega arith))
@@ -173,10 +173,10 @@ unfolding actions
 all-of = refl
 
 module _ (ps : List Parameter) where
-  pub none-chosen : Chosen ps 7 None → exactly_one (actions_given ps actions) ≡ none
+  pub none-chosen : Chosen ps 7 None → exactly_one (actions_given ps actions) ≡ None
   none-chosen m = ap exactly_one (rw all-of at m.given) ∙ (unfold exactly_one in refl)
 
-  pub more-chosen : Chosen ps 7 More → exactly_one (actions_given ps actions) ≡ none
+  pub more-chosen : Chosen ps 7 More → exactly_one (actions_given ps actions) ≡ None
   more-chosen m = two_none (actions_given ps actions) (rw all-of at m)
 
   pub one-chosen : {operator : ℕ} (m : OneAction ps 7 operator)

@@ -1,8 +1,7 @@
 -- Each operator's own rule in a mode: what each function returns is what the rule's definition names.
 use mathlib.Core.Path.{◌≡◌, refl, sym, ap, ◌∙◌}
 use Prim.Native.Nat.{ℕ, zero, suc, ◌+◌, ◌≤◌, ◌<◌}
-use mathlib.Core.Bool.{true, false, false≢true}
-use mathlib.Core.Option.{Option, none, some}
+use mathlib.Core.Bool.{true, false}
 use mathlib.Core.List.{List, []}
 use native.Mathlib.Decide.{dec_lt}
 use native.Mathlib.Omega.{arith}
@@ -15,7 +14,6 @@ use Rattle.rules.specs.Text.Bytes.{Bytes, same}
 use Rattle.rules.specs.Text.Decimal.{series}
 use Rattle.rules.specs.Text.Refusal.{Reply, answers, refuses}
 use Rattle.rules.specs.Text.Parameters.{Parameter}
-use Rattle.rules.specs.Text.Reader.{part}
 use Rattle.rules.specs.Operators.Arguments.{value_of, wholes, is_order}
 use Rattle.rules.specs.Operators.Descriptions.{Push, Pop, Axisswap, choose}
 use Rattle.rules.specs.Operators.Keys.{flag, numbered, worded, kind_in}
@@ -35,19 +33,17 @@ use Rattle.laws_lists.specs.Tests.{never}
 use Rattle.laws_records.specs.Numbering.{operator-number}
 use Rattle.adapt.specs.declared.words.Word.{Word}
 use Rattle.adapt.specs.Words.{word_as, word_is, IsRead}
-use Rattle.prepare.specs.Lookup.{Looks}
+use Rattle.std.specs.Prelude.{Some, None, Option}
 use Rattle.prepare.specs.SeriesRead.{args_of, Good, no_numbers}
-use Rattle.prepare.specs.Faults.{is_series, first_series, Lowers}
+use Rattle.prepare.specs.Faults.{is_series, first_series, numbers_of, Lowers}
 use Rattle.prepare.specs.Records.{record_at, recorded_at, kept_by, Axes, four_axes}
 use Rattle.prepare.specs.Actions.{action_at, key_at, OneAction, Chosen}
 use Rattle.prepare.specs.declared.faults.Lowest.{Lowest}
-use Rattle.prepare.specs.declared.own.Choice.TheVariants.{None, More}
+use Rattle.prepare.specs.declared.own.Choice.TheVariants.{None as Unchosen, More}
 use Rattle.prepare.specs.declared.series.Args.{Args}
 use Rattle.prepare.specs.declared.series.Numbers.{Numbers}
-use Rattle.prepare.specs.declared.values.Value.{Value}
-use Rattle.prepare.proofs.KeyLookup.{value_there, value_not}
 use Rattle.prepare.proofs.Recorded.{recorded-of}
-use Rattle.prepare.proofs.FirstSeries.{takes, first-none, first-only, kept-is, kept-none, kept-found, not_found, stack-key, order-key, order-takes}
+use Rattle.prepare.proofs.FirstSeries.{takes, first-none, first-only, kept-is, kept-none, kept-found, not_found, series-is, stack-key, order-key, order-takes}
 use Rattle.prepare.proofs.OneAction.{none-chosen, more-chosen, one-chosen}
 
 -- ---- the numbers of a series
@@ -101,10 +97,10 @@ action-takes =
     (λ h. refl) (λ h. refl) (λ h. refl) (λ h. refl) (λ h. refl) (λ h. absurd (never (omega arith))) (λ h. absurd (never (omega arith)))
 
 -- the others have none
-action-plain : (v : Bytes) (k : ℕ) → k < 7 → 5 ≤ k → (action_at k).arguments v ≡ some []
+action-plain : (v : Bytes) (k : ℕ) → k < 7 → 5 ≤ k → (action_at k).arguments v ≡ Some []
 unfolding action_at actions
 action-plain v =
-    seven (λ k. 5 ≤ k → (action_at k).arguments v ≡ some [])
+    seven (λ k. 5 ≤ k → (action_at k).arguments v ≡ Some [])
     (λ h. absurd (never (omega arith))) (λ h. absurd (never (omega arith))) (λ h. absurd (never (omega arith))) (λ h. absurd (never (omega arith)))
     (λ h. absurd (never (omega arith))) (λ h. refl) (λ h. refl)
 
@@ -116,7 +112,7 @@ action-nothing =
     (λ h. absurd (never (omega arith))) (λ h. refl) (λ h. refl)
 
 module _ (mode : Mode) (ps : List Parameter) {x : Reply Step} where
-  pub stack-none : Chosen ps 7 None → x ≡ refuses 14 0 → x ≡ judged14 (own_rule mode name.Stack ps)
+  pub stack-none : Chosen ps 7 Unchosen → x ≡ refuses 14 0 → x ≡ judged14 (own_rule mode name.Stack ps)
   unfolding own_rule recorded judged14
   stack-none m h = h ∙ sym (rw (none-chosen ps m))
 
@@ -133,20 +129,20 @@ module _ {ps : List Parameter} {operator : ℕ} (m : OneAction ps 7 operator) {l
   its-operator = rw (← its-number) (operator-number (action_at m.place).operator)
 
   -- another key that takes a series is not given
-  no_other : (k : Bytes) → takes name.Stack k ≡ true → (k ≡ key_at m.place → ⊥) → value_of k ps ≡ none
+  no_other : (k : Bytes) → takes name.Stack k ≡ true → (k ≡ key_at m.place → ⊥) → value_of k ps ≡ None
   no_other k t n =
       let s = stack-key k t in
       let f : s.place ≡ m.place → ⊥ = λ g. n (s.is ∙ ap key_at g) in
       rw s.is (m.others s.place (omega (arith, s.few)) f)
 
-  by-series : m.place < 5 → (action_at m.place).arguments m.value ≡ kept_by operator low.numbers
+  by-series : m.place < 5 → (action_at m.place).arguments m.value ≡ kept_by operator (numbers_of low)
   by-series h =
-      let f : first_series name.Stack ps ≡ some m.value = first-only name.Stack (key_at m.place) (action-takes m.place m.within h) ps no_other ∙ m.is in
+      let f : first_series name.Stack ps ≡ Some m.value = first-only name.Stack (key_at m.place) (action-takes m.place m.within h) ps no_other ∙ m.is in
       action-args m.value m.place m.within h
       ∙ kept-is l e f (is_args (action_at m.place).operator)
       ∙ rw its-operator
 
-  no-series : 5 ≤ m.place → (k : Bytes) → takes name.Stack k ≡ true → value_of k ps ≡ none
+  no-series : 5 ≤ m.place → (k : Bytes) → takes name.Stack k ≡ true → value_of k ps ≡ None
   no-series h k t =
       let s = stack-key k t in
       let f : s.place ≡ m.place → ⊥ = λ g. apart s.place m.place s.few h g in
@@ -155,21 +151,21 @@ module _ {ps : List Parameter} {operator : ℕ} (m : OneAction ps 7 operator) {l
       apart : (i j : ℕ) → i < 5 → 5 ≤ j → i ≡ j → ⊥
       apart i j a b c = omega arith
 
-  by-nothing : 5 ≤ m.place → (action_at m.place).arguments m.value ≡ kept_by operator low.numbers
+  by-nothing : 5 ≤ m.place → (action_at m.place).arguments m.value ≡ kept_by operator (numbers_of low)
   by-nothing h =
-      let z : low.numbers ≡ no_numbers = kept-none l e (first-none name.Stack ps (no-series h)) in
+      let z : numbers_of low ≡ no_numbers = kept-none l e (first-none name.Stack ps (no-series h)) in
       action-plain m.value m.place m.within h ∙ sym (rw (z, its-operator, action-nothing m.place m.within h))
 
-  its-arguments : (action_at m.place).arguments m.value ≡ kept_by operator low.numbers
+  its-arguments : (action_at m.place).arguments m.value ≡ kept_by operator (numbers_of low)
   its-arguments = elim (dec_lt m.place 5) [ yes h ↦ by-series h | no h ↦ by-nothing (omega arith) ]
 
-  pub stack-one : (mode : Mode) {x : Reply Step} → x ≡ judged14 (recorded_at operator ps (kept_by operator low.numbers)) → x ≡ judged14 (own_rule mode name.Stack ps)
+  pub stack-one : (mode : Mode) {x : Reply Step} → x ≡ judged14 (recorded_at operator ps (kept_by operator (numbers_of low))) → x ≡ judged14 (own_rule mode name.Stack ps)
   unfolding own_rule
   stack-one mode h =
       h
       ∙ ap judged14
-      (ap (λ (k : ℕ). recorded_at k ps (kept_by operator low.numbers)) (sym its-number)
-      ∙ recorded-of (action_at m.place).operator ps (kept_by operator low.numbers)
+      (ap (λ (k : ℕ). recorded_at k ps (kept_by operator (numbers_of low))) (sym its-number)
+      ∙ recorded-of (action_at m.place).operator ps (kept_by operator (numbers_of low))
       ∙ sym (ap (recorded ps) (one-chosen ps m ∙ ap (choose (action_at m.place).operator) its-arguments)))
 
 -- ---- axisswap
@@ -183,47 +179,47 @@ module _ {ps : List Parameter} {low : Lowest} (l : Lowers name.Axisswap ps low) 
   unfolding own_rule number_of
   own-order mode {r} o = ap judged14 (recorded-of Axisswap ps r ∙ ap (λ (q : Option (List ℤ)). recorded ps (choose Axisswap q)) (sym o))
 
-  order-kept : {v : Bytes} → first_series name.Axisswap ps ≡ some v → order (value_of (ascii "order") ps) ≡ kept_by 9 low.numbers
+  order-kept : {v : Bytes} → first_series name.Axisswap ps ≡ Some v → order (value_of (ascii "order") ps) ≡ kept_by 9 (numbers_of low)
   unfolding order is_args operator_of
-  order-kept {v} f = let z : value_of (ascii "order") ps ≡ some v = sym the-order ∙ f in rw z (kept-is l e f is_order)
+  order-kept {v} f = let z : value_of (ascii "order") ps ≡ Some v = sym the-order ∙ f in rw z (kept-is l e f is_order)
 
-  order-not : first_series name.Axisswap ps ≡ none → order (value_of (ascii "order") ps) ≡ some four_axes
+  order-not : first_series name.Axisswap ps ≡ None → order (value_of (ascii "order") ps) ≡ Some four_axes
   unfolding order
-  order-not f = let z : value_of (ascii "order") ps ≡ none = sym the-order ∙ f in rw z
+  order-not f = let z : value_of (ascii "order") ps ≡ None = sym the-order ∙ f in rw z
 
-  pub order-there : (mode : Mode) {x : Reply Step} → low.found ≡ true → x ≡ judged14 (recorded_at 9 ps (kept_by 9 low.numbers)) → x ≡ judged14 (own_rule mode name.Axisswap ps)
-  order-there mode {x} g h = go (first_series name.Axisswap ps) refl
+  pub order-there : (mode : Mode) {x : Reply Step} {r : Numbers} → low.series ≡ Some r → x ≡ judged14 (recorded_at 9 ps (kept_by 9 r)) → x ≡ judged14 (own_rule mode name.Axisswap ps)
+  order-there mode {x} {r} g h = go (first_series name.Axisswap ps) refl
     where
       go : (o : Option Bytes) → first_series name.Axisswap ps ≡ o → x ≡ judged14 (own_rule mode name.Axisswap ps)
-      go none f = absurd (false≢true (sym (not_found l e f) ∙ g))
-      go (some v) f = h ∙ own-order mode (order-kept f)
+      go None f = let z : None ≡ Some r = sym (not_found l e f) ∙ g in absurd (never (cc z))
+      go (Some v) f = (rw (series-is l e g) at h) ∙ own-order mode (order-kept f)
 
-  pub order-default : (mode : Mode) {x : Reply Step} {a : Args} → low.found ≡ false → Axes four_axes a → x ≡ answers (record_at 9 ps (args_of a)) → x ≡ judged14 (own_rule mode name.Axisswap ps)
+  pub order-default : (mode : Mode) {x : Reply Step} {a : Args} → low.series ≡ None → Axes four_axes a → x ≡ answers (record_at 9 ps (args_of a)) → x ≡ judged14 (own_rule mode name.Axisswap ps)
   order-default mode {x} {a} g m h = go (first_series name.Axisswap ps) refl
     where
-      answered : x ≡ judged14 (recorded_at 9 ps (some four_axes))
+      answered : x ≡ judged14 (recorded_at 9 ps (Some four_axes))
       answered = unfold judged14 recorded_at in rw m.are at h
 
       go : (o : Option Bytes) → first_series name.Axisswap ps ≡ o → x ≡ judged14 (own_rule mode name.Axisswap ps)
-      go none f = answered ∙ own-order mode (order-not f)
-      go (some v) f = absurd (false≢true (sym g ∙ kept-found l e f))
+      go None f = answered ∙ own-order mode (order-not f)
+      go (Some v) f = let z : None ≡ Some (numbers_of low) = sym g ∙ kept-found l e f in absurd (never (cc z))
 
 -- ---- adapt
 
-module _ {s : Bytes} {ps : List Parameter} {key : Bytes} {v : Value} (m : Looks s ps key v) {w : Word} where
-  pub given_word : v.given ≡ true → IsRead (rules.word (part v.from v.to s)) w → IsRead (rules.word_given (value_of key ps)) w
+module _ (ps : List Parameter) (key : Bytes) {w : Word} where
+  pub given_word : {v : Bytes} → value_of key ps ≡ Some v → IsRead (rules.word v) w → IsRead (rules.word_given (value_of key ps)) w
   unfolding rules.word_given
-  given_word g r = rw (value_there m g) r
+  given_word g r = rw g r
 
-  pub given-none : v.given ≡ false → IsRead (rules.word (ascii "enuf")) w → IsRead (rules.word_given (value_of key ps)) w
+  pub given-none : value_of key ps ≡ None → IsRead (rules.word (ascii "enuf")) w → IsRead (rules.word_given (value_of key ps)) w
   unfolding rules.word_given
-  given-none g r = rw (value_not m g) r
+  given-none g r = rw g r
 
-is_none : {target : Option rules.Word} {w : Word} → IsRead target w → w.is ≡ false → target ≡ none
+is_none : {target : Option rules.Word} {w : Word} → IsRead target w → w.is ≡ false → target ≡ None
 unfolding word_is
 is_none m e = sym m.is ∙ rw e
 
-is_some : {target : Option rules.Word} {w : Word} → IsRead target w → w.is ≡ true → target ≡ some (word_as w)
+is_some : {target : Option rules.Word} {w : Word} → IsRead target w → w.is ≡ true → target ≡ Some (word_as w)
 unfolding word_is
 is_some m e = sym m.is ∙ rw e
 
@@ -239,7 +235,7 @@ module _ (mode : Mode) (ps : List Parameter) {from to : Word} (f : IsRead (rules
   abbrev made : Option (List ℤ)
   made = rules.between (combined_in mode) (rules.word_given (value_of (ascii "from") ps)) (rules.word_given (value_of (ascii "to") ps))
 
-  adapt-none : made ≡ none → {x : Reply Step} → x ≡ refuses 14 0 → x ≡ judged14 (own_rule mode name.Adapt ps)
+  adapt-none : made ≡ None → {x : Reply Step} → x ≡ refuses 14 0 → x ≡ judged14 (own_rule mode name.Adapt ps)
   unfolding own_rule judged14 recorded choose
   adapt-none e h = h ∙ sym (rw e)
 
@@ -261,7 +257,7 @@ module _ (mode : Mode) (ps : List Parameter) {from to : Word} (f : IsRead (rules
     all-eight : take 8 l ≡ combined_in mode (word_as from) (word_as to)
     all-eight = take_all 8 l (omega (arith, eight)) ∙ m
 
-    both : made ≡ some (combined_in mode (word_as from) (word_as to))
+    both : made ≡ Some (combined_in mode (word_as from) (word_as to))
     unfolding rules.between
     both = rw (is_some f d, is_some t e)
 
@@ -271,15 +267,15 @@ module _ (mode : Mode) (ps : List Parameter) {from to : Word} (f : IsRead (rules
     adapt-so k {x} h =
         let l' = combined_in mode (word_as from) (word_as to) in
         let a : x ≡ answers (record_at (number_of (adapt_in mode)) ps l') = rw (all-eight, k) at h in
-        a ∙ ap judged14 (recorded-of (adapt_in mode) ps (some l') ∙ ap (λ (r : Option (List ℤ)). recorded ps (choose (adapt_in mode) r)) (sym both))
+        a ∙ ap judged14 (recorded-of (adapt_in mode) ps (Some l') ∙ ap (λ (r : Option (List ℤ)). recorded ps (choose (adapt_in mode) r)) (sym both))
 
 -- ---- push and pop
 
 module _ (mode : Mode) (ps : List Parameter) {x : Reply Step} {a : Args} (m : Axes (axes ps) a) where
   pub own-push : x ≡ answers (record_at 0 ps (args_of a)) → x ≡ judged14 (own_rule mode name.Push ps)
   unfolding own_rule judged14 recorded_at number_of
-  own-push h = h ∙ rw m.are (ap judged14 (recorded-of Push ps (some (axes ps))))
+  own-push h = h ∙ rw m.are (ap judged14 (recorded-of Push ps (Some (axes ps))))
 
   pub own-pop : x ≡ answers (record_at 1 ps (args_of a)) → x ≡ judged14 (own_rule mode name.Pop ps)
   unfolding own_rule judged14 recorded_at number_of
-  own-pop h = h ∙ rw m.are (ap judged14 (recorded-of Pop ps (some (axes ps))))
+  own-pop h = h ∙ rw m.are (ap judged14 (recorded-of Pop ps (Some (axes ps))))

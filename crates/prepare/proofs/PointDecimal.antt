@@ -12,23 +12,22 @@ use Rattle.rules.specs.Text.Ascii.{is}
 use Rattle.rules.specs.Text.Lists.{any_of, all_of}
 use Rattle.rules.specs.Text.Bytes.{Bytes, before, behind}
 use Rattle.rules.specs.Text.Decimal.{digit, digits_to, spelled, plain_form, plain, decimal}
-use Rattle.rules.specs.declared.Number.TheVariants as number
 use Rattle.laws_lists.specs.Tests.{and_left, and_right, never}
 use Rattle.text.specs.Runs.{Run}
 use Rattle.text.proofs.RunEnd.{other}
 use Rattle.text.proofs.Lead.{part-from}
 use Rattle.parameters.proofs.Cut.{run-before, run-behind, run-any, run_none}
-use Rattle.prepare.specs.declared.decimal.Spelled.TheVariants.{Are, Not}
+use Rattle.std.specs.Prelude.{Some, None}
 use Rattle.prepare.specs.SeriesRead.{spelled_to}
 use Rattle.prepare.proofs.DigitsSpelt.{digit-high}
 
 -- ---- what digits tell
 
-pub not-digits : (most : ℕ) (t : Bytes) → Not ≡ spelled_to most t → digits_to most t ≡ false
+pub not-digits : (most : ℕ) (t : Bytes) → None ≡ spelled_to most t → digits_to most t ≡ false
 unfolding spelled_to
 not-digits most t e = go (digits_to most t) e
   where
-    go : (b : Bool) → Not ≡ cond b (Are (spelled 0 t)) Not → b ≡ false
+    go : (b : Bool) → None ≡ cond b (Some (spelled 0 t)) None → b ≡ false
     go true f = absurd (never (cc f))
     go false f = refl
 
@@ -36,11 +35,11 @@ pub record Told (most : ℕ) (t : Bytes) (v : ℕ) : Type 0 where
   pub digits : digits_to most t ≡ true
   pub value : v ≡ spelled 0 t
 
-pub are-digits : (most : ℕ) (t : Bytes) (v : ℕ) → Are v ≡ spelled_to most t → Told most t v
+pub are-digits : (most : ℕ) (t : Bytes) (v : ℕ) → Some v ≡ spelled_to most t → Told most t v
 unfolding spelled_to
 are-digits most t v e = go (digits_to most t) refl e
   where
-    go : (b : Bool) → digits_to most t ≡ b → Are v ≡ cond b (Are (spelled 0 t)) Not → Told most t v
+    go : (b : Bool) → digits_to most t ≡ b → Some v ≡ cond b (Some (spelled 0 t)) None → Told most t v
     go true d f = record { digits = d; value = cc f }
     go false d f = absurd (never (cc f))
 
@@ -84,29 +83,29 @@ module _ (minus : Bool) (t : Bytes) {p : ℕ} (m : Run (other (is ".")) t 0 p) w
   front : before (is ".") t ≡ take p t
   front = let z : p - 0 ≡ p = omega arith in run-before (is ".") m ∙ ap (λ (k : ℕ). take k t) z
 
-  pub plain-not : Not ≡ spelled_to 9 (take p t) → number.Not ≡ plain minus t
+  pub plain-not : None ≡ spelled_to 9 (take p t) → None ≡ plain minus t
   unfolding plain plain_form
   plain-not e = sym (rw (front, not-digits 9 (take p t) e))
 
-  pub plain-whole : (v : ℕ) → Are v ≡ spelled_to 9 (take p t) → length t ≤ p → number.Is (record { minus = minus; whole = v; millionths = 0 }) ≡ plain minus t
+  pub plain-whole : (v : ℕ) → Some v ≡ spelled_to 9 (take p t) → length t ≤ p → Some (record { minus = minus; whole = v; millionths = 0 }) ≡ plain minus t
   unfolding plain plain_form spelled
   plain-whole v e h =
       let w = are-digits 9 (take p t) v e in
       let n : any_of (is ".") t ≡ false = run_none (is ".") m h in
       sym (rw (front, w.digits, n, behind-none (is ".") t n, w.value))
 
-  module _ (v : ℕ) (e : Are v ≡ spelled_to 9 (take p t)) (h : p < length t) where
+  module _ (v : ℕ) (e : Some v ≡ spelled_to 9 (take p t)) (h : p < length t) where
     tail : take (length t - (p + 1)) (drop (p + 1) t) ≡ behind (is ".") t
     tail = part-from t (p + 1) ∙ sym (run-behind (is ".") m h)
 
-    pub plain-no-fraction : Not ≡ spelled_to 6 (take (length t - (p + 1)) (drop (p + 1) t)) → number.Not ≡ plain minus t
+    pub plain-no-fraction : None ≡ spelled_to 6 (take (length t - (p + 1)) (drop (p + 1) t)) → None ≡ plain minus t
     unfolding plain plain_form
     plain-no-fraction f =
         let w = are-digits 9 (take p t) v e in
         let d : digits_to 6 (behind (is ".") t) ≡ false = rw (← tail) (not-digits 6 (take (length t - (p + 1)) (drop (p + 1) t)) f) in
         sym (rw (front, w.digits, run-any (is ".") m h, d))
 
-    module _ (x : ℕ) (f : Are x ≡ spelled_to 6 (take (length t - (p + 1)) (drop (p + 1) t))) where
+    module _ (x : ℕ) (f : Some x ≡ spelled_to 6 (take (length t - (p + 1)) (drop (p + 1) t))) where
       size : length (behind (is ".") t) ≡ length t - (p + 1)
       size = ap length (run-behind (is ".") m h) ∙ length-drop (p + 1) t
 
@@ -116,7 +115,7 @@ module _ (minus : Bool) (t : Bytes) {p : ℕ} (m : Run (other (is ".")) t 0 p) w
       pub fraction-few : Few 6 x (length t - (p + 1))
       fraction-few = rw size at (told-few told)
 
-      pub plain-both : {y : ℕ} → y ≡ x * 10 ^ (6 - (length t - (p + 1))) → number.Is (record { minus = minus; whole = v; millionths = y }) ≡ plain minus t
+      pub plain-both : {y : ℕ} → y ≡ x * 10 ^ (6 - (length t - (p + 1))) → Some (record { minus = minus; whole = v; millionths = y }) ≡ plain minus t
       unfolding plain plain_form
       plain-both {y} g =
           let w = are-digits 9 (take p t) v e in
@@ -125,10 +124,10 @@ module _ (minus : Bool) (t : Bytes) {p : ℕ} (m : Run (other (is ".")) t 0 p) w
 -- ---- with its sign
 
 module _ (t : Bytes) where
-  pub decimal-none : length t < 1 → number.Not ≡ decimal t
+  pub decimal-none : length t < 1 → None ≡ decimal t
   decimal-none h = go t h
     where
-      go : (u : Bytes) → length u < 1 → number.Not ≡ decimal u
+      go : (u : Bytes) → length u < 1 → None ≡ decimal u
       go [] l = unfold decimal in refl
       go (x ∷ u) l = absurd (never (omega arith))
 

@@ -1,4 +1,6 @@
 -- What the contract of `prepare_as` says of the records lent is the promise of `rules`; those past them, and how many are lent, stay.
+use Rattle.rules.specs.declared.Refusal.{Refusal}
+use Rattle.std.specs.Prelude.{Result}
 use mathlib.Core.Path.{◌≡◌, refl, ap, ◌∙◌}
 use Prim.Native.Nat.{ℕ, ◌≤◌, ◌<◌}
 use mathlib.Core.Bool.{Bool, true, false, cond}
@@ -13,7 +15,6 @@ use Rattle.rules.specs.Text.Bytes.{Bytes}
 use Rattle.rules.specs.Text.Refusal.{Reply, answers, refuses, refuses12, lent, outcome, tested, prepared}
 use Rattle.rules.specs.Pipeline.Prepare.{prepare_as, PreparesAs}
 use Rattle.rules.specs.declared.Mode.{Mode}
-use Rattle.rules.specs.declared.Prepared.{Prepared}
 use Rattle.rules.specs.declared.Reading.{Reading}
 use Rattle.rules.specs.declared.Step.{Step}
 use Rattle.rules.specs.declared.Table.{Table}
@@ -27,7 +28,7 @@ lent_length (refuses12 place offset) l = refl
 lent_length (answers xs) l = go (ltb (length l) (length xs)) refl
   where
     go : (b : Bool) → ltb (length l) (length xs) ≡ b
-        → length (cond {A = Prepared × List Step} b (prepared (refuses 7 0), l) (prepared (answers (length xs)), xs ++ drop (length xs) l)).1 ≡ length l
+        → length (cond {A = Result ℕ Refusal × List Step} b (prepared (refuses 7 0), l) (prepared (answers (length xs)), xs ++ drop (length xs) l)).1 ≡ length l
     go true e = refl
     go false e = omega (arith, length-append xs (drop (length xs) l), length-drop (length xs) l, ltb-false (length l) (length xs) e)
 
@@ -56,7 +57,7 @@ module _ (l new : List Step) (n : ℕ) (e : length new ≡ length (take n l)) wh
           rw (drop_of_length-le l k, append-nil new) (drop_of_length-le new j)
 
 -- what a caller learns of `x ≡ preparing_as r mode text t`
-pub record Keeps (r : Reading) (mode : Mode) (text : Bytes) (t : Table) (answer : Prepared) (t' : Table) : Type 0 where
+pub record Keeps (r : Reading) (mode : Mode) (text : Bytes) (t : Table) (answer : Result ℕ Refusal) (t' : Table) : Type 0 where
   pub promised : PreparesAs r mode text (row t) answer (row t')
   pub past : drop t.n t'.steps ≡ drop t.n t.steps
   pub many : t'.n ≡ t.n

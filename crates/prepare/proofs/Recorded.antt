@@ -1,8 +1,8 @@
 -- Records, refusals and arguments of one step: what each function makes is what the definitions name.
+use Rattle.std.specs.Prelude.{Option, None, Some}
 use mathlib.Core.Path.{◌≡◌, refl, sym, ap, ◌∙◌}
 use Prim.Native.Nat.{ℕ, ◌+◌, ◌<◌}
 use mathlib.Core.Bool.{Bool, true, false, cond}
-use mathlib.Core.Option.{Option, none, some}
 use mathlib.Core.List.{List, [], ◌∷◌, ◌++◌, append_assoc, append-nil}
 use native.Mathlib.Numerals.{add-one}
 use native.Mathlib.Omega.{arith}
@@ -55,8 +55,8 @@ record-of o ps l = refl
 -- an operator by its number, and as a step's parameters choose it
 pub recorded-of : (o : Operator) (ps : List Parameter) (r : Option (List ℤ)) → recorded_at (number_of o) ps r ≡ recorded ps (choose o r)
 unfolding recorded_at recorded choose
-recorded-of o ps none = refl
-recorded-of o ps (some l) = ap some (record-of o ps l)
+recorded-of o ps None = refl
+recorded-of o ps (Some l) = ap Some (record-of o ps l)
 
 -- ---- arguments
 

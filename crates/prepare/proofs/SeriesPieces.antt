@@ -1,7 +1,7 @@
 -- A series, piece by piece: what has been read of it after some of them.
+use Rattle.std.specs.Prelude.{Option, None, Some}
 use mathlib.Core.Path.{◌≡◌, refl, sym, ap, ◌∙◌}
 use mathlib.Core.Bool.{Bool, true, false, cond, ◌&&◌, ◌||◌, and-false}
-use mathlib.Core.Option.{Option, none, some}
 use mathlib.Core.List.{List, [], ◌∷◌, ◌++◌, append-nil, map, map-append}
 use Prim.Native.Nat.{ℕ, zero, suc, ◌+◌, ◌-◌, ◌≤◌, ◌<◌}
 use native.Mathlib.Decide.{dec_lt}
@@ -20,7 +20,6 @@ use Rattle.rules.specs.Operators.Arguments.{size, wholes}
 use Rattle.rules.specs.Pipeline.Record.{nine_digits}
 use Rattle.rules.specs.Text.Reader.{part}
 use Rattle.rules.specs.declared.Decimal.{Decimal}
-use Rattle.rules.specs.declared.Number.TheVariants.{Is, Not}
 use Rattle.laws_lists.specs.Tests.{never}
 use Rattle.laws_records.specs.Series.{size-signed, decimal-nine}
 use Rattle.text.specs.Runs.{Run}
@@ -65,29 +64,29 @@ left-more {v} {at} {e} h m =
     outside l = let k : length v < e + 1 = omega arith in rw (run_none (is ",") m l, lt-leb (e + 1) (length v) k)
 
 -- the first that breaks decimal form: here, or behind one that does not
-broken-here : (p : Bytes) (ps : List Bytes) → decimal p ≡ Not → broken_from (p ∷ ps) ≡ 0
+broken-here : (p : Bytes) (ps : List Bytes) → decimal p ≡ None → broken_from (p ∷ ps) ≡ 0
 unfolding broken_from is_number
 broken-here p ps e = rw e
 
-broken-behind : (p : Bytes) (ps : List Bytes) (d : Decimal) → decimal p ≡ Is d → broken_from (p ∷ ps) ≡ length p + 1 + broken_from ps
+broken-behind : (p : Bytes) (ps : List Bytes) (d : Decimal) → decimal p ≡ Some d → broken_from (p ∷ ps) ≡ length p + 1 + broken_from ps
 unfolding broken_from is_number
 broken-behind p ps d e = rw e
 
 -- ---- numbers in front of others
 
 unfoldable pub prefixed : List Decimal → Option (List Decimal) → Option (List Decimal)
-prefixed ds none = none
-prefixed ds (some es) = some (ds ++ es)
+prefixed ds None = None
+prefixed ds (Some es) = Some (ds ++ es)
 
 prefixed-none : (r : Option (List Decimal)) → r ≡ prefixed [] r
 unfolding prefixed
-prefixed-none none = refl
-prefixed-none (some es) = refl
+prefixed-none None = refl
+prefixed-none (Some es) = refl
 
-prefixed-more : (ds : List Decimal) (d : Decimal) (r : Option (List Decimal)) → prefixed ds (number_then (Is d) r) ≡ prefixed (ds ++ (d ∷ [])) r
+prefixed-more : (ds : List Decimal) (d : Decimal) (r : Option (List Decimal)) → prefixed ds (number_then (Some d) r) ≡ prefixed (ds ++ (d ∷ [])) r
 unfolding prefixed number_then
-prefixed-more ds d none = refl
-prefixed-more ds d (some es) = ap some (sym (append_snoc ds d es))
+prefixed-more ds d None = refl
+prefixed-more ds d (Some es) = ap Some (sym (append_snoc ds d es))
 
 all_snoc : {A : Type 0} (p : A → Bool) (l : List A) (x : A) → all_of p (l ++ (x ∷ [])) ≡ (all_of p l && p x)
 unfolding all_of
@@ -172,11 +171,11 @@ module _ (list : List ℤ) (n : ℕ) (x : ℤ) (s : length list ≡ 8) where
 
 module _ {v : Bytes} {list : List ℤ} {whole : Bool} {n at : ℕ} (m : Reading v list whole n at) where
   module _ {e : ℕ} (h : at ≤ length v) (p : Run (other (is ",")) v at e) where
-    pub piece-not : decimal (part at e v) ≡ Not → (from : ℕ) {list' : List ℤ} {whole' : Bool} {n' : ℕ}
+    pub piece-not : decimal (part at e v) ≡ None → (from : ℕ) {list' : List ℤ} {whole' : Bool} {n' : ℕ}
         → Reads v from (record { number = 12; at = from + at; whole = whole'; args = record { list = list'; n = n' } })
     unfolding all_numbers number_then prefixed lowest is_none
     piece-not f from =
-        let z : series v ≡ none = m.numbers ∙ rw (left-more h p, f) in
+        let z : series v ≡ None = m.numbers ∙ rw (left-more h p, f) in
         let b : broken_from (left v at) ≡ 0 = ap broken_from (left-more h p) ∙ broken-here (part at e v) (left v (e + 1)) f in
         record {
           number = sym (rw z);
@@ -185,7 +184,7 @@ module _ {v : Bytes} {list : List ℤ} {whole : Bool} {n at : ℕ} (m : Reading 
           args = λ k. absurd (never (omega arith));
         }
 
-    pub reading-more : {d : Decimal} {x : ℤ} {list' : List ℤ} {whole' : Bool} → decimal (part at e v) ≡ Is d → x ≡ signed d.minus d.whole
+    pub reading-more : {d : Decimal} {x : ℤ} {list' : List ℤ} {whole' : Bool} → decimal (part at e v) ≡ Some d → x ≡ signed d.minus d.whole
         → list' ≡ set list n x → whole' ≡ (whole && is_whole d)
         → Reading v list' whole' (n + 1) (e + 1)
     unfolding all_numbers whole_of
@@ -206,9 +205,9 @@ module _ {v : Bytes} {list : List ℤ} {whole : Bool} {n at : ℕ} (m : Reading 
     }
 
   module _ (h : length v < at) where
-    all_read : series v ≡ some m.done
+    all_read : series v ≡ Some m.done
     unfolding all_numbers prefixed
-    all_read = m.numbers ∙ rw (left-none v at h) (ap some (append-nil m.done))
+    all_read = m.numbers ∙ rw (left-none v at h) (ap Some (append-nil m.done))
 
     so-many : length (pieces v) ≡ n
     so-many = m.many ∙ rw (left-none v at h) (omega arith)
@@ -240,7 +239,7 @@ module _ {v : Bytes} {list : List ℤ} {whole : Bool} {n at : ℕ} (m : Reading 
 -- ---- one number
 
 -- it has nine digits at most
-pub digits-fit : (p : Bytes) (d : Decimal) → decimal p ≡ Is d → d.whole ≤ 999999999
+pub digits-fit : (p : Bytes) (d : Decimal) → decimal p ≡ Some d → d.whole ≤ 999999999
 unfolding whole_of
 digits-fit p d h = rw (size-signed d.minus d.whole) at (nine-so (decimal-nine p d h))
   where

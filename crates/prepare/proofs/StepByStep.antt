@@ -1,5 +1,6 @@
 -- The walk that prepares all steps: its invariant is that the steps so far have their records, each with its span, in front of the table's, or that the
 -- first refusal is known; and each way out of it tells the reply of the whole text.
+use Rattle.std.specs.Prelude.{None}
 use mathlib.Core.Path.{◌≡◌, refl, sym, ap, ◌∙◌}
 use Prim.Native.Nat.{ℕ, suc, ◌+◌, ◌-◌, ◌≤◌, ◌<◌}
 use mathlib.Core.Bool.{Bool, true, false, cond}
@@ -14,11 +15,10 @@ use Rattle.rules.specs.Text.Ascii.{ascii}
 use Rattle.rules.specs.Text.Bytes.{Bytes, Words, words}
 use Rattle.rules.specs.Text.Refusal.{Reply, answers, refuses, refuses12, and_then}
 use Rattle.rules.specs.Text.Split.{steps_of, step_text, line}
-use Rattle.rules.specs.Text.Reader.{next, part, spans_of}
+use Rattle.rules.specs.Text.Reader.{next, part, spans_of, step_then}
 use Rattle.rules.specs.Pipeline.Record.{spanned, with_spans}
 use Rattle.rules.specs.Pipeline.Prepare.{prepare_steps}
 use Rattle.rules.specs.declared.Cursor.{Cursor}
-use Rattle.rules.specs.declared.Found.TheVariants as found
 use Rattle.rules.specs.declared.Mode.{Mode}
 use Rattle.rules.specs.declared.Span.{Span}
 use Rattle.rules.specs.declared.Step.{Step}
@@ -102,7 +102,7 @@ module _ {mode : Mode} {normalised : Bytes} {t : Table} {a₀ b₀ c₀ a b c : 
     (m : Reaches mode normalised t a₀ b₀ c₀ a b c records at n number place fault) where
   -- ---- the end
 
-  module _ (f : next normalised at ≡ found.End) where
+  module _ (f : next normalised at ≡ None) where
     too_many : 64 < n → normal_reply mode normalised ≡ refuses 8 0
     unfolding normal_reply with_theirs and_then
     too_many h = rw (passed-many m.walked f h)
@@ -132,7 +132,7 @@ module _ {mode : Mode} {normalised : Bytes} {t : Table} {a₀ b₀ c₀ a b c : 
 
   -- ---- a step
 
-  module _ {from to : ℕ} {then : Cursor} (f : next normalised at ≡ found.Step from to then) where
+  module _ {from to : ℕ} {then : Cursor} (f : next normalised at ≡ step_then from to then) where
     -- its words
     abbrev here : Words
     here = words (part from to normalised)

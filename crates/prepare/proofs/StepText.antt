@@ -1,9 +1,10 @@
 -- One step: from its text to its parameters, and what is refused on the way. Its text is written out as it is cut, leading modifiers turned: its words
 -- there are the turned words of the text.
+use Rattle.std.specs.Prelude.{None}
 use mathlib.Core.Path.{◌≡◌, refl, sym, ap, ◌∙◌}
 use Prim.Native.Nat.{ℕ, suc, ◌+◌, ◌-◌, ◌≤◌, ◌<◌, min}
 use mathlib.Core.Bool.{Bool, true, false, cond, and-false, true≢false}
-use mathlib.Core.List.{List, [], ◌∷◌, ◌++◌}
+use mathlib.Core.List.{List, [], ◌∷◌, ◌++◌, map}
 use native.Mathlib.Nat.{le-min}
 use native.Mathlib.Omega.{arith}
 use borrow.Author.Tests.{lt-ltb, le-ltb}
@@ -22,7 +23,6 @@ use Rattle.rules.specs.Operators.Arguments.{value_of}
 use Rattle.rules.specs.Pipeline.Prepare.{named, judged10, judged, offset_of, at_step}
 use Rattle.rules.specs.declared.Mode.{Mode}
 use Rattle.rules.specs.declared.Name.{Name}
-use Rattle.rules.specs.declared.Named.TheVariants.{Not}
 use Rattle.rules.specs.declared.Step.{Step}
 use Rattle.laws_lists.specs.Tests.{and_left, and_right, or_left, or_right, same-is}
 use Rattle.laws_lists.specs.Lists.{all_append}
@@ -37,9 +37,9 @@ use Rattle.split.specs.Lines.{HasLine, IsLine}
 use Rattle.split.specs.declared.step.Line.{Line}
 use Rattle.split.specs.declared.step.Line.TheVariants as line-is
 use Rattle.split.proofs.Lengths.{line-within}
-use Rattle.parameters.specs.Parts.{Entered, placed_of, held, placed_in}
+use Rattle.parameters.specs.Parts.{Parts, Good, placed_of, held, placed_in}
 use Rattle.parameters.proofs.Places.{held-length}
-use Rattle.parameters.specs.Elements.{Spelt, placed_all, Cut}
+use Rattle.parameters.specs.Elements.{Spelt, placed_all}
 use Rattle.parameters.proofs.Cut.{run-any, run_none}
 use Rattle.parameters.proofs.Spelt.{spelled, spelt-behind}
 use Rattle.prepare.specs.StepReply.{Roomy, placed_reply, cut_reply, text_reply, step_reply}
@@ -59,18 +59,18 @@ differs u w e f = go (same u w) refl
 separated : Name → Bool
 separated n = any_of (is "|") (ascii (wording_of n).name)
 
-no-name-in : (u : Bytes) → any_of (is "|") u ≡ true → (ns : List Name) → any_of separated ns ≡ false → name_in ns u ≡ Not
+no-name-in : (u : Bytes) → any_of (is "|") u ≡ true → (ns : List Name) → any_of separated ns ≡ false → name_in ns u ≡ None
 unfolding name_in any_of separated
 no-name-in u e [] f = refl
 no-name-in u e (n ∷ ns) f =
     rw (differs u (ascii (wording_of n).name) e (or_left (separated n) (any_of separated ns) f))
     (no-name-in u e ns (or_right (separated n) (any_of separated ns) f))
 
-no_name : (u : Bytes) → any_of (is "|") u ≡ true → name_of u ≡ Not
+no_name : (u : Bytes) → any_of (is "|") u ≡ true → name_of u ≡ None
 unfolding name_of
 no_name u e = no-name-in u e names (unfold any_of separated names ascii in refl)
 
-unnamed : (mode : Mode) (u : Bytes) → name_of u ≡ Not → judged mode (name u ∷ []) ≡ refuses 10 0
+unnamed : (mode : Mode) (u : Bytes) → name_of u ≡ None → judged mode (name u ∷ []) ≡ refuses 10 0
 unfolding judged judged10 named value_of name same ascii
 unnamed mode u e = rw e
 
@@ -159,17 +159,17 @@ module _ (mode : Mode) {s : Bytes} {e : ℕ} (r : Run (other (is "|")) s 0 e) wh
 
 -- ---- as it stands in a buffer, with `_nametrue` behind it
 
-module _ (mode : Mode) {s : Bytes} (n : ℕ) {t : Entered} (k : Cut s (words (take n s)) t) where
-  pub cut-full : {x : Reply Step} → t.full ≡ true → x ≡ refuses 9 0 → x ≡ cut_reply mode (words (take n s))
+module _ (mode : Mode) (ws : Words) where
+  pub cut-full : {x : Reply Step} → 32 < length (placed_all (placed_elements ws) []) → x ≡ refuses 9 0 → x ≡ cut_reply mode ws
   unfolding cut_reply
-  cut-full h f = f ∙ sym (rw (lt-ltb 32 _ (k.no_room h)))
+  cut-full h f = f ∙ sym (rw (lt-ltb 32 _ h))
 
-  pub cut-table : {x : Reply Step} → t.full ≡ false → x ≡ placed_reply mode (placed_in s t.table) → x ≡ cut_reply mode (words (take n s))
+  pub cut-table : (s : Bytes) (t : Parts) {x : Reply Step} → Good s t → map (placed_of s) (held t) ≡ placed_all (placed_elements ws) []
+      → x ≡ placed_reply mode (placed_in s t) → x ≡ cut_reply mode ws
   unfolding cut_reply
-  cut-table h f =
-      let l : length (placed_all (placed_elements (words (take n s))) []) ≤ 32 =
-      rw (← k.table h) (omega (arith, length-map (held t.table) (placed_of s), held-length (k.good h), (k.good h).fits)) in
-      f ∙ rw (k.table h) (sym (rw (le-ltb 32 _ l)))
+  cut-table s t g h f =
+      let l : length (placed_all (placed_elements ws) []) ≤ 32 = rw (← h) (omega (arith, length-map (held t) (placed_of s), held-length g, g.fits)) in
+      f ∙ rw h (sym (rw (le-ltb 32 _ l)))
 
 pub line-room : (t : Bytes) {b : ℕ} → length t + 9 ≤ b → 0 + length (line (step_text (words t))) ≤ b
 line-room t h = omega (arith, line-within t, h)
@@ -197,7 +197,7 @@ module _ (t : Bytes) {b₀ b₁ : Bytes} {end : ℕ} (l : HasLine (words t) b₀
     pub cut-spelt : Spelt (take m b₂) (end - 1)
     cut-spelt = rw cut-front (spelt-behind (step_text (words t)) (end - 1) (omega (arith, text-length)))
 
-    pub cut_short : length t ≤ 4096 → length (take m b₂) ≤ 4105
+    pub cut_short : length t ≤ 4096 → length (take m b₂) ≤ 40969
     cut_short h = unfold line ascii in omega (arith, h, ap length cut-front, length-append (step_text (words t)) spelled, line-within t, length-append (step_text (words t)) (10 ∷ []))
 
     cut-text : take (end - 1) (take m b₂) ≡ step_text (words t)

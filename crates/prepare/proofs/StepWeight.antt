@@ -12,9 +12,8 @@ use Rattle.rules.specs.Text.Lists.{any_of, kept, non_empty}
 use Rattle.rules.specs.Text.Bytes.{Bytes, Words, white, trim_start, cut, words, after_each, joined_by, joined}
 use Rattle.rules.specs.Text.Normal.{normal}
 use Rattle.rules.specs.Text.Split.{modifier, leading, following, turned, steps_of, step_text, line}
-use Rattle.rules.specs.Text.Reader.{next, part}
+use Rattle.rules.specs.Text.Reader.{next, part, step_then}
 use Rattle.rules.specs.declared.Cursor.{Cursor}
-use Rattle.rules.specs.declared.Found.TheVariants.{Step}
 use Rattle.laws_lists.specs.Lists.{Every}
 use Rattle.laws_lists.specs.Tests.{or_left, or_right}
 use Rattle.laws_text.specs.Passes.{in_word, grow, words-cons}
@@ -137,7 +136,7 @@ normal-fits t = omega (arith, length-weight (normal t), normal-weight t, front-w
 
 -- ---- a step's line is at most a byte longer than the text that it is a step of
 
-pub line-length : (t : Bytes) (at from to : ℕ) (then : Cursor) → next t at ≡ Step from to then → length (line (step_text (words (part from to t)))) ≤ suc (length t)
+pub line-length : (t : Bytes) (at from to : ℕ) (then : Cursor) → next t at ≡ step_then from to then → length (line (step_text (words (part from to t)))) ≤ suc (length t)
 line-length t at from to then f =
     let here = words (part from to t) in
     let others = steps_of (drop then.at t) in

@@ -1,14 +1,17 @@
 -- A text on its way: what is refused before it is normalised, what its normal form is, and that the reply of that is the text's.
+use Rattle.rules.specs.declared.Refusal.{Refusal}
+use Rattle.std.specs.Prelude.{Result, Ok, Err, ⊤}
 use mathlib.Core.Path.{◌≡◌, refl, sym, ◌∙◌}
 use Prim.Native.Nat.{ℕ, ◌+◌, ◌*◌, ◌≤◌, ◌<◌, min}
 use mathlib.Core.Bool.{Bool, true, false, cond, not}
 use native.Mathlib.Nat.{min-le_left}
 use native.Mathlib.Omega.{arith}
 use borrow.Author.Tests.{le-ltb}
+use Rattle.laws_lists.specs.Tests.{never}
 use lib.ListN.{length, take}
 use lib.Dec.{ltb}
 use Rattle.rules.specs.Text.Bytes.{Bytes, in_domain}
-use Rattle.rules.specs.Text.Refusal.{refuses, tested}
+use Rattle.rules.specs.Text.Refusal.{refuses, tested, refusal, told}
 use Rattle.rules.specs.Text.Normal.{normal}
 use Rattle.rules.specs.Text.Comments.{stripped}
 use Rattle.rules.specs.Text.Split.{steps}
@@ -16,7 +19,7 @@ use Rattle.rules.specs.Text.Reader.{definition, spans}
 use Rattle.rules.specs.Pipeline.Prepare.{prepare_split, prepare_in}
 use Rattle.rules.specs.declared.Mode.{Mode}
 use Rattle.rules.specs.declared.Table.{Table}
-use Rattle.laws_text.specs.Entry.{RefusedFirst, first_refusal}
+use Rattle.laws_text.specs.Entry.{Tested, both_tests}
 use Rattle.laws_text.specs.Sizes.{steps-length}
 use Rattle.text.specs.Wrote.{Holds}
 use Rattle.text.proofs.Wrote.{wrote-front}
@@ -32,18 +35,15 @@ is-prepare mode t = refl
 
 module _ (text : Bytes) (t : Table) where
   -- 1 and 2
-  first-is : (mode : Mode) {number : ℕ} → RefusedFirst text number → (number ≡ 0 → ⊥) → tested (prepare_in mode) text ≡ refuses number 0
-  unfolding tested first_refusal
-  first-is mode {number} f n = go (ltb 4096 (length text)) (in_domain text) f.exactly
+  pub prepare-first : (mode : Mode) {tests : Result ⊤ Refusal} {e : Refusal} → Tested text tests → tests ≡ Err e → ◌≡◌ {A = Preparing} (record { answer = Err e; table = t }) (preparing mode text t)
+  unfolding preparing tested both_tests
+  prepare-first mode {tests} {e} f n = go (ltb 4096 (length text)) (in_domain text) (sym n ∙ f.exactly)
     where
-      go : (long fine : Bool) → number ≡ cond long 1 (cond (not fine) 2 0) → cond long (refuses 1 0) (cond (not fine) (refuses 2 0) (prepare_in mode text)) ≡ refuses number 0
-      go true fine e = rw e
-      go false true e = absurd (n e)
-      go false false e = rw e
-
-  pub prepare-first : (mode : Mode) {number : ℕ} {r : Preparing} → RefusedFirst text number → (number ≡ 0 → ⊥) → r ≡ refusing number 0 0 t → r ≡ preparing mode text t
-  unfolding preparing
-  prepare-first mode f n h = h ∙ lent-refused t (first-is mode f n)
+      go : (long fine : Bool) → ◌≡◌ {A = Result ⊤ Refusal} (Err e) (cond long (refusal 1 0) (cond (not fine) (refusal 2 0) (Ok tt)))
+          → ◌≡◌ {A = Preparing} (record { answer = Err e; table = t }) (lent_to (cond long (refuses 1 0) (cond (not fine) (refuses 2 0) (prepare_in mode text))) t)
+      go true fine h = let g : e ≡ told 1 0 = cc h in rw g (lent-refused t refl)
+      go false true h = absurd (never (cc h))
+      go false false h = let g : e ≡ told 2 0 = cc h in rw g (lent-refused t refl)
 
   module _ {n : ℕ} {a : Bytes} (w : Holds (normal (stripped text)) n a) where
     pub normal-there : Bare (take n a)

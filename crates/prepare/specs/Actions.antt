@@ -1,6 +1,5 @@
 -- Which actions of `stack` are given, by their places in the list of them.
-use Rattle.std.specs.Prelude.{◌≡◌, ℕ, ◌+◌, ◌<◌, List, [], ◌∷◌, length, take, get_or}
-use Rattle.std.proofs.Math.Option.{none, some}
+use Rattle.std.specs.Prelude.{◌≡◌, ℕ, ◌+◌, ◌<◌, List, [], ◌∷◌, length, take, get_or, None, Some}
 use Rattle.rules.specs.Text.Ascii.{ascii}
 use Rattle.rules.specs.Text.Bytes.{Bytes}
 use Rattle.rules.specs.Text.Parameters.{Parameter}
@@ -12,7 +11,7 @@ use Rattle.prepare.specs.declared.own.Choice.TheVariants.{None, One, More}
 
 -- an action by its place, and its key
 abbrev pub last_action : Action
-last_action = record { key = "drop"; operator = StackDrop; arguments = λ value. some [] }
+last_action = record { key = "drop"; operator = StackDrop; arguments = λ value. Some [] }
 
 unfoldable pub action_at : ℕ → Action
 action_at k = get_or actions k last_action
@@ -23,7 +22,7 @@ key_at k = ascii (action_at k).key
 -- none of the first k actions is given
 pub record NoAction (ps : List Parameter) (k : ℕ) : Type 0 where
   pub given : actions_given ps (take k actions) ≡ []
-  pub others : (j : ℕ) → j < k → value_of (key_at j) ps ≡ none
+  pub others : (j : ℕ) → j < k → value_of (key_at j) ps ≡ None
 
 -- one of them is, and no other: the operators' numbers follow each other from 2 on
 pub record OneAction (ps : List Parameter) (k operator : ℕ) : Type 0 where
@@ -31,9 +30,9 @@ pub record OneAction (ps : List Parameter) (k operator : ℕ) : Type 0 where
   pub number : operator ≡ place + 2
   pub within : place < k
   pub value : Bytes
-  pub is : value_of (key_at place) ps ≡ some value
+  pub is : value_of (key_at place) ps ≡ Some value
   pub given : actions_given ps (take k actions) ≡ choose (action_at place).operator ((action_at place).arguments value) ∷ []
-  pub others : (j : ℕ) → j < k → (j ≡ place → ⊥) → value_of (key_at j) ps ≡ none
+  pub others : (j : ℕ) → j < k → (j ≡ place → ⊥) → value_of (key_at j) ps ≡ None
 
 -- which of the first k actions are given
 abbrev pub Chosen : List Parameter → ℕ → Choice → Type 0

@@ -1,6 +1,6 @@
 -- The refusals 11 to 13 of one parameter and of all, by their numbers, and where 12 is; and the first series among them.
-use Rattle.std.specs.Prelude.{◌≡◌, ℕ, Bool, true, false, cond, ◌||◌, List, [], ◌∷◌, map, eqb, ltb}
-use Rattle.std.proofs.Math.Option.{Option, none, some}
+use Rattle.std.specs.Prelude.{◌≡◌, ℕ, Bool, true, false, cond, List, [], ◌∷◌, map, eqb, min, Some, None, unwrap_or, Option}
+use Rattle.std.specs.Option.{option_or}
 use Rattle.rules.specs.Text.Ascii.{ascii}
 use Rattle.rules.specs.Text.Lists.{any_of}
 use Rattle.rules.specs.Text.Bytes.{Bytes, same}
@@ -12,6 +12,7 @@ use Rattle.rules.specs.declared.Kind.TheVariants as kind
 use Rattle.rules.specs.declared.Name.{Name}
 use Rattle.prepare.specs.SeriesRead.{Reads, no_numbers}
 use Rattle.prepare.specs.declared.faults.Lowest.{Lowest}
+use Rattle.prepare.specs.declared.series.Numbers.{Numbers}
 
 -- "its lowest number of .. 9 to 14": 11, 12, 13, then 14
 abbrev pub by : Bool → Bool → Bool → ℕ
@@ -31,13 +32,9 @@ unplaced qs = map (λ (q : Placed). q.given) qs
 unfoldable pub flag_fault : Bytes → ℕ
 flag_fault value = cond (same value (ascii "true")) 14 12
 
--- the lower of two
-unfoldable pub lower : ℕ → ℕ → ℕ
-lower a b = cond (ltb a b) a b
-
 -- of two numbers with their bytes, the byte of the one that is 12, or the earlier
 unfoldable pub earlier : ℕ → ℕ → ℕ → ℕ → ℕ
-earlier a x b y = cond (eqb a 12) (cond (eqb b 12) (cond (ltb x y) x y) x) y
+earlier a x b y = cond (eqb a 12) (cond (eqb b 12) (min x y) x) y
 
 -- of all of a step
 unfoldable pub lowest_of : Name → List Parameter → ℕ
@@ -45,46 +42,46 @@ lowest_of n ps =
     by (any_of (unknown n) ps) (any_of (λ (p : Parameter). misspelt (kind_of n p) p.value) ps) (any_of (λ (p : Parameter). too_long (kind_of n p) p.value) ps)
 
 -- does a key take a series?
-unfoldable pub is_series : Kind → Bool
-is_series kind.Flag = false
-is_series kind.Series = true
-is_series kind.Word = false
-is_series kind.Lacking = false
+unfoldable pub is_series : Option Kind → Bool
+is_series (Some kind.Flag) = false
+is_series (Some kind.Series) = true
+is_series (Some kind.Word) = false
+is_series None = false
 
 -- the value of the first key that does
 unfoldable pub first_series : Name → List Parameter → Option Bytes
-first_series n [] = none
-first_series n (p ∷ ps) = cond (is_series (kind_of n p)) (some p.value) (first_series n ps)
+first_series n [] = None
+first_series n (p ∷ ps) = cond (is_series (kind_of n p)) (Some p.value) (first_series n ps)
 
 -- ---- as the code has them
 
 -- a number at a byte, and no series
 unfoldable pub without : ℕ → ℕ → Lowest
-without number at = record { number = number; at = at; found = false; numbers = no_numbers }
+without number at = record { number = number; at = at; series = None }
 
 -- the lower number of two, the earlier byte, and the first series
 unfoldable pub joined : Lowest → Lowest → Lowest
 joined a b =
     record {
-      number = lower a.number b.number;
+      number = min a.number b.number;
       at = earlier a.number a.at b.number b.at;
-      found = a.found || b.found;
-      numbers = cond a.found a.numbers b.numbers;
+      series = option_or a.series b.series;
     }
+
+-- the numbers that are kept, if there are any
+abbrev pub numbers_of : Lowest → Numbers
+numbers_of r = unwrap_or r.series no_numbers
 
 -- the series that is kept is the first one, if there is one
 pub record Kept (v : Bytes) (r : Lowest) : Type 0 where
-  pub found : r.found ≡ true
+  pub numbers : Numbers
+  pub is : r.series ≡ Some numbers
   pub from : ℕ
-  pub read : Reads v from r.numbers
-
-pub record NoneKept (r : Lowest) : Type 0 where
-  pub found : r.found ≡ false
-  pub read : r.numbers ≡ no_numbers
+  pub read : Reads v from numbers
 
 abbrev pub Keeps : Option Bytes → Lowest → Type 0
-Keeps none r = NoneKept r
-Keeps (some v) r = Kept v r
+Keeps None r = r.series ≡ None
+Keeps (Some v) r = Kept v r
 
 pub record Lowers (n : Name) (ps : List Parameter) (r : Lowest) : Type 0 where
   pub number : r.number ≡ lowest_of n ps

@@ -1,14 +1,13 @@
 -- The lent step table, before and after; and preparing a text and a normalised text in a mode.
-use Rattle.std.specs.Prelude.{ℕ, cond, not, List, ◌++◌, map, take, drop, eqb, ltb}
+use Rattle.rules.specs.declared.Refusal.{Refusal}
+use Rattle.std.specs.Prelude.{ℕ, cond, not, List, ◌++◌, map, take, drop, eqb, ltb, Result, Ok, Err}
 use Rattle.rules.specs.Text.Bytes.{Bytes}
-use Rattle.rules.specs.Text.Refusal.{Reply, answers, and_then, tested, lent, prepared}
+use Rattle.rules.specs.Text.Refusal.{Reply, answers, and_then, tested, lent, prepared, refusal_at}
 use Rattle.rules.specs.Text.Split.{steps_of, split_steps, step_text}
 use Rattle.rules.specs.Text.Reader.{spans_of}
 use Rattle.rules.specs.Pipeline.Record.{in_reading, with_spans}
 use Rattle.rules.specs.Pipeline.Prepare.{prepare_steps, prepare_in, prepare_as}
 use Rattle.rules.specs.declared.Mode.{Mode}
-use Rattle.rules.specs.declared.Prepared.{Prepared}
-use Rattle.rules.specs.declared.Prepared.TheVariants as prepared-is
 use Rattle.rules.specs.declared.Reading.{Reading}
 use Rattle.rules.specs.declared.Span.{Span}
 use Rattle.rules.specs.declared.Step.{Step}
@@ -22,7 +21,7 @@ abbrev pub row : Table → List Step
 row t = take t.n t.steps
 
 -- what is answered, and the table with the row as it is then: what lies past the row, and its length, stay
-unfoldable pub with_row : Table → Prepared × List Step → Preparing
+unfoldable pub with_row : Table → Result ℕ Refusal × List Step → Preparing
 with_row t x = record { answer = x.0; table = record { steps = x.1 ++ drop t.n t.steps; n = t.n } }
 
 -- a reply brought into the row
@@ -44,9 +43,9 @@ unfoldable pub first_named : Reading → ℕ → List Step → List Step
 first_named r n steps = map (in_reading r) (take n steps) ++ drop n steps
 
 -- those that an answer counts
-unfoldable pub answer_named : Reading → Prepared → Table → Preparing
-answer_named r (prepared-is.Steps n) t = record { answer = prepared-is.Steps n; table = record { steps = first_named r n t.steps; n = t.n } }
-answer_named r (prepared-is.Refused number place offset) t = record { answer = prepared-is.Refused number place offset; table = t }
+unfoldable pub answer_named : Reading → Result ℕ Refusal → Table → Preparing
+answer_named r (Ok n) t = record { answer = Ok n; table = record { steps = first_named r n t.steps; n = t.n } }
+answer_named r (Err refusal) t = record { answer = Err refusal; table = t }
 
 -- ---- a normalised text
 
@@ -69,7 +68,7 @@ offset_if number at = cond (eqb number 12) at 0
 
 -- a refusal, which leaves the table as it was
 abbrev pub refusing : ℕ → ℕ → ℕ → Table → Preparing
-refusing number place offset t = record { answer = prepared-is.Refused number place offset; table = t }
+refusing number place offset t = record { answer = refusal_at number place offset; table = t }
 
 -- the answer after n steps, by the first refusal of one of them, which is 0 where there is none, and the byte of its fault
 unfoldable pub answered : Table → List Step → ℕ → ℕ → ℕ → ℕ → Preparing
@@ -77,4 +76,4 @@ answered t steps n number place at =
     cond (ltb 64 n) (refusing 8 0 0 t)
     (cond (not (eqb number 0)) (refusing number place (offset_if number at) t)
     (cond (ltb t.n n) (refusing 7 0 0 t)
-    (record { answer = prepared-is.Steps n; table = record { steps = steps; n = t.n } })))
+    (record { answer = Ok n; table = record { steps = steps; n = t.n } })))

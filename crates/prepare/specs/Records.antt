@@ -1,6 +1,5 @@
 -- Records and refusals of one step, in the words of the code.
-use Rattle.std.specs.Prelude.{◌≡◌, ℕ, ◌+◌, ◌≤◌, Bool, cond, ◌&&◌, List, [], ◌∷◌, ◌++◌, eqb, ℤ, pos}
-use Rattle.std.proofs.Math.Option.{Option, none, some}
+use Rattle.std.specs.Prelude.{◌≡◌, ℕ, ◌+◌, ◌≤◌, Bool, cond, ◌&&◌, List, [], ◌∷◌, ◌++◌, eqb, ℤ, pos, Option, None, Some}
 use Rattle.rules.specs.Text.Ascii.{ascii}
 use Rattle.rules.specs.Text.Refusal.{Reply, answers, refuses, refuses12}
 use Rattle.rules.specs.Text.Parameters.{Parameter}
@@ -28,12 +27,12 @@ record_at operator ps l =
     step_with operator l (mark_of (given (ascii "inv") ps)) (mark_of (given (ascii "omit_fwd") ps)) (mark_of (given (ascii "omit_inv") ps))
 
 unfoldable pub recorded_at : ℕ → List Parameter → Option (List ℤ) → Option Step
-recorded_at operator ps none = none
-recorded_at operator ps (some l) = some (record_at operator ps l)
+recorded_at operator ps None = None
+recorded_at operator ps (Some l) = Some (record_at operator ps l)
 
 -- the numbers of a series, if they are whole and keep the rule of the operator of that number
 abbrev pub kept_by : ℕ → Numbers → Option (List ℤ)
-kept_by operator r = cond (r.whole && is_args (operator_of operator) (args_of r.args)) (some (args_of r.args)) none
+kept_by operator r = cond (r.whole && is_args (operator_of operator) (args_of r.args)) (Some (args_of r.args)) None
 
 -- these are the arguments
 pub record Axes (l : List ℤ) (r : Args) : Type 0 where

@@ -1,18 +1,15 @@
 -- What reading digits and series gives, in the words of the code.
-use Rattle.std.specs.Prelude.{◌≡◌, ℕ, ◌+◌, ◌-◌, ◌≤◌, Bool, true, cond, ◌&&◌, List, length, take, drop, replicate, ltb, ℤ, pos}
-use Rattle.std.proofs.Math.Option.{none, some}
+use Rattle.std.specs.Prelude.{◌≡◌, ℕ, ◌+◌, ◌-◌, ◌≤◌, Bool, true, cond, ◌&&◌, List, length, take, drop, replicate, ltb, ℤ, pos, Option, Some, None}
 use Rattle.rules.specs.Text.Lists.{is_none}
 use Rattle.rules.specs.Text.Bytes.{Bytes}
 use Rattle.rules.specs.Text.Decimal.{digits_to, spelled, pieces, series, broken_from}
 use Rattle.rules.specs.Operators.Arguments.{wholes}
-use Rattle.prepare.specs.declared.decimal.Spelled.{Spelled}
-use Rattle.prepare.specs.declared.decimal.Spelled.TheVariants.{Are, Not}
 use Rattle.prepare.specs.declared.series.Args.{Args}
 use Rattle.prepare.specs.declared.series.Numbers.{Numbers}
 
 -- the number that at most so many digits spell
-unfoldable pub spelled_to : ℕ → Bytes → Spelled
-spelled_to most t = cond (digits_to most t) (Are (spelled 0 t)) Not
+unfoldable pub spelled_to : ℕ → Bytes → Option ℕ
+spelled_to most t = cond (digits_to most t) (Some (spelled 0 t)) None
 
 -- ---- arguments
 
@@ -40,7 +37,7 @@ pub record Reads (v : Bytes) (from : ℕ) (r : Numbers) : Type 0 where
   pub at : r.number ≡ 12 → r.at ≡ from + broken_from (pieces v)
   pub good : r.number ≡ 14 → Good r.args
   pub args : r.number ≡ 14 → (rule : List ℤ → Bool)
-      → wholes rule (series v) ≡ cond (r.whole && rule (args_of r.args)) (some (args_of r.args)) none
+      → wholes rule (series v) ≡ cond (r.whole && rule (args_of r.args)) (Some (args_of r.args)) None
 
 -- no numbers at all
 abbrev pub no_numbers : Numbers

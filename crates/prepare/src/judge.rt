@@ -1,10 +1,10 @@
 // Judging one step, from its text to its record or to its lowest number of 1, 6, 9 to 14.
-ghost use Rattle.std.specs.Prelude.{◌≡◌, ◌+◌, ◌≤◌, length, take};
+ghost use Rattle.std.specs.Prelude.{◌≡◌, ◌+◌, ◌≤◌, length};
 ghost use Rattle.rules.specs.Text.Bytes.{words, joined};
 ghost use Rattle.rules.specs.Text.Normal.{normal};
 ghost use Rattle.laws_text.specs.Sizes.{weight};
-ghost use Rattle.parameters.specs.Elements.{Spelt};
-ghost use Rattle.prepare.specs.Lookup.{IsTable, placed_in};
+ghost use Rattle.parameters.specs.Tables.{front};
+ghost use Rattle.prepare.specs.Lookup.{placed_in};
 ghost use Rattle.prepare.specs.Records.{reply_is};
 ghost use Rattle.prepare.specs.StepReply.{Roomy, named_reply, placed_reply, cut_reply, text_reply, step_reply};
 
@@ -13,8 +13,8 @@ use crate::keys::name_of;
 use crate::own::{Judged, own_rule, refused};
 use crate::values::value_of;
 use normalise::normal_of;
-use parameters::words_into;
-use rules::{Mode, Name, Named};
+use parameters::{Full, Parameters, Source};
+use rules::{Mode, Name};
 use split::{Line, line_at};
 use text::{Kind, is_blank, put, run_end};
 
@@ -22,51 +22,40 @@ use text::{Kind, is_blank, put, run_end};
 const MOST: usize = 4096;
 
 // Judges the parameters of a step of that name, in a mode: the lowest of 11 to 13, then 14.
-fn judge_named(s: &[u8], row: &[usize; 128], n: usize, name: Name, mode: Mode) -> Judged
-    requires table { IsTable s.now row.now n }
-    requires s_len_bound { length s.now ≤ 4105 }
-    ensures { reply_is result ≡ named_reply mode name (placed_in s.now row.now n) }
+fn judge_named(table: &Parameters, name: Name, mode: Mode) -> Judged
+    ensures { reply_is result ≡ named_reply mode name (placed_in table.now) }
 {
-    let low = lowest_of(s, row, n, name);
+    let low = lowest_of(table, name);
     let number = low.number;
     if number < 14 {
         return refused(number, low.at);
     }
-    own_rule(s, row, n, name, mode, low)
+    own_rule(table, name, mode, low)
 }
 
 // Judges a step's parameters: 10 for a name that is none of the five, then the others.
-fn judge(s: &[u8], row: &[usize; 128], n: usize, mode: Mode) -> Judged
-    requires table { IsTable s.now row.now n }
-    requires s_len_bound { length s.now ≤ 4105 }
-    ensures { reply_is result ≡ placed_reply mode (placed_in s.now row.now n) }
+fn judge(table: &Parameters, mode: Mode) -> Judged
+    ensures { reply_is result ≡ placed_reply mode (placed_in table.now) }
 {
-    let v = value_of(s, row, n, b"_name");
-    if !v.given {
+    let Some(word) = value_of(table, b"_name") else {
         return refused(10, 0);
-    }
-    let from = v.from;
-    let to = v.to;
-    let named = name_of(&s[from..to]);
-    match named {
-        Named::Is(name) => judge_named(s, row, n, name, mode),
-        Named::Not => refused(10, 0),
+    };
+    match name_of(word) {
+        Some(name) => judge_named(table, name, mode),
+        None => refused(10, 0),
     }
 }
 
-// Judges the first n bytes of s, a step's text as it is cut into parameters, its words one space apart: 9, then its parameters.
-fn judge_cut(s: &[u8], n: usize, mode: Mode) -> Judged
-    requires spelt { Spelt s.now n }
-    requires s_len_bound { length s.now ≤ 4105 }
-    requires s_value { take n s.now ≡ joined (words (take n s.now)) }
-    ensures { reply_is result ≡ cut_reply mode (words (take n s.now)) }
+// Judges a step's text as it is cut into parameters, its words one space apart: 9, then its parameters.
+fn judge_cut(source: Source, mode: Mode) -> Judged
+    requires { front source ≡ joined (words (front source)) }
+    ensures { reply_is result ≡ cut_reply mode (words (front source.entry)) }
 {
-    let mut row = [0; 128];
-    let t = words_into(s, n, &mut row);
-    if t.full {
-        return refused(9, 0);
+    let mut table = Parameters::new(source);
+    match table.enter_cut() {
+        Ok(()) => judge(&table, mode),
+        Err(Full) => refused(9, 0),
     }
-    judge(s, &row, t.n, mode)
 }
 
 // Judges a normalised step: 10 for a text with a separator, which is no name; 6 for modifiers alone. What is left is written out as it is
@@ -89,7 +78,7 @@ fn judge_text(s: &[u8], mode: Mode, b: &mut [u8]) -> Judged
     };
     let n = end - 1;
     let m = put(b"_nametrue", b, n);
-    judge_cut(&b[..m], n, mode)
+    judge_cut(Source { s: &b[..m], n: n }, mode)
 }
 
 // Judges a step's text, which is "normalised again when cut into parameters"; a and b are room to work in.

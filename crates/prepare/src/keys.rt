@@ -4,52 +4,52 @@ ghost use Rattle.rules.specs.Operators.Keys.{kind_in};
 ghost use Rattle.rules.specs.Operators.Table.{name_of};
 ghost use Rattle.rules.specs.Pipeline.Keys.{every_key, own_keys};
 
-use rules::{Kind, Name, Named};
+use rules::{Kind, Name};
 use text::is_same;
 
 // "one of the five", or not
-pub fn name_of(word: &[u8]) -> Named
+pub fn name_of(word: &[u8]) -> Option<Name>
     ensures { result ≡ name_of word.now }
 {
     if is_same(word, b"push") {
-        return Named::Is(Name::Push);
+        return Some(Name::Push);
     }
     if is_same(word, b"pop") {
-        return Named::Is(Name::Pop);
+        return Some(Name::Pop);
     }
     if is_same(word, b"stack") {
-        return Named::Is(Name::Stack);
+        return Some(Name::Stack);
     }
     if is_same(word, b"axisswap") {
-        return Named::Is(Name::Axisswap);
+        return Some(Name::Axisswap);
     }
     if is_same(word, b"adapt") {
-        return Named::Is(Name::Adapt);
+        return Some(Name::Adapt);
     }
-    Named::Not
+    None
 }
 
 // The name, and "Every operator also takes `inv`, `omit_fwd`, `omit_inv`."
-fn every_kind(key: &[u8]) -> Kind
+fn every_kind(key: &[u8]) -> Option<Kind>
     ensures { result ≡ kind_in every_key key.now }
 {
     if is_same(key, b"_name") {
-        return Kind::Word;
+        return Some(Kind::Word);
     }
     if is_same(key, b"inv") {
-        return Kind::Flag;
+        return Some(Kind::Flag);
     }
     if is_same(key, b"omit_fwd") {
-        return Kind::Flag;
+        return Some(Kind::Flag);
     }
     if is_same(key, b"omit_inv") {
-        return Kind::Flag;
+        return Some(Kind::Flag);
     }
-    Kind::Lacking
+    None
 }
 
 // What a key of its own takes.
-fn own_kind(name: Name, key: &[u8]) -> Kind
+fn own_kind(name: Name, key: &[u8]) -> Option<Kind>
     ensures { result ≡ kind_in (own_keys name) key.now }
 {
     match name {
@@ -62,14 +62,11 @@ fn own_kind(name: Name, key: &[u8]) -> Kind
 }
 
 // What a key takes, if the operator has it.
-pub fn kind_of(name: Name, key: &[u8]) -> Kind
+pub fn kind_of(name: Name, key: &[u8]) -> Option<Kind>
     ensures { result ≡ kind_in (every_key ++ own_keys name) key.now }
 {
-    let every = every_kind(key);
-    match every {
-        Kind::Flag => Kind::Flag,
-        Kind::Series => Kind::Series,
-        Kind::Word => Kind::Word,
-        Kind::Lacking => own_kind(name, key),
+    match every_kind(key) {
+        Some(kind) => Some(kind),
+        None => own_kind(name, key),
     }
 }

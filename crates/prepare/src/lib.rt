@@ -18,9 +18,9 @@ use crate::judge::prepare_step;
 use normalise::clean_into;
 use reader::next_from;
 use record::{in_reading, spanned};
-use rules::{Found, Mode, Prepared, Reading, Step, Table};
+use rules::{Found, Mode, Reading, Refusal, Step, Table};
 use split::{Line, line_at};
-use text::first_refusal;
+use text::tested;
 
 // A text of so few bytes, ten times as long, has room in 1,024, in 4,096, or in 16,384, and one to spare.
 const FEW: usize = 102;
@@ -32,7 +32,7 @@ const MORE: usize = 1638;
 // What preparing answers, and the table afterwards. The row that is lent are the first `table.n` records.
 #[derive(Clone, Copy, Drop)]
 pub struct Preparing {
-    pub answer: Prepared,
+    pub answer: Result<usize, Refusal>,
     pub table: Table,
 }
 
@@ -41,11 +41,11 @@ fn refusing(number: u8, place: usize, offset: usize, table: Table) -> Preparing
     ensures { result ≡ refusing number place offset table }
 {
     Preparing {
-        answer: Prepared::Refused {
-            number: number,
-            place: place,
-            offset: offset,
-        },
+        answer: Err(Refusal {
+            number,
+            place,
+            offset,
+        }),
         table: table,
     }
 }
@@ -82,7 +82,7 @@ fn answer_of(
         return refusing(7, 0, 0, table);
     }
     Preparing {
-        answer: Prepared::Steps(n),
+        answer: Ok(n),
         table: Table {
             steps: steps,
             n: table.n,
@@ -116,7 +116,7 @@ fn prepare_steps(
     let mut fault = 0;
     loop {
         let found = next_from(normal, at);
-        let Found::Step { from, to, then } = found else {
+        let Some(Found { from, to, then }) = found else {
             break;
         };
         let i = n;
@@ -166,56 +166,20 @@ fn answer(
     prepare_steps(&a[..n], mode, table, b, d, c)
 }
 
-// The same over buffers of its own, for a text of a few steps, for a short one, for a longer one and for any.
-fn brief(text: &[u8], mode: Mode, table: Table) -> Preparing
-    requires text_len_bound { length text.now ≤ 102 }
-    requires text_value { in_domain text.now ≡ true }
-    requires steps_len { length table.steps ≡ 64 }
-    ensures { result ≡ preparing mode text.now table }
-{
-    let mut a = [0u8; 1024];
-    let mut b = [0u8; 1024];
-    let mut c = [0u8; 1024];
-    let mut d = [0u8; 1033];
-    answer(text, mode, table, &mut a, &mut b, &mut c, &mut d)
-}
-
-fn short(text: &[u8], mode: Mode, table: Table) -> Preparing
-    requires text_len_bound { length text.now ≤ 409 }
-    requires text_value { in_domain text.now ≡ true }
-    requires steps_len { length table.steps ≡ 64 }
-    ensures { result ≡ preparing mode text.now table }
-{
-    let mut a = [0u8; 4096];
-    let mut b = [0u8; 4096];
-    let mut c = [0u8; 4096];
-    let mut d = [0u8; 4105];
-    answer(text, mode, table, &mut a, &mut b, &mut c, &mut d)
-}
-
-fn longer(text: &[u8], mode: Mode, table: Table) -> Preparing
-    requires text_len_bound { length text.now ≤ 1638 }
-    requires text_value { in_domain text.now ≡ true }
-    requires steps_len { length table.steps ≡ 64 }
-    ensures { result ≡ preparing mode text.now table }
-{
-    let mut a = [0u8; 16384];
-    let mut b = [0u8; 16384];
-    let mut c = [0u8; 16384];
-    let mut d = [0u8; 4105];
-    answer(text, mode, table, &mut a, &mut b, &mut c, &mut d)
-}
-
-fn long(text: &[u8], mode: Mode, table: Table) -> Preparing
+// The same over buffers of its own, of N bytes and of D: for a short text to clear large ones would cost more than the rest.
+fn within<const N: usize, const D: usize>(text: &[u8], mode: Mode, table: Table) -> Preparing
     requires text_len_bound { length text.now ≤ 4096 }
     requires text_value { in_domain text.now ≡ true }
     requires steps_len { length table.steps ≡ 64 }
+    requires text_in_bounds { 10 * length text.now < N }
+    requires text_in_bounds_2 { min (10 * length text.now) 4096 + 9 ≤ D }
+    requires few { (N ≤ 40961) × (D ≤ 4105) }
     ensures { result ≡ preparing mode text.now table }
 {
-    let mut a = [0u8; 40960];
-    let mut b = [0u8; 40960];
-    let mut c = [0u8; 40961];
-    let mut d = [0u8; 4105];
+    let mut a = [0u8; N];
+    let mut b = [0u8; N];
+    let mut c = [0u8; N];
+    let mut d = [0u8; D];
     answer(text, mode, table, &mut a, &mut b, &mut c, &mut d)
 }
 
@@ -224,35 +188,33 @@ fn long(text: &[u8], mode: Mode, table: Table) -> Preparing
 fn prepare_in(text: &[u8], mode: Mode, table: Table) -> Preparing
     ensures { result ≡ preparing mode text.now table }
 {
-    let number = first_refusal(text);
-    if number != 0 {
-        return refusing(number, 0, 0, table);
+    if let Err(refusal) = tested(text) {
+        return Preparing {
+            answer: Err(refusal),
+            table,
+        };
     }
     if text.len() <= FEW {
-        return brief(text, mode, table);
+        return within::<1024, 1033>(text, mode, table);
     }
     if text.len() <= SOME {
-        return short(text, mode, table);
+        return within::<4096, 4105>(text, mode, table);
     }
     if text.len() <= MORE {
-        return longer(text, mode, table);
+        return within::<16384, 4105>(text, mode, table);
     }
-    long(text, mode, table)
+    within::<40961, 4105>(text, mode, table)
 }
 
 // The first n of 64 records in a reading, and the others as they are.
-fn named(steps: [Step; 64], n: usize, reading: Reading) -> [Step; 64]
+fn named(mut steps: [Step; 64], n: usize, reading: Reading) -> [Step; 64]
     requires { n ≤ length steps }
     ensures { result ≡ first_named reading n steps }
 {
-    let mut l = steps;
-    let mut i = 0;
-    while i < n {
-        let s = l[i];
-        l[i] = in_reading(s, reading);
-        i += 1;
+    for i in 0..n {
+        steps[i] = in_reading(steps[i], reading);
     }
-    l
+    steps
 }
 
 // The same in a reading and a mode: the records of an answer name the reading.
@@ -263,7 +225,7 @@ pub fn prepare_as(text: &[u8], reading: Reading, mode: Mode, table: Table) -> Pr
     let answer = p.answer;
     let made = p.table;
     match answer {
-        Prepared::Steps(n) => {
+        Ok(n) => {
             let steps = made.steps;
             Preparing {
                 answer: answer,
@@ -273,10 +235,6 @@ pub fn prepare_as(text: &[u8], reading: Reading, mode: Mode, table: Table) -> Pr
                 },
             }
         }
-        Prepared::Refused {
-            number,
-            place,
-            offset,
-        } => refusing(number, place, offset, made),
+        Err(_) => p,
     }
 }

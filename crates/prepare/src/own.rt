@@ -8,8 +8,8 @@ ghost use Rattle.rules.specs.Pipeline.Prepare.{own_rule, judged14};
 ghost use Rattle.rules.specs.declared.Mode.{Mode};
 ghost use Rattle.rules.specs.declared.Name.TheVariants as name;
 ghost use Rattle.adapt.specs.Words.{IsRead};
-ghost use Rattle.prepare.specs.Lookup.{IsTable, params_in, given};
-ghost use Rattle.prepare.specs.SeriesRead.{args_of, Good};
+ghost use Rattle.prepare.specs.Lookup.{params_in, given};
+ghost use Rattle.prepare.specs.SeriesRead.{args_of, Good, no_numbers};
 ghost use Rattle.prepare.specs.Faults.{Lowers};
 ghost use Rattle.prepare.specs.Records.{reply_is, refused_at, record_at, recorded_at, kept_by, Axes, Extended, Flagged, four_axes};
 ghost use Rattle.prepare.specs.Actions.{key_at, Chosen};
@@ -18,6 +18,7 @@ use crate::faults::Lowest;
 use crate::series::{Args, Numbers};
 use crate::values::{is_given, value_of};
 use adapt::{Word, between, operator_in, word_of};
+use parameters::Parameters;
 use record::{blank, is_args, step_of};
 use rules::{
     AXISSWAP, Mode, Name, POP, PUSH, STACK_DROP, STACK_FLIP, STACK_POP, STACK_PUSH, STACK_ROLL,
@@ -48,14 +49,13 @@ pub fn refused(number: u8, at: usize) -> Judged
 // ---- records
 
 // The record with the operator of that number and these arguments; the marks are the parameters'.
-fn recorded(s: &[u8], row: &[usize; 128], n: usize, operator: u8, a: Args) -> Judged
-    requires table { IsTable s.now row.now n }
+fn recorded(table: &Parameters, operator: u8, a: Args) -> Judged
     requires good { Good a }
-    ensures { reply_is result ≡ answers (record_at operator (params_in s.now row.now n) (args_of a)) }
+    ensures { reply_is result ≡ answers (record_at operator (params_in table.now) (args_of a)) }
 {
-    let inv = is_given(s, row, n, b"inv");
-    let omit_fwd = is_given(s, row, n, b"omit_fwd");
-    let omit_inv = is_given(s, row, n, b"omit_inv");
+    let inv = is_given(table, b"inv");
+    let omit_fwd = is_given(table, b"omit_fwd");
+    let omit_inv = is_given(table, b"omit_inv");
     let list = a.list;
     Judged {
         number: 0,
@@ -65,10 +65,9 @@ fn recorded(s: &[u8], row: &[usize; 128], n: usize, operator: u8, a: Args) -> Ju
 }
 
 // The record with the numbers of a series, if they are whole and keep the operator's rule; else 14.
-fn own_series(s: &[u8], row: &[usize; 128], n: usize, operator: u8, numbers: Numbers) -> Judged
-    requires table { IsTable s.now row.now n }
+fn own_series(table: &Parameters, operator: u8, numbers: Numbers) -> Judged
     requires good { Good numbers.args }
-    ensures { reply_is result ≡ judged14 (recorded_at operator (params_in s.now row.now n) (kept_by operator numbers)) }
+    ensures { reply_is result ≡ judged14 (recorded_at operator (params_in table.now) (kept_by operator numbers)) }
 {
     if !numbers.whole {
         return refused(14, 0);
@@ -79,7 +78,7 @@ fn own_series(s: &[u8], row: &[usize; 128], n: usize, operator: u8, numbers: Num
     if !is_args(operator, &l[..m]) {
         return refused(14, 0);
     }
-    recorded(s, row, n, operator, a)
+    recorded(table, operator, a)
 }
 
 // ---- push and pop
@@ -97,38 +96,47 @@ fn extended(a: Args, axis: i32) -> Args
     requires n_bound { a.n < 8 }
     ensures { Extended a axis result }
 {
-    let n = a.n;
-    let mut b = a;
-    b.list[n] = axis;
-    b.n = n + 1;
-    b
+    let mut more = a;
+    more.list[a.n] = axis;
+    more.n += 1;
+    more
 }
 
 // The arguments, and the axis behind them if its flag is given.
-fn with_flag(s: &[u8], row: &[usize; 128], n: usize, a: Args, key: &[u8], axis: i32) -> Args
-    requires table { IsTable s.now row.now n }
+fn with_flag(table: &Parameters, a: Args, key: &[u8], axis: i32) -> Args
     requires good { Good a }
     requires n_bound { a.n < 8 }
-    ensures { Flagged a (given key.now (params_in s.now row.now n)) axis result }
+    ensures { Flagged a (given key.now (params_in table.now)) axis result }
 {
-    if is_given(s, row, n, key) {
+    if is_given(table, key) {
         return extended(a, axis);
     }
     a
 }
 
 // "flags in order 1 to 4, possibly none"
-fn axes_of(s: &[u8], row: &[usize; 128], n: usize) -> Args
-    requires { IsTable s.now row.now n }
-    ensures { Axes (axes (params_in s.now row.now n)) result }
+fn axes_of(table: &Parameters) -> Args
+    ensures { Axes (axes (params_in table.now)) result }
 {
-    let a = with_flag(s, row, n, nothing(), b"v_1", 1);
-    let b = with_flag(s, row, n, a, b"v_2", 2);
-    let c = with_flag(s, row, n, b, b"v_3", 3);
-    with_flag(s, row, n, c, b"v_4", 4)
+    let a = with_flag(table, nothing(), b"v_1", 1);
+    let b = with_flag(table, a, b"v_2", 2);
+    let c = with_flag(table, b, b"v_3", 3);
+    with_flag(table, c, b"v_4", 4)
 }
 
 // ---- stack
+
+// A series of no numbers: that of an action without one.
+fn no_numbers() -> Numbers
+    ensures { result ≡ no_numbers }
+{
+    Numbers {
+        number: 14,
+        at: 0,
+        whole: true,
+        args: Args { list: [0; 8], n: 0 },
+    }
+}
 
 // Which actions are given: none, the one of an operator, or more than one.
 #[derive(Clone, Copy, Drop)]
@@ -139,21 +147,13 @@ enum Choice {
 }
 
 // The choice with one action more, whose key this is, if it is given.
-fn with_action(
-    s: &[u8],
-    row: &[usize; 128],
-    n: usize,
-    c: Choice,
-    key: &[u8],
-    operator: u8,
-) -> Choice
-    requires table { IsTable s.now row.now n }
+fn with_action(table: &Parameters, c: Choice, key: &[u8], operator: u8) -> Choice
     requires le_operator { (2 ≤ operator) × (operator ≤ 8) }
     requires key_value { key.now ≡ key_at (operator - 2) }
-    requires chosen { Chosen (params_in s.now row.now n) (operator - 2) c }
-    ensures { Chosen (params_in s.now row.now n) (operator - 1) result }
+    requires chosen { Chosen (params_in table.now) (operator - 2) c }
+    ensures { Chosen (params_in table.now) (operator - 1) result }
 {
-    if !is_given(s, row, n, key) {
+    if !is_given(table, key) {
         return c;
     }
     match c {
@@ -164,31 +164,28 @@ fn with_action(
 }
 
 // "the seven stack actions"
-fn action_of(s: &[u8], row: &[usize; 128], n: usize) -> Choice
-    requires { IsTable s.now row.now n }
-    ensures { Chosen (params_in s.now row.now n) 7 result }
+fn action_of(table: &Parameters) -> Choice
+    ensures { Chosen (params_in table.now) 7 result }
 {
-    let a = with_action(s, row, n, Choice::None, b"push", STACK_PUSH);
-    let b = with_action(s, row, n, a, b"pop", STACK_POP);
-    let c = with_action(s, row, n, b, b"flip", STACK_FLIP);
-    let d = with_action(s, row, n, c, b"roll", STACK_ROLL);
-    let e = with_action(s, row, n, d, b"unroll", STACK_UNROLL);
-    let f = with_action(s, row, n, e, b"swap", STACK_SWAP);
-    with_action(s, row, n, f, b"drop", STACK_DROP)
+    let a = with_action(table, Choice::None, b"push", STACK_PUSH);
+    let b = with_action(table, a, b"pop", STACK_POP);
+    let c = with_action(table, b, b"flip", STACK_FLIP);
+    let d = with_action(table, c, b"roll", STACK_ROLL);
+    let e = with_action(table, d, b"unroll", STACK_UNROLL);
+    let f = with_action(table, e, b"swap", STACK_SWAP);
+    with_action(table, f, b"drop", STACK_DROP)
 }
 
 // "exactly one action": the series is its own; swap and drop have none. The same in every mode.
-fn own_stack(s: &[u8], row: &[usize; 128], n: usize, low: Lowest) -> Judged
-    requires table { IsTable s.now row.now n }
-    requires lowers { Lowers name.Stack (params_in s.now row.now n) low }
+fn own_stack(table: &Parameters, low: Lowest) -> Judged
+    requires lowers { Lowers name.Stack (params_in table.now) low }
     requires number_value { low.number ≡ 14 }
-    ensures { (m : Mode) → reply_is result ≡ judged14 (own_rule m name.Stack (params_in s.now row.now n)) }
+    ensures { (m : Mode) → reply_is result ≡ judged14 (own_rule m name.Stack (params_in table.now)) }
 {
-    let numbers = low.numbers;
-    let choice = action_of(s, row, n);
-    match choice {
+    let numbers = low.series.unwrap_or(no_numbers());
+    match action_of(table) {
         Choice::None => refused(14, 0),
-        Choice::One(operator) => own_series(s, row, n, operator, numbers),
+        Choice::One(operator) => own_series(table, operator, numbers),
         Choice::More => refused(14, 0),
     }
 }
@@ -206,42 +203,35 @@ fn all_axes() -> Args
 }
 
 // Its order is the one series that it can have. The same in every mode.
-fn own_order(s: &[u8], row: &[usize; 128], n: usize, low: Lowest) -> Judged
-    requires table { IsTable s.now row.now n }
-    requires lowers { Lowers name.Axisswap (params_in s.now row.now n) low }
+fn own_order(table: &Parameters, low: Lowest) -> Judged
+    requires lowers { Lowers name.Axisswap (params_in table.now) low }
     requires number_value { low.number ≡ 14 }
-    ensures { (m : Mode) → reply_is result ≡ judged14 (own_rule m name.Axisswap (params_in s.now row.now n)) }
+    ensures { (m : Mode) → reply_is result ≡ judged14 (own_rule m name.Axisswap (params_in table.now)) }
 {
-    if low.found {
-        let numbers = low.numbers;
-        return own_series(s, row, n, AXISSWAP, numbers);
+    match low.series {
+        Some(numbers) => own_series(table, AXISSWAP, numbers),
+        None => recorded(table, AXISSWAP, all_axes()),
     }
-    recorded(s, row, n, AXISSWAP, all_axes())
 }
 
 // ---- adapt
 
 // A word that is not given is `enuf`.
-fn word_given(s: &[u8], row: &[usize; 128], n: usize, key: &[u8]) -> Word
-    requires { IsTable s.now row.now n }
-    ensures { IsRead (word_given (value_of key.now (params_in s.now row.now n))) result }
+fn word_given(table: &Parameters, key: &[u8]) -> Word
+    ensures { IsRead (word_given (value_of key.now (params_in table.now))) result }
 {
-    let v = value_of(s, row, n, key);
-    let from = v.from;
-    let to = v.to;
-    if v.given {
-        return word_of(&s[from..to]);
+    match value_of(table, key) {
+        Some(value) => word_of(value),
+        None => word_of(b"enuf"),
     }
-    word_of(b"enuf")
 }
 
 // The operator, and what the two words make between them, are those of the mode.
-fn own_adapt(s: &[u8], row: &[usize; 128], n: usize, mode: Mode) -> Judged
-    requires { IsTable s.now row.now n }
-    ensures { reply_is result ≡ judged14 (own_rule mode name.Adapt (params_in s.now row.now n)) }
+fn own_adapt(table: &Parameters, mode: Mode) -> Judged
+    ensures { reply_is result ≡ judged14 (own_rule mode name.Adapt (params_in table.now)) }
 {
-    let from = word_given(s, row, n, b"from");
-    let to = word_given(s, row, n, b"to");
+    let from = word_given(table, b"from");
+    let to = word_given(table, b"to");
     if !from.is {
         return refused(14, 0);
     }
@@ -249,29 +239,21 @@ fn own_adapt(s: &[u8], row: &[usize; 128], n: usize, mode: Mode) -> Judged
         return refused(14, 0);
     }
     let list = between(from, to, mode);
-    recorded(s, row, n, operator_in(mode), Args { list: list, n: 8 })
+    recorded(table, operator_in(mode), Args { list: list, n: 8 })
 }
 
 // ---- any of them
 
-pub fn own_rule(
-    s: &[u8],
-    row: &[usize; 128],
-    n: usize,
-    name: Name,
-    mode: Mode,
-    low: Lowest,
-) -> Judged
-    requires table { IsTable s.now row.now n }
-    requires lowers { Lowers name (params_in s.now row.now n) low }
+pub fn own_rule(table: &Parameters, name: Name, mode: Mode, low: Lowest) -> Judged
+    requires lowers { Lowers name (params_in table.now) low }
     requires number_value { low.number ≡ 14 }
-    ensures { reply_is result ≡ judged14 (own_rule mode name (params_in s.now row.now n)) }
+    ensures { reply_is result ≡ judged14 (own_rule mode name (params_in table.now)) }
 {
     match name {
-        Name::Push => recorded(s, row, n, PUSH, axes_of(s, row, n)),
-        Name::Pop => recorded(s, row, n, POP, axes_of(s, row, n)),
-        Name::Stack => own_stack(s, row, n, low),
-        Name::Axisswap => own_order(s, row, n, low),
-        Name::Adapt => own_adapt(s, row, n, mode),
+        Name::Push => recorded(table, PUSH, axes_of(table)),
+        Name::Pop => recorded(table, POP, axes_of(table)),
+        Name::Stack => own_stack(table, low),
+        Name::Axisswap => own_order(table, low),
+        Name::Adapt => own_adapt(table, mode),
     }
 }

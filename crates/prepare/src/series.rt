@@ -4,9 +4,9 @@ ghost use Rattle.prepare.specs.SeriesRead.{Reads};
 
 use crate::decimal::{byte_end, decimal};
 use numbers::signed;
-use rules::Number;
 
 // Arguments: the first n of eight slots, with zeros behind them.
+// Stays: there is no heap, and a record's arguments are of fixed size.
 #[derive(Clone, Copy, Drop)]
 pub struct Args {
     pub list: [i32; 8],
@@ -33,10 +33,11 @@ pub fn series(value: &[u8], from: usize) -> Numbers
     let mut whole = true;
     let mut n = 0;
     let mut at = 0;
+    // Stays: the byte at which an element begins is told, and with an iterator over the elements it would be counted by hand all the same.
     while at <= value.len() {
-        let e = byte_end(44, value, at);
+        let e = byte_end(b',', value, at);
         let number = decimal(&value[at..e]);
-        let Number::Is(d) = number else {
+        let Some(d) = number else {
             return Numbers {
                 number: 12,
                 at: from + at,

@@ -7,34 +7,41 @@ use Prim.Native.Nat.{ℕ, suc, ◌+◌, ◌-◌, ◌*◌, ◌≤◌}
 use native.Mathlib.Omega.{arith}
 use lib.ListN.{length, take, drop}
 use lib.Dec.{eqb, ltb}
-use Rattle.rules.specs.Text.Lists.{kept, non_empty}
+use Rattle.rules.specs.Text.Lists.{any_of, kept, non_empty}
 use Rattle.rules.specs.Text.Bytes.{Bytes, Words, Steps, words}
-use Rattle.rules.specs.Proj.Words.{exchanged}
 use Rattle.rules.specs.Proj.Translate.{Pipeline, step_of, is_written}
-use Rattle.rules.specs.Text.Reader.{part}
-use Rattle.text.proofs.RunEnd.{length_part}
 use Rattle.laws_proj.specs.Step.{Global}
 use Rattle.laws_proj.specs.Bounds.{step-length}
 use Rattle.laws_proj.specs.Ordering.{side, side_left, side_right, side-assoc, side-length, whole, rest_of, bar_text, gap_text, part_text, state_after, rest-next, rest-none}
-use Rattle.proj_words.specs.Cuts.{steps_from, IsStep}
-use Rattle.proj_words.specs.Heads.{IsHead}
+use Rattle.proj_words.specs.Cuts.{steps_from}
+use Rattle.proj_words.specs.Steps.{Took}
+use Rattle.proj_words.specs.Heads.{coming, IsHead}
 use Rattle.proj_words.specs.Facts.{IsMarks}
 use Rattle.proj_words.specs.declared.exchange.Head.{Head}
 use Rattle.proj_words.specs.declared.exchange.Marks.{Marks}
-use Rattle.proj_steps.specs.Plans.{pipeline_of}
-use Rattle.proj.specs.Places.{place_of, Spot, Puts, Parted, texts_of, Ready, Laid}
+use Rattle.proj_steps.specs.Pipelines.{pipeline_of}
+use Rattle.proj.specs.Places.{number_of, place_of, Spot, Puts, Parted, texts_of, Ready, Laid}
 use Rattle.proj.specs.declared.layout.Put.{Put}
 use Rattle.proj.proofs.Puts.{spot-length, spot-then, puts-as, puts-both, puts-nothing}
 
 -- ---- is it written?
 
-pub written-pipeline : {s : Bytes} {h : Head} → IsHead s h → h.pipeline ≡ true → false ≡ is_written (words s)
-unfolding is_written
-written-pipeline {s} {h} m e = sym (rw (sym m.pipeline ∙ e))
+module _ {ws : Words} {h : Head} (m : IsHead ws h) where
+  pub written-pipeline : h.pipeline ≡ true → false ≡ is_written ws
+  unfolding is_written
+  written-pipeline e = sym (rw (sym m.pipeline ∙ e))
 
-pub written-some : {s : Bytes} {h : Head} {k : Marks} → IsHead s h → h.pipeline ≡ false → IsMarks (exchanged (words s)) k → k.some ≡ is_written (words s)
-unfolding is_written
-written-some {s} {h} {k} m e i = i.some ∙ sym (rw (sym m.pipeline ∙ e))
+  pub written-some : h.pipeline ≡ false → {k : Marks} → IsMarks (coming h.words) k → k.some ≡ is_written ws
+  unfolding is_written
+  written-some e i = i.some ∙ ap (any_of non_empty) m.words ∙ sym (rw (sym m.pipeline ∙ e))
+
+-- ---- what the walk over the steps gives, of the text that it goes over
+
+pub took-as : {m n : Bytes} {k then : ℕ} {t : Bytes} → m ≡ n → Took m k then t → Took n k then t
+took-as {m} {n} {k} {then} {t} e s = subst (λ (x : Bytes). Took x k then t) e s
+
+pub ended-as : {m n : Bytes} (k : ℕ) → m ≡ n → steps_from m k ≡ [] → steps_from n k ≡ []
+ended-as {m} {n} k e h = subst (λ (x : Bytes). steps_from x k ≡ []) e h
 
 -- ---- a part of the answer
 
@@ -196,57 +203,57 @@ module _ {n g : Bytes} {inverted write back : Bool} {total : ℕ} {dst₀ : Byte
       let texts = ap (rest_of back state (ltb 0 o)) (texts-none (pipeline_of g inverted)) in
       sided-end (sided-as (steps ∙ texts ∙ rest-none back state (ltb 0 o)) i.sided)
 
-  module _ {from to then : ℕ} (s : IsStep n k from to then) where
+  module _ {t : Bytes} {then : ℕ} (s : Took n k then t) where
     -- a step that is not written
-    pub laying-skip : is_written (words (part from to n)) ≡ false → Laying n g inverted write back total dst₀ o state then dst
+    pub laying-skip : is_written (words t) ≡ false → Laying n g inverted write back total dst₀ o state then dst
     laying-skip e = record {
-      within = s.ends;
+      within = s.within;
       n-small = i.n-small;
       g-small = i.g-small;
       global = i.global;
       first = i.first;
       few = omega (arith, i.few, s.further);
       sided =
-          sided-as (ap (rest_of back state (ltb 0 o)) (ap (texts_of (pipeline_of g inverted)) s.here ∙ texts-skip (pipeline_of g inverted) (words (part from to n)) (steps_from n then) e)) i.sided;
+          sided-as (ap (rest_of back state (ltb 0 o)) (ap (texts_of (pipeline_of g inverted)) s.here ∙ texts-skip (pipeline_of g inverted) (words t) (steps_from n then) e)) i.sided;
     }
 
-    pub laying-small : length (step_of (pipeline_of g inverted) (words (part from to n))) ≤ 262140
-    laying-small = omega (arith, step-length (pipeline_of g inverted) (part from to n) i.global, length_part n from to s.ahead s.within, s.within, i.n-small, i.g-small)
+    pub laying-small : length (step_of (pipeline_of g inverted) (words t)) ≤ 262140
+    laying-small = omega (arith, step-length (pipeline_of g inverted) t i.global, s.short, i.n-small, i.g-small)
 
     -- one that is
-    module _ (e : is_written (words (part from to n)) ≡ true) where
+    module _ (e : is_written (words t) ≡ true) where
       here-sided : Sided write back total (whole back (texts_of (pipeline_of g inverted) (steps_from n 0)))
-          (side back (part_text back state (ltb 0 o) (step_of (pipeline_of g inverted) (words (part from to n))))
-          (rest_of back (state_after state (step_of (pipeline_of g inverted) (words (part from to n))))
-          (ltb 0 (o + length (part_text back state (ltb 0 o) (step_of (pipeline_of g inverted) (words (part from to n))))))
+          (side back (part_text back state (ltb 0 o) (step_of (pipeline_of g inverted) (words t)))
+          (rest_of back (state_after state (step_of (pipeline_of g inverted) (words t)))
+          (ltb 0 (o + length (part_text back state (ltb 0 o) (step_of (pipeline_of g inverted) (words t)))))
           (texts_of (pipeline_of g inverted) (steps_from n then)))) dst₀ o dst
       here-sided =
           sided-as
-          (ap (rest_of back state (ltb 0 o)) (ap (texts_of (pipeline_of g inverted)) s.here ∙ texts-more (pipeline_of g inverted) (words (part from to n)) (steps_from n then) e)
-          ∙ rest-next back state o (step_of (pipeline_of g inverted) (words (part from to n))) (texts_of (pipeline_of g inverted) (steps_from n then)) i.first) i.sided
+          (ap (rest_of back state (ltb 0 o)) (ap (texts_of (pipeline_of g inverted)) s.here ∙ texts-more (pipeline_of g inverted) (words t) (steps_from n then) e)
+          ∙ rest-next back state o (step_of (pipeline_of g inverted) (words t)) (texts_of (pipeline_of g inverted) (steps_from n then)) i.first) i.sided
 
-      small : o + length (part_text back state (ltb 0 o) (step_of (pipeline_of g inverted) (words (part from to n)))) ≤ 262144 * k + 262144
-      small = omega (arith, i.few, laying-small, part-text-length back state (ltb 0 o) (step_of (pipeline_of g inverted) (words (part from to n))))
+      small : o + length (part_text back state (ltb 0 o) (step_of (pipeline_of g inverted) (words t))) ≤ 262144 * k + 262144
+      small = omega (arith, i.few, laying-small, part-text-length back state (ltb 0 o) (step_of (pipeline_of g inverted) (words t)))
 
-      fits_all : o + length (part_text back state (ltb 0 o) (step_of (pipeline_of g inverted) (words (part from to n)))) ≤ 1099511627776
+      fits_all : o + length (part_text back state (ltb 0 o) (step_of (pipeline_of g inverted) (words t))) ≤ 1099511627776
       fits_all = omega (arith, small, i.within, i.n-small)
 
-      pub laying-spot : Spot write back total (part_text back state (ltb 0 o) (step_of (pipeline_of g inverted) (words (part from to n)))) o dst
+      pub laying-spot : Spot write back total (part_text back state (ltb 0 o) (step_of (pipeline_of g inverted) (words t))) o dst
       laying-spot = sided-spot _ _ here-sided fits_all
 
-      pub laying-next : {r : Put} {dst' : Bytes} → Parted write back total state (step_of (pipeline_of g inverted) (words (part from to n))) dst o r dst'
-          → Laying n g inverted write back total dst₀ r.o r.state then dst'
+      pub laying-next : {r : Put} {dst' : Bytes} → Parted write back total state (step_of (pipeline_of g inverted) (words t)) dst o r dst'
+          → Laying n g inverted write back total dst₀ r.o (number_of r.last) then dst'
       laying-next {r} {dst'} p = record {
-        within = s.ends;
+        within = s.within;
         n-small = i.n-small;
         g-small = i.g-small;
         global = i.global;
-        first = λ z. absurd (after-some state (step_of (pipeline_of g inverted) (words (part from to n))) (sym p.state-is ∙ z));
+        first = λ z. absurd (after-some state (step_of (pipeline_of g inverted) (words t)) (sym p.state-is ∙ z));
         few = omega (arith, small, p.puts.count, s.further);
         sided =
             sided-as
             (ap
-            (λ (m : ℕ). rest_of back (state_after state (step_of (pipeline_of g inverted) (words (part from to n)))) (ltb 0 m) (texts_of (pipeline_of g inverted) (steps_from n then)))
+            (λ (m : ℕ). rest_of back (state_after state (step_of (pipeline_of g inverted) (words t))) (ltb 0 m) (texts_of (pipeline_of g inverted) (steps_from n then)))
             (sym p.puts.count)
             ∙ ap (λ (m : ℕ). rest_of back m (ltb 0 r.o) (texts_of (pipeline_of g inverted) (steps_from n then))) (sym p.state-is))
             (sided-next _ _ here-sided fits_all p.puts);

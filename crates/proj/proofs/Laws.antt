@@ -1,21 +1,20 @@
 -- `translate` on its way: each text has room, a text that is no PROJ text is known, and each return is the one that the promise names.
+use Rattle.rules.specs.declared.Refusal.{Refusal}
+use Rattle.std.specs.Prelude.{Result, Ok}
 use mathlib.Core.Path.{◌≡◌, refl, sym, ap, ◌∙◌, subst}
 use mathlib.Core.Bool.{Bool, true, false, cond, not, ◌&&◌, ◌||◌, false≢true}
 use mathlib.Core.List.{[], ◌∷◌, ◌++◌}
 use Prim.Native.Nat.{ℕ, suc, ◌+◌, ◌*◌, ◌≤◌, ◌<◌}
 use native.Mathlib.Omega.{arith}
-use borrow.Author.Tests.{lt-ltb, le-ltb, lt-leb, le-leb, eq-eqb, ne_eqb, ltb-true, ltb-false}
+use borrow.Author.Tests.{lt-ltb, le-ltb, lt-leb, le-leb, ltb-true, ltb-false}
 use lib.ListN.{length, take, drop}
-use lib.Seq.{length-take-le}
 use lib.Dec.{eqb, ltb, leb}
 use Rattle.rules.specs.Text.Ascii.{ascii, is}
 use Rattle.rules.specs.Text.Lists.{any_of}
 use Rattle.rules.specs.Text.Bytes.{Bytes, Steps, starts, contains, words, in_domain}
-use Rattle.rules.specs.Text.Refusal.{answers, Writes, Lends}
+use Rattle.rules.specs.Text.Refusal.{answers, Writes, Lends, refusal}
 use Rattle.rules.specs.Proj.Words.{proj_steps}
 use Rattle.rules.specs.Proj.Translate.{Pipeline, pipeline, translation, translated, translate}
-use Rattle.rules.specs.declared.Written.{Written}
-use Rattle.rules.specs.declared.Written.TheVariants as variant
 use Rattle.laws_text.specs.Entry.{lends-refusal, lends-no-room, lends-text, lends-so}
 use Rattle.laws_text.specs.Sizes.{proj-length}
 use Rattle.text.specs.Wrote.{Holds}
@@ -27,43 +26,47 @@ use Rattle.laws_proj.specs.Step.{Global}
 use Rattle.laws_proj.specs.Ordering.{whole, whole_length}
 use Rattle.laws_proj.specs.Cutting.{steps-plain, translation-is}
 use Rattle.proj_words.specs.Cuts.{steps_in, steps_from}
-use Rattle.proj_steps.specs.Plans.{pipeline_of}
-use Rattle.proj.specs.Places.{texts_of, Ready, Laid}
-use Rattle.proj.specs.Flaws.{unless, IsFlaw, IsPipe}
+use Rattle.proj_steps.specs.Plans.{said}
+use Rattle.proj.specs.Places.{texts_of, Ready, Laid, writes, backs, total_of, IsWriting}
+use Rattle.proj.specs.Flaws.{IsFlaw, IsPipe}
 use Rattle.proj.specs.declared.Flaw.{Flaw}
-use Rattle.proj.specs.declared.Pipe.{Pipe}
+use Rattle.proj_steps.specs.declared.pipe.Pipe.{Pipe}
+use Rattle.proj.specs.declared.layout.Pass.{Pass}
+use Rattle.std.proofs.Common.{Option, Some, None}
 
 -- ---- the steps of a cleaned text
 
-module _ (n g : Bytes) {inverted : Bool} {f : Flaw} (m : IsFlaw (pipeline_of g inverted) (steps_from n 0) f) where
-  pub steps-flaw : {out : Bytes} → (f.number ≡ 0 → ⊥) → Lends (translated (pipeline_of g inverted) (steps_from n 0)) out (variant.Refused f.number f.place) out
-  unfolding translated unless
-  steps-flaw x = lends-refusal (m.says (answers (translation (pipeline_of g inverted) (steps_from n 0))) ∙ rw (ne_eqb f.number 0 x))
+module _ (n : Bytes) {p : Pipeline} {f : Option Flaw} (m : IsFlaw p (steps_from n 0) f) where
+  pub steps-flaw : {x : Flaw} {out : Bytes} → f ≡ Some x → Lends (translated p (steps_from n 0)) out (refusal x.number x.place) out
+  unfolding translated
+  steps-flaw e = lends-refusal (m.says (answers (translation p (steps_from n 0))) ∙ rw e)
 
-  module _ (z : f.number ≡ 0) (k : Global (pipeline_of g inverted)) where
-    reply-is : translated (pipeline_of g inverted) (steps_from n 0) ≡ answers (whole inverted (texts_of (pipeline_of g inverted) (steps_from n 0)))
-    unfolding translated unless texts_of steps_from steps_in
+  module _ (z : f ≡ None) (k : Global p) where
+    reply-is : translated p (steps_from n 0) ≡ answers (whole p.inverted (texts_of p (steps_from n 0)))
+    unfolding translated texts_of steps_from steps_in
     reply-is =
-        m.says (answers (translation (pipeline_of g inverted) (steps_from n 0))) ∙ rw (eq-eqb f.number 0 z)
-        (ap answers (translation-is (pipeline_of g inverted) k (steps_from n 0) (steps-plain (ltb 0 0) (words (drop 0 n)) (words-plain (drop 0 n)))))
+        m.says (answers (translation p (steps_from n 0))) ∙ rw z
+        (ap answers (translation-is p k (steps_from n 0) (steps-plain (ltb 0 0) (words (drop 0 n)) (words-plain (drop 0 n)))))
 
-    module _ {total : ℕ} {out out₁ : Bytes} (c : Laid false (whole false (texts_of (pipeline_of g inverted) (steps_from n 0))) out total out₁) where
-      long-is : total ≡ length (whole inverted (texts_of (pipeline_of g inverted) (steps_from n 0)))
-      long-is = c.count ∙ sym (whole_length inverted (texts_of (pipeline_of g inverted) (steps_from n 0)))
+    module _ {total : ℕ} {out out₁ : Bytes} (c : Laid false (whole false (texts_of p (steps_from n 0))) out total out₁) where
+      long-is : total ≡ length (whole p.inverted (texts_of p (steps_from n 0)))
+      long-is = c.count ∙ sym (whole_length p.inverted (texts_of p (steps_from n 0)))
 
-      pub steps-no-room : length out₁ < total → Lends (translated (pipeline_of g inverted) (steps_from n 0)) out (variant.Refused 7 0) out₁
+      pub steps-no-room : length out₁ < total → Lends (translated p (steps_from n 0)) out (refusal 7 0) out₁
       steps-no-room l =
-          subst (λ (d : Bytes). Lends (translated (pipeline_of g inverted) (steps_from n 0)) out (variant.Refused 7 0) d) (sym c.done)
+          subst (λ (d : Bytes). Lends (translated p (steps_from n 0)) out (refusal 7 0) d) (sym c.done)
           (lends-no-room reply-is (omega (arith, long-is, ap length c.done)))
 
-      pub steps-ready : total ≤ length out₁ → Ready true total (whole inverted (texts_of (pipeline_of g inverted) (steps_from n 0))) out₁
-      steps-ready l = record { exact = λ e. long-is; inside = l }
+      module _ (l : total ≤ length out₁) {w : Pass} (x : IsWriting p.inverted total w) where
+        pub steps-ready : Ready (writes w) (total_of w) (whole (backs w) (texts_of p (steps_from n 0))) out₁
+        steps-ready = rw (x.writes, x.backs, x.totals) (record { exact = λ e. long-is; inside = l })
 
-      pub steps-done : {r : ℕ} {out₂ : Bytes} → total ≤ length out₁ → Laid true (whole inverted (texts_of (pipeline_of g inverted) (steps_from n 0))) out₁ r out₂
-          → Lends (translated (pipeline_of g inverted) (steps_from n 0)) out (variant.Wrote r) out₂
-      steps-done {r} l w =
-          lends-text reply-is (omega (arith, long-is, ap length c.done)) w.count
-          (w.done ∙ ap (λ (d : Bytes). whole inverted (texts_of (pipeline_of g inverted) (steps_from n 0)) ++ drop r d) c.done)
+        pub steps-done : {r : ℕ} {out₂ : Bytes} → Laid (writes w) (whole (backs w) (texts_of p (steps_from n 0))) out₁ r out₂
+            → Lends (translated p (steps_from n 0)) out (Ok r) out₂
+        steps-done {r} {out₂} y =
+            let v : Laid true (whole p.inverted (texts_of p (steps_from n 0))) out₁ r out₂ = rw (x.writes, x.backs) at y in
+            lends-text reply-is (omega (arith, long-is, ap length c.done)) v.count
+            (v.done ∙ ap (λ (d : Bytes). whole p.inverted (texts_of p (steps_from n 0)) ++ drop r d) c.done)
 
 pub count-ready : {text out : Bytes} → Ready false 0 text out
 count-ready = record { exact = λ e. absurd (false≢true e); inside = omega arith }
@@ -130,7 +133,7 @@ translate-proj : (t : Bytes) → (any_of (is "|") t || not (contains (ascii "pro
 unfolding translate
 translate-proj t e = rw e (ap (λ (ss : Steps). translated (pipeline ss) ss) (steps-are t))
 
-pub unchanged-so : {t out out' : Bytes} {r : Written} → length t ≤ 4096 → in_domain t ≡ true
+pub unchanged-so : {t out out' : Bytes} {r : Result ℕ Refusal} → length t ≤ 4096 → in_domain t ≡ true
     → (any_of (is "|") t || not (contains (ascii "proj") t)) ≡ true → Lends (answers t) out r out' → Writes translate t out r out'
 unchanged-so {t} h d e w = lends-so h d (translate-other t e) w
 
@@ -143,13 +146,13 @@ module _ (t : Bytes) {a : Bytes} {n : ℕ} (w : Holds (cleaned t) n a) where
   unfolding cleaned
   pipe-room h e = rw (wrote-front w) (omega (arith, proj-length t))
 
-  pub globals-small : {p : Pipe} {b : Bytes} → length t ≤ 4096 → IsPipe (length (take n a)) (steps_from (take n a) 0) p b → length (take p.n b) ≤ 40960
-  globals-small {p} {b} h i = omega (arith, cleaned-small h, i.few, length-take-le p.n b i.fits)
+  pub globals-small : {p : Pipe} → length t ≤ 4096 → IsPipe (length (take n a)) (steps_from (take n a) 0) p → length p.globals.now ≤ 40960
+  globals-small h i = omega (arith, cleaned-small h, i.few)
 
-  pub translate-so : {p : Pipe} {b out out' : Bytes} {r : Written} → length t ≤ 4096 → in_domain t ≡ true → (any_of (is "|") t || not (contains (ascii "proj") t)) ≡ false
-      → IsPipe (length (take n a)) (steps_from (take n a) 0) p b
-      → Lends (translated (pipeline_of (take p.n b) p.inverted) (steps_from (take n a) 0)) out r out' → Writes translate t out r out'
-  translate-so {p} {b} {out} {out'} {r} h d e i l =
+  pub translate-so : {p : Pipe} {out out' : Bytes} {r : Result ℕ Refusal} → length t ≤ 4096 → in_domain t ≡ true → (any_of (is "|") t || not (contains (ascii "proj") t)) ≡ false
+      → IsPipe (length (take n a)) (steps_from (take n a) 0) p
+      → Lends (translated (said p) (steps_from (take n a) 0)) out r out' → Writes translate t out r out'
+  translate-so {p} {out} {out'} {r} h d e i l =
       let z : take n a ≡ cleaned t = wrote-front w in
       lends-so h d
       (translate-proj t e ∙ ap (λ (s : Bytes). translated (pipeline (steps_from s 0)) (steps_from s 0)) (sym z) ∙ ap (λ (q : Pipeline). translated q (steps_from (take n a) 0)) i.is) l

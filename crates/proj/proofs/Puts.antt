@@ -5,7 +5,7 @@ use mathlib.Core.List.{[], ◌∷◌, ◌++◌, append_assoc}
 use Prim.Native.Nat.{ℕ, ◌+◌, ◌-◌, ◌≤◌, ◌<◌}
 use native.Mathlib.Decide.{dec_lt}
 use native.Mathlib.Omega.{arith}
-use borrow.Author.Tests.{eq-eqb, ne_eqb}
+use borrow.Author.Tests.{eq-eqb, ne_eqb, eqb-true}
 use lib.ListN.{length, take, drop, set, length-append, take-append-drop}
 use lib.Seq.{length-take-le, take_at, drop_at, drop-drop, take-take, take-append-le, drop-append-add}
 use lib.Dec.{eqb, ltb}
@@ -15,8 +15,11 @@ use Rattle.text.proofs.WroteAt.{wrote-byte}
 use Rattle.proj_steps.specs.Adds.{limit, Room, Adds}
 use Rattle.proj_steps.proofs.Added.{adds-length, wrote-adds}
 use Rattle.laws_proj.specs.Ordering.{side, side_right, side-length, bar_text, gap_text, part_text, state_after}
-use Rattle.proj.specs.Places.{place_of, Spot, Puts, Parted}
-use Rattle.proj.specs.declared.layout.Put.{Put}
+use Rattle.proj.specs.Places.{number_of, place_of, Spot, Puts, Parted}
+use Rattle.proj.specs.declared.layout.Last.{Last}
+use Rattle.proj.specs.declared.layout.Last.TheVariants.{Nothing, Text, Bar}
+use Rattle.proj.specs.contracts.layout.Last.{the_type}
+use denote.Enum.Bare.{sameb}
 use Rattle.laws_proj.specs.Tests.{empty-is, some_is}
 
 -- ---- the place
@@ -181,6 +184,36 @@ module _ {write back : Bool} {total : ℕ} (t u : Bytes) {o : ℕ} {dst₀ : Byt
       adds = put_two write back t u total o r p.count h.fits h.inside p.adds q.adds;
     }
 
+-- ---- what was put last
+
+nothing-is : (l : Last) → sameb the_type l Nothing ≡ eqb (number_of l) 0
+nothing-is Nothing = refl
+nothing-is Text = refl
+nothing-is Bar = refl
+
+pub bar-is : (l : Last) → sameb the_type l Bar ≡ eqb (number_of l) 2
+bar-is Nothing = refl
+bar-is Text = refl
+bar-is Bar = refl
+
+-- where an empty text follows
+pub after-nothing : {l : Last} → l ≡ Nothing → 1 ≡ state_after (number_of l) []
+unfolding state_after non_empty
+after-nothing e = rw e
+
+pub after-other : (l : Last) → (l ≡ Nothing → ⊥) → 2 ≡ state_after (number_of l) []
+unfolding state_after non_empty
+after-other Nothing f = absurd (f refl)
+after-other Text f = refl
+after-other Bar f = refl
+
+module _ (l : Last) {b : Bool} (e : b ≡ sameb the_type l Nothing) where
+  pub put-first : b ≡ true → number_of l ≡ 0
+  put-first h = eqb-true (number_of l) 0 (sym (nothing-is l) ∙ sym e ∙ h)
+
+  pub put-later : b ≡ false → number_of l ≡ 0 → ⊥
+  put-later h z = false≢true (sym h ∙ e ∙ nothing-is l ∙ eq-eqb (number_of l) 0 z)
+
 -- ---- for the functions, need by need
 
 -- a byte
@@ -247,17 +280,14 @@ module _ (state : ℕ) (t : Bytes) {write back : Bool} {total o : ℕ} {dst₀ :
     unfolding part_text non_empty
     none_is e = rw (empty-is t e) (side_right back (bar_text back state (ltb 0 o)))
 
-    pub part-first-empty : length t ≡ 0 → state ≡ 0 → Parted write back total state t dst₀ o (record { o = p; state = 1 }) dst
-    part-first-empty e z = record { puts = puts-as (sym (none_is e)) b; state-is = first-state (empty-is t e) }
-      where
-        first-state : t ≡ [] → 1 ≡ state_after state t
-        first-state f = unfold state_after non_empty in sym (rw (f, eq-eqb state 0 z))
+    pub part-empty : length t ≡ 0 → {l : Last} → number_of l ≡ state_after state [] → Parted write back total state t dst₀ o (record { o = p; last = l }) dst
+    part-empty e h = record { puts = puts-as (sym (none_is e)) b; state-is = h ∙ ap (state_after state) (sym (empty-is t e)) }
 
-    pub part-later-empty : length t ≡ 0 → (state ≡ 0 → ⊥) → Parted write back total state t dst₀ o (record { o = p; state = 2 }) dst
-    part-later-empty e n = record { puts = puts-as (sym (none_is e)) b; state-is = later-state (empty-is t e) }
+    pub part-later-empty : length t ≡ 0 → (state ≡ 0 → ⊥) → Parted write back total state t dst₀ o (record { o = p; last = Bar }) dst
+    part-later-empty e n = part-empty e (after n)
       where
-        later-state : t ≡ [] → 2 ≡ state_after state t
-        later-state f = unfold state_after non_empty in sym (rw (f, ne_eqb state 0 n))
+        after : (state ≡ 0 → ⊥) → 2 ≡ state_after state []
+        after f = unfold state_after non_empty in sym (rw (ne_eqb state 0 f))
 
     module _ (n : length t ≡ 0 → ⊥) where
       some-text : part_text back state (ltb 0 o) t ≡ side back (bar_text back state (ltb 0 o)) (gap_text back state t)
@@ -267,25 +297,13 @@ module _ (state : ℕ) (t : Bytes) {write back : Bool} {total o : ℕ} {dst₀ :
       pub part-gap : Spot write back total (gap_text back state t) p dst
       part-gap = spot-then (bar_text back state (ltb 0 o)) (gap_text back state t) (spot-as some-text h) b
 
-      pub part-some : {q : ℕ} {dst' : Bytes} → Puts write back total (gap_text back state t) dst p q dst' → Parted write back total state t dst₀ o (record { o = q; state = 1 }) dst'
+      pub part-some : {q : ℕ} {dst' : Bytes} → Puts write back total (gap_text back state t) dst p q dst' → Parted write back total state t dst₀ o (record { o = q; last = Text }) dst'
       part-some g = record { puts = puts-as (sym some-text) (puts-both (bar_text back state (ltb 0 o)) (gap_text back state t) (spot-as some-text h) b g); state-is = some-state (some_is t n) }
         where
           some-state : non_empty t ≡ true → 1 ≡ state_after state t
           some-state f = unfold state_after in sym (rw f)
 
 -- ---- written behind the others
-
-pub spot_on : (write back : Bool) {total o : ℕ} {dst : Bytes} (state : ℕ) (t : Bytes) → write ≡ true → back ≡ false
-    → Spot write back total (part_text back state (ltb 0 o) t) o dst → Spot true false total (part_text false state (ltb 0 o) t) o dst
-spot_on true false state t w b h = h
-spot_on true true state t w b h = absurd (false≢true (sym b))
-spot_on false back state t w b h = absurd (false≢true w)
-
-pub parted-on : (write back : Bool) {total state : ℕ} {t dst₀ : Bytes} {o : ℕ} {r : Put} {dst : Bytes} → write ≡ true → back ≡ false
-    → Parted true false total state t dst₀ o r dst → Parted write back total state t dst₀ o r dst
-parted-on true false w b h = h
-parted-on true true w b h = absurd (false≢true (sym b))
-parted-on false back w b h = absurd (false≢true w)
 
 not_none : {k : ℕ} → 0 < k → k ≡ 0 → ⊥
 not_none m e = omega arith
@@ -324,7 +342,7 @@ module _ (state : ℕ) (t : Bytes) {total o : ℕ} {dst₀ : Bytes} (h : Spot tr
     unfolding place_of
     on-first-room = spot-room on-first-spot refl
 
-    pub on-first-done : {r : ℕ} {dst' : Bytes} → Adds true t dst p r dst' → Parted true false total state t dst₀ o (record { o = r; state = 1 }) dst'
+    pub on-first-done : {r : ℕ} {dst' : Bytes} → Adds true t dst p r dst' → Parted true false total state t dst₀ o (record { o = r; last = Text }) dst'
     on-first-done {r} {dst'} a = record {
       puts =
           puts-as (sym on-first)
@@ -343,7 +361,7 @@ module _ (state : ℕ) (t : Bytes) {total o : ℕ} {dst₀ : Bytes} (h : Spot tr
     on_room m = omega (arith, (part-gap state t h b (not_none m)).fits, ap length (gap-later false state t n), side-length false (32 ∷ []) t)
 
     -- nothing is left of the answer
-    pub on-full : total ≤ p → Parted true false total state t dst₀ o (record { o = p; state = 2 }) dst
+    pub on-full : total ≤ p → Parted true false total state t dst₀ o (record { o = p; last = Bar }) dst
     on-full l = elim (dec_lt 0 (length t)) [ yes m ↦ absurd (past (on_room m)) | no m ↦ part-later-empty state t h b (omega arith) n ]
       where
         past : p + 1 + length t ≤ total → ⊥
@@ -361,13 +379,13 @@ module _ (state : ℕ) (t : Bytes) {total o : ℕ} {dst₀ : Bytes} (h : Spot tr
         pub on-later-length : p < length dst'
         on-later-length = omega (arith, adds-length on-later-room a, on-inside)
 
-        pub on-later-none : r ≡ p + 1 → Parted true false total state t dst₀ o (record { o = p; state = 2 }) dst'
+        pub on-later-none : r ≡ p + 1 → Parted true false total state t dst₀ o (record { o = p; last = Bar }) dst'
         on-later-none e =
             let z : length t ≡ 0 = omega (arith, a.count) in
             let d : dst' ≡ dst = a.whole ∙ rw (empty-is t z, e) (take-append-drop (p + 1) dst) in
-            subst (λ (x : Bytes). Parted true false total state t dst₀ o (record { o = p; state = 2 }) x) (sym d) (part-later-empty state t h b z n)
+            subst (λ (x : Bytes). Parted true false total state t dst₀ o (record { o = p; last = Bar }) x) (sym d) (part-later-empty state t h b z n)
 
-        pub on-later-done : (r ≡ p + 1 → ⊥) → Parted true false total state t dst₀ o (record { o = r; state = 1 }) (set dst' p 32)
+        pub on-later-done : (r ≡ p + 1 → ⊥) → Parted true false total state t dst₀ o (record { o = r; last = Text }) (set dst' p 32)
         on-later-done k = part-some state t h b some puts
           where
             some : length t ≡ 0 → ⊥

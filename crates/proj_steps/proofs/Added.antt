@@ -1,7 +1,7 @@
 -- Writing or counting, a text after another: the laws of `Adds`.
 use mathlib.Core.Path.{◌≡◌, refl, sym, ap, ◌∙◌, subst}
 use mathlib.Core.Bool.{Bool, true, false, cond}
-use mathlib.Core.List.{[], ◌∷◌, ◌++◌, append_assoc}
+use mathlib.Core.List.{[], ◌++◌, append_assoc}
 use Prim.Native.Nat.{ℕ, ◌+◌, ◌≤◌}
 use native.Mathlib.Omega.{arith}
 use lib.ListN.{length, take, drop, length-append, take-append-drop}
@@ -9,7 +9,7 @@ use lib.Seq.{length-take-le}
 use Rattle.rules.specs.Text.Bytes.{Bytes}
 use Rattle.text.specs.Wrote.{Wrote, WroteAt}
 use Rattle.text.proofs.WroteAt.{wrote-both, wrote-length}
-use Rattle.proj_steps.specs.Adds.{limit, Room, Adds, gapped}
+use Rattle.proj_steps.specs.Adds.{limit, Room, Adds}
 
 -- ---- where it writes, it is as `WroteAt`
 
@@ -68,6 +68,10 @@ room_as {write} {t} {u} {dst} {at} e h = subst (λ (x : Bytes). Room write x at 
 pub adds-as : {write : Bool} {t u dst₀ dst : Bytes} {at r : ℕ} → t ≡ u → Adds write t dst₀ at r dst → Adds write u dst₀ at r dst
 adds-as {write} {t} {u} {dst₀} {dst} {at} {r} e a = subst (λ (x : Bytes). Adds write x dst₀ at r dst) e a
 
+-- a pass of the same kind
+pub adds-by : {w v : Bool} {t dst₀ dst : Bytes} {at r : ℕ} → w ≡ v → Adds w t dst₀ at r dst → Adds v t dst₀ at r dst
+adds-by {w} {v} {t} {dst₀} {dst} {at} {r} e a = subst (λ (b : Bool). Adds b t dst₀ at r dst) e a
+
 -- ---- for the functions, need by need
 
 module _ {x dst₀ : Bytes} {at : ℕ} {write : Bool} (h : Room write x at dst₀) where
@@ -84,48 +88,3 @@ module _ {x dst₀ : Bytes} {at : ℕ} {write : Bool} (h : Room write x at dst�
 
   pub add-counted : write ≡ false → Adds write x dst₀ at (at + length x) dst₀
   add-counted e = record { count = refl; whole = sym (rw e) }
-
--- a word in two pieces
-module _ (f x : Bytes) {write : Bool} {dst₀ : Bytes} {at : ℕ} {begun : Bool} (h : Room write (gapped begun (f ++ x)) at dst₀) where
-  module _ (e : begun ≡ true) where
-    spaced-is : gapped begun (f ++ x) ≡ (32 ∷ []) ++ (f ++ x)
-    unfolding gapped
-    spaced-is = rw e
-
-    spaced-room : Room write ((32 ∷ []) ++ (f ++ x)) at dst₀
-    spaced-room = room_as spaced-is h
-
-    pub space-room : Room write (32 ∷ []) at dst₀
-    space-room = first-room (32 ∷ []) (f ++ x) spaced-room
-
-    module _ {a : ℕ} {dst₁ : Bytes} (p : Adds write (32 ∷ []) dst₀ at a dst₁) where
-      both-room : Room write (f ++ x) a dst₁
-      both-room = then-room (32 ∷ []) (f ++ x) spaced-room p
-
-      pub front-room : Room write f a dst₁
-      front-room = first-room f x both-room
-
-      module _ {i : ℕ} {dst₂ : Bytes} (q : Adds write f dst₁ a i dst₂) where
-        pub back-room : Room write x i dst₂
-        back-room = then-room f x both-room q
-
-        pub word-spaced : {r : ℕ} {dst : Bytes} → Adds write x dst₂ i r dst → Adds write (gapped begun (f ++ x)) dst₀ at r dst
-        word-spaced s = adds-as (sym spaced-is) (adds-both (32 ∷ []) (f ++ x) spaced-room p (adds-both f x both-room q s))
-
-  module _ (e : begun ≡ false) where
-    plain-is : gapped begun (f ++ x) ≡ f ++ x
-    unfolding gapped
-    plain-is = rw e
-
-    plain-room : Room write (f ++ x) at dst₀
-    plain-room = room_as plain-is h
-
-    pub first-front : Room write f at dst₀
-    first-front = first-room f x plain-room
-
-    module _ {i : ℕ} {dst₁ : Bytes} (q : Adds write f dst₀ at i dst₁) where
-      pub first_back : Room write x i dst₁
-      first_back = then-room f x plain-room q
-
-      pub word-first : {r : ℕ} {dst : Bytes} → Adds write x dst₁ i r dst → Adds write (gapped begun (f ++ x)) dst₀ at r dst
-      word-first s = adds-as (sym plain-is) (adds-both f x plain-room q s)

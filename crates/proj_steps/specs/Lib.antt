@@ -1,3 +1,4 @@
 pub mod Adds
 pub mod Pens
+pub mod Pipelines
 pub mod Plans

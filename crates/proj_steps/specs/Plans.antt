@@ -1,34 +1,63 @@
 -- What comes of a step's words.
-use Rattle.std.specs.Prelude.{◌≡◌, Bool, true, cond, [], ◌∷◌, ◌++◌, ℕ, ◌≤◌, length}
-use Rattle.rules.specs.Text.Bytes.{Bytes, Words, words}
-use Rattle.rules.specs.Proj.Words.{exchanged, tidied}
+use Rattle.std.specs.Prelude.{◌≡◌, true, false, [], ◌∷◌, ◌++◌, ℕ, ◌-◌, Option, None, Some}
+use denote.Ref.{Bor}
+use Rattle.rules.specs.Text.Ascii.{ascii}
+use Rattle.rules.specs.Text.Bytes.{Bytes, Words}
 use Rattle.rules.specs.Proj.Translate.{Pipeline, with_globals}
-use Rattle.rules.specs.Text.Reader.{part}
-use Rattle.laws_proj.specs.Tidying.{tidy_rest, ellps_of, own_word}
-use Rattle.proj_steps.specs.declared.step.Fate.{Fate}
-use Rattle.proj_steps.specs.declared.step.Plan.{Plan}
+use Rattle.laws_proj.specs.Tidying.{count_of, tidy_rest, ellps_of, composes}
+use Rattle.proj_words.specs.Facts.{IsKey}
+use Rattle.proj_steps.specs.Pens.{text_of}
+use Rattle.proj_steps.specs.declared.element.Element.{Element}
+use Rattle.proj_steps.specs.declared.element.Ellipsoid.{Ellipsoid}
+use Rattle.proj_steps.specs.declared.step.Ahead.{Ahead}
+use Rattle.proj_steps.specs.declared.pipe.Pipe.{Pipe}
+use Rattle.proj_steps.specs.Pipelines.{pipeline_of}
 
--- a pipeline, by what it says
-abbrev pub pipeline_of : Bytes → Bool → Pipeline
-pipeline_of g inverted = record { globals = g; inverted = inverted }
+-- what a pipeline says
+abbrev pub said : Pipe → Pipeline
+said p = pipeline_of p.globals.now p.inverted
 
--- the globals among words, if they are still to go in
-unfoldable pub globalled : Bool → Bytes → Words → Words
-globalled fresh g ws = cond fresh (with_globals (pipeline_of g true) ws) ws
+-- the composed ellipsoid of words
+pub record IsEllipsoid (ws : Words) (e : Ellipsoid) : Type 0 where
+  pub unnamed : count_of (ascii "ellps=") ws ≡ 0
+  pub a : IsKey ws (ascii "a=") e.a
+  pub rf : IsKey ws (ascii "rf=") e.rf
+
+-- what is found: that, or that none is composed
+abbrev pub FoundEllipsoid : Words → Option Ellipsoid → Type 0
+FoundEllipsoid ws (Some e) = IsEllipsoid ws e
+FoundEllipsoid ws None = composes ws ≡ false
+
+-- its word
+abbrev pub last_words : Option Ellipsoid → Words
+last_words (Some e) = ellps_of e.a.value.now e.rf.value.now ∷ []
+last_words None = []
+
+-- what is to come of all words
+abbrev pub ahead_of : Option Ellipsoid → Ahead
+ahead_of (Some e) = record { a = e.a.count; rf = e.rf.count; scale = true }
+ahead_of None = record { a = 0; rf = 0; scale = true }
+
+-- an element that is not left out
+abbrev pub kept : Option Element → Words
+kept (Some e) = text_of e ∷ []
+kept None = []
+
+-- what comes of a word that is counted off
+pub record IsCounted (n : ℕ) (w : Bytes) (r : Option Element) (m : ℕ) : Type 0 where
+  pub less : m ≡ n - 1
+  pub last : n ≡ 1 → kept r ≡ []
+  pub other : (n ≡ 1 → ⊥) → kept r ≡ w ∷ []
+
+-- the tidied words that are still to come
+abbrev pub rest_of : Ahead → Words → Words → Words
+rest_of h last ws = tidy_rest h.a h.rf h.scale last ws
 
 -- what comes of a word, whatever follows it
-pub record IsFate (w : Bytes) (a rf : ℕ) (still : Bool) (f : Fate) : Type 0 where
-  pub rest : (last ws : Words) → tidy_rest a rf still last (w ∷ ws) ≡ cond f.skip [] (own_word f.scale w ∷ []) ++ tidy_rest f.a f.rf f.still last ws
-  pub long : f.scale ≡ true → 2 ≤ length w
+pub record IsPassed (w : Bytes) (h : Ahead) (r : Option Element) (n : Ahead) : Type 0 where
+  pub rest : (last ws : Words) → rest_of h last (w ∷ ws) ≡ kept r ++ rest_of n last ws
 
--- the composed ellipsoid
-unfoldable pub last_words : Bytes → Plan → Words
-last_words s p = cond p.composed (ellps_of (part p.start p.stop s) (part p.from p.to s) ∷ []) []
-
--- a step's tidied words, as they will be told
-pub record IsPlan (s : Bytes) (p : Plan) : Type 0 where
-  pub a-ahead : p.start ≤ p.stop
-  pub a-within : p.stop ≤ length s
-  pub rf-ahead : p.from ≤ p.to
-  pub rf-within : p.to ≤ length s
-  pub tidy : tidied (words s) ≡ tidy_rest p.a p.rf true (last_words s p) (exchanged (words s))
+-- words with the globals, if they are still to go in
+abbrev pub globalled : Option (Bor Bytes) → Words → Words
+globalled (Some g) ws = with_globals (pipeline_of g.now true) ws
+globalled None ws = ws

@@ -4,6 +4,8 @@
 
 mod element;
 mod pen;
+mod pipe;
 mod step;
 
+pub use pipe::Pipe;
 pub use step::{globals_into, step_text};

@@ -1,96 +1,127 @@
 -- What the exchanged words of a step say: the loops over them, and their laws.
-use mathlib.Core.Path.{◌≡◌, refl, sym, ap, ◌∙◌}
-use mathlib.Core.Bool.{Bool, true, false, cond, ◌&&◌, ◌||◌, and_assoc, and-false, and-true, or_assoc, or-false, or-true}
-use mathlib.Core.List.{[], ◌∷◌}
-use Prim.Native.Nat.{ℕ, zero, suc, ◌+◌, ◌≤◌, ◌<◌}
-use native.Mathlib.Omega.{arith}
-use lib.ListN.{length, drop}
+use Rattle.std.proofs.Common.{◌≡◌, refl, sym, ap, subst, ◌∙◌, Bool, true, false, cond, ◌&&◌, ◌||◌, [], ◌∷◌, ℕ, suc, ◌+◌, ◌<◌, ◌≤◌, length, drop, Option, None, Some, arith, not, eqb, Bor}
+use borrow.Author.Tests.{ne_eqb}
+use mathlib.Core.Bool.{and_assoc, and-true, or_assoc, or-false}
 use Rattle.rules.specs.Text.Lists.{any_of, all_of, non_empty}
-use Rattle.rules.specs.Text.Bytes.{Bytes, Words, starts, words}
-use Rattle.rules.specs.Text.Ascii.{ascii}
+use Rattle.rules.specs.Text.Bytes.{Bytes, Words, starts}
 use Rattle.rules.specs.Proj.Words.{is_proj, first_proj, in_its_place, exchanged}
 use Rattle.rules.specs.Proj.Translate.{is_inv}
-use Rattle.rules.specs.Text.Reader.{part}
-use Rattle.laws_lists.specs.Tests.{same-is}
-use Rattle.laws_text.specs.Sizes.{words-few}
 use Rattle.laws_proj.specs.Tidying.{count_of, last_from}
-use Rattle.proj_words.specs.Heads.{elements, IsHead, IsElement}
-use Rattle.proj_words.specs.Facts.{Marked, IsMarks, IsKey}
-use Rattle.proj_words.specs.declared.exchange.Head.{Head}
+use Rattle.proj_words.specs.Facts.{IsMarked, IsMarks, IsKey}
 use Rattle.proj_words.specs.declared.exchange.Marks.{Marks}
 
--- ---- one word more
+-- ---- marks
 
-inv-some : (w : Bytes) → is_inv w ≡ true → non_empty w ≡ true
-unfolding is_inv ascii non_empty
-inv-some w e = ap non_empty (same-is w (ascii "inv") e)
-
-long-some : (w : Bytes) → 0 < length w → non_empty w ≡ true
+some-is : (w : Bytes) → not (eqb (length w) 0) ≡ non_empty w
 unfolding non_empty
-long-some [] h = absurd (never h)
-  where
-    never : ◌<◌ 0 zero → ⊥
-    never h = omega arith
-long-some (x ∷ w) h = refl
+some-is [] = refl
+some-is (x ∷ w) = rw (ne_eqb (suc (length w)) 0 (λ e. omega arith))
 
-short_none : (w : Bytes) → length w ≤ 0 → non_empty w ≡ false
-unfolding non_empty
-short_none [] h = refl
-short_none (x ∷ w) h = absurd (never h)
-  where
-    never : suc (length w) ≤ 0 → ⊥
-    never h = omega arith
+pub marked : {w : Bytes} {m r : Marks} {inv : Bool} → inv ≡ is_inv w → r.inv ≡ (m.inv || inv) → r.only ≡ (m.only && inv) → r.some ≡ (m.some || not (eqb (length w) 0)) → IsMarked w m r
+marked {w} {m} {r} e a b c = record { inv = rw (← e) a; only = rw (← e) b; some = rw (← some-is w) c }
 
-module _ {w : Bytes} {m : Marks} where
-  pub marked-inv : is_inv w ≡ true → Marked w m (record { inv = true; only = m.only; some = true })
-  marked-inv e = record { inv = rw e (sym (or-true m.inv)); only = rw e (sym (and-true m.only)); some = rw (inv-some w e) (sym (or-true m.some)) }
+-- the marks of the words in front of `rest`
+pub record Marking (ws rest : Words) (m : Marks) : Type 0 where
+  pub inv : any_of is_inv ws ≡ (m.inv || any_of is_inv rest)
+  pub only : all_of is_inv ws ≡ (m.only && all_of is_inv rest)
+  pub some : any_of non_empty ws ≡ (m.some || any_of non_empty rest)
 
-  pub marked-word : is_inv w ≡ false → 0 < length w → Marked w m (record { inv = m.inv; only = false; some = true })
-  marked-word e h = record { inv = rw e (sym (or-false m.inv)); only = rw e (sym (and-false m.only)); some = rw (long-some w h) (sym (or-true m.some)) }
+pub marking-start : (ws : Words) → Marking ws ws (record { inv = false; only = true; some = false })
+marking-start ws = record { inv = refl; only = refl; some = refl }
 
-  pub marked_empty : is_inv w ≡ false → length w ≤ 0 → Marked w m (record { inv = m.inv; only = false; some = m.some })
-  marked_empty e h = record { inv = rw e (sym (or-false m.inv)); only = rw e (sym (and-false m.only)); some = rw (short_none w h) (sym (or-false m.some)) }
-
--- ---- all words
-
--- the marks of the words that the walk has passed
-pub record Marking (s : Bytes) (h : Head) (stage k : ℕ) (m : Marks) : Type 0 where
-  pub head : IsHead s h
-  pub within : k ≤ length s
-  pub inv : any_of is_inv (exchanged (words s)) ≡ (m.inv || any_of is_inv (elements s h stage k))
-  pub only : all_of is_inv (exchanged (words s)) ≡ (m.only && all_of is_inv (elements s h stage k))
-  pub some : any_of non_empty (exchanged (words s)) ≡ (m.some || any_of non_empty (elements s h stage k))
-
-pub marking-start : {s : Bytes} {h : Head} → IsHead s h → Marking s h 0 0 (record { inv = false; only = true; some = false })
-unfolding elements
-marking-start m = record { head = m; within = omega arith; inv = refl; only = refl; some = refl }
-
-module _ {s : Bytes} {h : Head} {stage k : ℕ} {m : Marks} (i : Marking s h stage k m) where
-  pub marking-end : elements s h stage k ≡ [] → IsMarks (exchanged (words s)) m
+module _ {ws rest : Words} {m : Marks} (i : Marking ws rest m) where
+  pub marking-end : rest ≡ [] → IsMarks ws m
   unfolding any_of all_of
   marking-end e = record {
-    inv = sym (or-false m.inv) ∙ sym (i.inv ∙ ap (λ (ws : Words). m.inv || any_of is_inv ws) e);
-    only = sym (and-true m.only) ∙ sym (i.only ∙ ap (λ (ws : Words). m.only && all_of is_inv ws) e);
-    some = sym (or-false m.some) ∙ sym (i.some ∙ ap (λ (ws : Words). m.some || any_of non_empty ws) e);
+    inv = sym (i.inv ∙ rw e (or-false m.inv));
+    only = sym (i.only ∙ rw e (and-true m.only));
+    some = sym (i.some ∙ rw e (or-false m.some));
   }
 
-  pub marking-next : {from to then next : ℕ} {r : Marks} → IsElement s h stage k from to then next → Marked (part from to s) m r → Marking s h next then r
+  pub marking-next : {w : Bytes} {more : Words} {r : Marks} → rest ≡ w ∷ more → IsMarked w m r → Marking ws more r
   unfolding any_of all_of
-  marking-next {from} {to} {then} {next} {r} e w =
-      let x = part from to s in
-      let ws = elements s h next then in
-      record {
-        head = i.head;
-        within = e.onward;
-        inv = i.inv ∙ rw (e.here, w.inv) (sym (or_assoc m.inv (is_inv x) (any_of is_inv ws)));
-        only = i.only ∙ rw (e.here, w.only) (sym (and_assoc m.only (is_inv x) (all_of is_inv ws)));
-        some = i.some ∙ rw (e.here, w.some) (sym (or_assoc m.some (non_empty x) (any_of non_empty ws)));
-      }
+  marking-next {w} {more} {r} e k = record {
+    inv = i.inv ∙ rw (e, k.inv) (sym (or_assoc m.inv (is_inv w) (any_of is_inv more)));
+    only = i.only ∙ rw (e, k.only) (sym (and_assoc m.only (is_inv w) (all_of is_inv more)));
+    some = i.some ∙ rw (e, k.some) (sym (or_assoc m.some (non_empty w) (any_of non_empty more)));
+  }
 
--- the walk ends
-pub element-less : {s : Bytes} {h : Head} {stage k from to then next : ℕ} → IsElement s h stage k from to then next
-    → length (elements s h next then) < length (elements s h stage k)
-element-less {s} {h} {stage} {k} {from} {to} {then} {next} e = omega (arith, ap length e.here)
+-- ---- keys
+
+-- a word before `rest`, the last that begins with the key, and what follows the key there
+pub record Last (ws rest : Words) (key v : Bytes) : Type 0 where
+  pub word : Bytes
+  pub value : v ≡ drop (length key) word
+  pub last : last_from key [] ws ≡ last_from key word rest
+
+-- that, where one was found among n
+unfoldable pub Lasting : Words → Words → Bytes → ℕ → Option (Bor Bytes) → Type 0
+Lasting ws rest key n (Some v) = (0 < n) × Last ws rest key v.now
+Lasting ws rest key n None = (n ≡ 0) × (last_from key [] ws ≡ last_from key [] rest)
+
+-- n of the words in front of `rest` begin with the key
+pub record Keying (ws rest : Words) (key : Bytes) (n : ℕ) (last : Option (Bor Bytes)) : Type 0 where
+  pub few : n + length rest ≤ length ws
+  pub count : count_of key ws ≡ n + count_of key rest
+  pub found : Lasting ws rest key n last
+
+pub keying-start : (ws : Words) (key : Bytes) → Keying ws ws key 0 None
+unfolding Lasting
+keying-start ws key = record { few = omega arith; count = omega arith; found = (refl, refl) }
+
+module _ {ws rest : Words} {key : Bytes} {n : ℕ} {last : Option (Bor Bytes)} (i : Keying ws rest key n last) where
+  module _ (e : rest ≡ []) where
+    pub keying-none : last ≡ None → count_of key ws ≡ 0
+    unfolding Lasting count_of
+    keying-none z =
+        let f = subst (Lasting ws rest key n) z i.found in
+        let g : count_of key rest ≡ 0 = ap (count_of key) e in
+        omega (arith, i.count, f.0)
+
+    pub keying-some : {v : Bor Bytes} → last ≡ Some v → IsKey ws key (record { count = n; value = v })
+    unfolding Lasting count_of last_from
+    keying-some z =
+        let f = subst (Lasting ws rest key n) z i.found in
+        let g : count_of key rest ≡ 0 = ap (count_of key) e in
+        record {
+          some = f.0;
+          count = omega (arith, i.count);
+          value = f.1.value ∙ ap (drop (length key)) (sym (f.1.last ∙ ap (last_from key f.1.word) e));
+        }
+
+  module _ {w : Bytes} {more : Words} (e : rest ≡ w ∷ more) where
+    pub keying-few : n < length ws
+    keying-few = omega (arith, i.few, ap length e)
+
+    pub keying-more : starts key w ≡ true → {v : Bor Bytes} → v.now ≡ drop (length key) w → Keying ws more key (n + 1) (Some v)
+    unfolding Lasting count_of last_from
+    keying-more h {v} g = record {
+      few = omega (arith, i.few, ap length e);
+      count = let c : count_of key rest ≡ suc (count_of key more) = ap (count_of key) e ∙ rw h in omega (arith, i.count, c);
+      found = (omega arith, record { word = w; value = g; last = before last i.found });
+    }
+      where
+        taken : (x : Bytes) → last_from key x rest ≡ last_from key w more
+        taken x = ap (last_from key x) e ∙ ap (λ (b : Bool). last_from key (cond b w x) more) h
+
+        before : (l : Option (Bor Bytes)) → Lasting ws rest key n l → last_from key [] ws ≡ last_from key w more
+        before (Some x) f = f.1.last ∙ taken f.1.word
+        before None f = f.1 ∙ taken []
+
+    pub keying-next : starts key w ≡ false → Keying ws more key n last
+    unfolding Lasting count_of last_from
+    keying-next h = record {
+      few = omega (arith, i.few, ap length e);
+      count = let c : count_of key rest ≡ count_of key more = ap (count_of key) e ∙ rw h in omega (arith, i.count, c);
+      found = passed last i.found;
+    }
+      where
+        kept : (x : Bytes) → last_from key x rest ≡ last_from key x more
+        kept x = ap (last_from key x) e ∙ ap (λ (b : Bool). last_from key (cond b w x) more) h
+
+        passed : (l : Option (Bor Bytes)) → Lasting ws rest key n l → Lasting ws more key n l
+        passed (Some x) f = (f.0, record { word = f.1.word; value = f.1.value; last = f.1.last ∙ kept f.1.word })
+        passed None f = (f.0, f.1 ∙ kept [])
 
 -- ---- how many words there are
 
@@ -103,7 +134,7 @@ place-few v (w ∷ ws) = go (is_proj w) (place-few v ws)
     go true h = refl
     go false h = ap suc h
 
-exchanged-few : (ws : Words) → length (exchanged ws) ≡ length ws
+pub exchanged-few : (ws : Words) → length (exchanged ws) ≡ length ws
 unfolding exchanged
 exchanged-few [] = refl
 exchanged-few (w ∷ ws) = go (is_proj w) (any_of is_proj ws)
@@ -112,66 +143,3 @@ exchanged-few (w ∷ ws) = go (is_proj w) (any_of is_proj ws)
     go true d = refl
     go false true = ap suc (place-few w ws)
     go false false = refl
-
--- ---- keys
-
--- the words that the walk has passed, n of which begin with the key, the last of them from a to e
-pub record Keying (s : Bytes) (h : Head) (key : Bytes) (n a e stage k : ℕ) : Type 0 where
-  pub head : IsHead s h
-  pub within : k ≤ length s
-  pub ahead : a ≤ e
-  pub inside : e ≤ length s
-  pub few : n + length (elements s h stage k) ≤ length (exchanged (words s))
-  pub count : count_of key (exchanged (words s)) ≡ n + count_of key (elements s h stage k)
-  pub last : last_from key [] (exchanged (words s)) ≡ last_from key (part a e s) (elements s h stage k)
-
-pub keying-start : {s : Bytes} {h : Head} (key : Bytes) → IsHead s h → Keying s h key 0 0 0 0 0
-unfolding elements
-keying-start key m = record {
-  head = m;
-  within = omega arith;
-  ahead = omega arith;
-  inside = omega arith;
-  few = omega arith;
-  count = omega arith;
-  last = refl;
-}
-
-module _ {s : Bytes} {h : Head} {key : Bytes} {n a e stage k : ℕ} (i : Keying s h key n a e stage k) where
-  pub keying-end : elements s h stage k ≡ [] → IsKey s key (record { n = n; from = a; to = e })
-  unfolding count_of last_from
-  keying-end z = record {
-    ahead = i.ahead;
-    within = i.inside;
-    count = let c : count_of key (elements s h stage k) ≡ 0 = ap (count_of key) z in omega (arith, i.count, c);
-    last = sym (i.last ∙ ap (last_from key (part a e s)) z);
-  }
-
-  module _ {from to then next : ℕ} (w : IsElement s h stage k from to then next) where
-    -- there are not too many words to count
-    pub keying-few : n < length s
-    keying-few = omega (arith, i.few, ap length w.here, exchanged-few (words s), words-few s)
-
-    pub keying-more : starts key (part from to s) ≡ true → Keying s h key (n + 1) from to next then
-    unfolding count_of last_from
-    keying-more z = record {
-      head = i.head;
-      within = w.onward;
-      ahead = w.ahead;
-      inside = w.within;
-      few = omega (arith, i.few, ap length w.here);
-      count = let c : count_of key (elements s h stage k) ≡ suc (count_of key (elements s h next then)) = ap (count_of key) w.here ∙ rw z in omega (arith, i.count, c);
-      last = i.last ∙ ap (last_from key (part a e s)) w.here ∙ ap (λ (b : Bool). last_from key (cond b (part from to s) (part a e s)) (elements s h next then)) z;
-    }
-
-    pub keying-next : starts key (part from to s) ≡ false → Keying s h key n a e next then
-    unfolding count_of last_from
-    keying-next z = record {
-      head = i.head;
-      within = w.onward;
-      ahead = i.ahead;
-      inside = i.inside;
-      few = omega (arith, i.few, ap length w.here);
-      count = let c : count_of key (elements s h stage k) ≡ count_of key (elements s h next then) = ap (count_of key) w.here ∙ rw z in omega (arith, i.count, c);
-      last = i.last ∙ ap (last_from key (part a e s)) w.here ∙ ap (λ (b : Bool). last_from key (cond b (part from to s) (part a e s)) (elements s h next then)) z;
-    }

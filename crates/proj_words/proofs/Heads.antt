@@ -1,28 +1,18 @@
 -- The exchanged words of a step, one by one: the search for `proj=`, the head, and the walk.
-use mathlib.Core.Path.{◌≡◌, refl, sym, ap, ◌∙◌, subst}
-use mathlib.Core.Bool.{Bool, true, false, cond, ◌||◌, false≢true, or-false, or-true}
-use mathlib.Core.List.{[], ◌∷◌}
-use Prim.Native.Nat.{ℕ, ◌+◌, ◌-◌, ◌≤◌}
-use native.Mathlib.Omega.{arith}
-use borrow.Author.Tests.{ne_eqb}
-use lib.ListN.{length, take, drop, length-drop}
-use lib.Seq.{drop-drop, take-add, drop_at, length-take-le}
-use lib.Dec.{eqb}
+use Rattle.std.proofs.Common.{◌≡◌, refl, subst, sym, ap, ◌∙◌, Bool, true, false, cond, ◌&&◌, ◌||◌, [], ◌∷◌, ◌≤◌, length, drop, Option, None, Some, MatchOption, is_some, Bor}
+use Rattle.std.proofs.lemmas.Bool.{false≢true}
+use mathlib.Core.Bool.{or-false, or-true}
 use Rattle.rules.specs.Text.Ascii.{ascii}
-use Rattle.rules.specs.Text.Lists.{any_of, non_empty}
-use Rattle.rules.specs.Text.Bytes.{Bytes, Words, same, starts, words}
+use Rattle.rules.specs.Text.Lists.{any_of}
+use Rattle.rules.specs.Text.Bytes.{Bytes, Words, same, starts}
 use Rattle.rules.specs.Proj.Words.{is_proj, first_proj, in_its_place, exchanged}
 use Rattle.rules.specs.Proj.Translate.{init_first, is_pipeline}
-use Rattle.rules.specs.Text.Reader.{part}
-use Rattle.text.proofs.RunEnd.{length_part}
-use Rattle.proj_words.specs.Words.{IsWord}
-use Rattle.proj_words.proofs.Words.{word-first, word-within}
 use Rattle.laws_proj.specs.Tests.{starts_other, starts-long}
-use Rattle.proj_words.specs.Heads.{IsFirst, elements, IsHead, IsElement, is_found, FoundElement}
+use Rattle.proj_words.specs.Words.{left}
+use Rattle.proj_words.specs.Heads.{FoundProj, IsProj, IsFirst, in_front, in_place, IsMoved, coming}
 use Rattle.proj_words.specs.declared.exchange.First.{First}
-use Rattle.proj_words.specs.declared.exchange.Head.{Head}
-use Rattle.proj_words.specs.declared.exchange.Element.{Element}
-use Rattle.proj_words.specs.declared.exchange.Element.TheVariants.{At, End}
+use Rattle.proj_words.specs.declared.exchange.Exchanged.{Exchanged}
+use Rattle.std.specs.Iterator.{YieldsFirstRef}
 
 -- ---- keys
 
@@ -34,212 +24,150 @@ proj-long : (w : Bytes) → is_proj w ≡ true → 5 ≤ length w
 unfolding is_proj ascii
 proj-long w e = starts-long (ascii "proj=") w e
 
-first-is : (ws : Words) → any_of is_proj ws ≡ true → is_proj (first_proj ws) ≡ true
-unfolding any_of first_proj
-first-is [] e = absurd (false≢true e)
-first-is (w ∷ ws) e = go (is_proj w) refl e (first-is ws)
-  where
-    go : (b : Bool) → is_proj w ≡ b → (b || any_of is_proj ws) ≡ true → (any_of is_proj ws ≡ true → is_proj (first_proj ws) ≡ true) → is_proj (cond b w (first_proj ws)) ≡ true
-    go true f g h = f
-    go false f g h = h g
-
 -- ---- the first `proj=`
 
--- none stands before k, and whether `init=` does
-pub record Seeking (s : Bytes) (k : ℕ) (init : Bool) : Type 0 where
-  pub within : k ≤ length s
-  pub inits : init_first (words s) ≡ (init || init_first (words (drop k s)))
-  pub some : any_of is_proj (words s) ≡ any_of is_proj (words (drop k s))
-  pub first : first_proj (words s) ≡ first_proj (words (drop k s))
+-- of the words, `rest` are left: none before them is a `proj=`, and whether `init=` is among those
+pub record Seeking (ws rest : Words) (init : Bool) : Type 0 where
+  pub inits : init_first ws ≡ (init || init_first rest)
+  pub some : any_of is_proj ws ≡ any_of is_proj rest
+  pub first : first_proj ws ≡ first_proj rest
 
-pub seeking-start : (s : Bytes) → Seeking s 0 false
-seeking-start s = record { within = omega arith; inits = refl; some = refl; first = refl }
+pub seeking-start : (ws : Words) → Seeking ws ws false
+seeking-start ws = record { inits = refl; some = refl; first = refl }
 
-module _ {s : Bytes} {k : ℕ} {init : Bool} (m : Seeking s k init) where
-  pub seek-none : words (drop k s) ≡ [] → IsFirst s (record { init = init; found = false; from = 0; to = 0 })
-  unfolding any_of first_proj init_first
-  seek-none e = record {
-    ahead = omega arith;
-    within = omega arith;
-    init = sym (m.inits ∙ ap (λ (ws : Words). init || init_first ws) e ∙ or-false init);
-    found = sym (m.some ∙ ap (any_of is_proj) e);
-    here = sym (m.first ∙ ap first_proj e);
-  }
+module _ {ws rest : Words} {init : Bool} (m : Seeking ws rest init) where
+  pub seek-none : rest ≡ [] → IsFirst ws (record { init = init; proj = None })
+  unfolding any_of init_first FoundProj
+  seek-none e = record { init = sym (m.inits ∙ rw e (or-false init)); proj = m.some ∙ rw e refl }
 
-  module _ {from to : ℕ} (w : IsWord s k from to) where
-    pub seek_found : is_proj (part from to s) ≡ true → IsFirst s (record { init = init; found = true; from = from; to = to })
-    unfolding any_of first_proj init_first
-    seek_found e = record {
-      ahead = w.body.ahead;
-      within = word-within w;
-      init = sym (m.inits ∙ rw (word-first w, proj-no-init (part from to s) e, e) (or-false init));
-      found = sym (m.some ∙ rw (word-first w, e));
-      here = sym (m.first ∙ rw (word-first w, e));
+  module _ (w : Bor Bytes) {more : Words} (e : rest ≡ w.now ∷ more) where
+    pub seek_found : is_proj w.now ≡ true → IsFirst ws (record { init = init; proj = Some w })
+    unfolding any_of first_proj init_first FoundProj
+    seek_found f = record {
+      init = sym (m.inits ∙ rw (e, proj-no-init w.now f, f) (or-false init));
+      proj = record { is = f; some = m.some ∙ rw (e, f); first = m.first ∙ rw (e, f) };
     }
 
-    pub seek-init : is_proj (part from to s) ≡ false → starts (ascii "init=") (part from to s) ≡ true → Seeking s to true
+    pub seek-init : is_proj w.now ≡ false → starts (ascii "init=") w.now ≡ true → Seeking ws more true
     unfolding any_of first_proj init_first
-    seek-init e f = record {
-      within = word-within w;
-      inits = m.inits ∙ rw (word-first w, f) (or-true init);
-      some = m.some ∙ rw (word-first w, e);
-      first = m.first ∙ rw (word-first w, e);
-    }
+    seek-init f g = record { inits = m.inits ∙ rw (e, g) (or-true init); some = m.some ∙ rw (e, f); first = m.first ∙ rw (e, f) }
 
-    pub seek-on : is_proj (part from to s) ≡ false → starts (ascii "init=") (part from to s) ≡ false → Seeking s to init
+    pub seek-on : is_proj w.now ≡ false → starts (ascii "init=") w.now ≡ false → Seeking ws more init
     unfolding any_of first_proj init_first
-    seek-on e f = record {
-      within = word-within w;
-      inits = m.inits ∙ rw (word-first w, f, e);
-      some = m.some ∙ rw (word-first w, e);
-      first = m.first ∙ rw (word-first w, e);
-    }
+    seek-on f g = record { inits = m.inits ∙ rw (e, g, f); some = m.some ∙ rw (e, f); first = m.first ∙ rw (e, f) }
 
 -- ---- the head
 
--- a part without its first bytes
-pub part-less : (s : Bytes) (from to n : ℕ) → from + n ≤ to → to ≤ length s → part (from + n) to s ≡ drop n (part from to s)
-part-less s from to n h l =
-    let e : to - from ≡ n + (to - (from + n)) = omega arith in
-    let g : n ≤ length (drop from s) = omega (arith, length-drop from s) in
-    sym (ap (λ (j : ℕ). drop n (take j (drop from s))) e ∙ ap (drop n) (take-add n (to - (from + n)) (drop from s))
-    ∙ drop_at (take n (drop from s)) (take (to - (from + n)) (drop n (drop from s))) n (length-take-le n (drop from s) g)
-    ∙ ap (take (to - (from + n))) (drop-drop n from s))
+-- the first word, and those behind it
+abbrev Opened : Words → Option (Bor Bytes) → Words → Type 0
+Opened ws r rest = MatchOption r ((ws ≡ []) × (rest ≡ [])) (λ x. ws ≡ x.now ∷ rest)
 
-module _ {s : Bytes} {f : First} (m : IsFirst s f) where
-  pub head-pipeline : {b : Bool} → b ≡ same (part f.from f.to s) (ascii "proj=pipeline") → b ≡ is_pipeline (words s)
-  unfolding is_pipeline
-  head-pipeline e = e ∙ ap (λ (w : Bytes). same w (ascii "proj=pipeline")) m.here
+-- where there is no `proj=`
+first-none : (ws : Words) → any_of is_proj ws ≡ false → first_proj ws ≡ []
+unfolding first_proj any_of
+first-none [] h = refl
+first-none (w ∷ ws) h = go (is_proj w) refl h (first-none ws)
+  where
+    go : (b : Bool) → is_proj w ≡ b → (b || any_of is_proj ws) ≡ false → (any_of is_proj ws ≡ false → first_proj ws ≡ []) → cond b w (first_proj ws) ≡ []
+    go true g i k = absurd (false≢true (sym i))
+    go false g i k = k i
 
-  -- a step has a word
-  pub head-none : {h : Head} → non_empty (words s) ≡ true → words (drop 0 s) ≡ [] → IsHead s h
-  unfolding non_empty
-  head-none e n = absurd (false≢true (sym (ap non_empty n) ∙ e))
+stays : (w : Bytes) (ws : Words) → any_of is_proj (w ∷ ws) ≡ false → w ∷ ws ≡ exchanged (w ∷ ws)
+unfolding exchanged any_of
+stays w ws h = go (is_proj w) refl h
+  where
+    go : (b : Bool) → is_proj w ≡ b → (b || any_of is_proj ws) ≡ false
+        → w ∷ ws ≡ cond b (drop 5 w ∷ ws) (cond (any_of is_proj ws) (drop 5 (first_proj ws) ∷ in_its_place w ws) (w ∷ ws))
+    go true g i = absurd (false≢true (sym i))
+    go false g i = sym (rw i)
 
-  module _ {from to : ℕ} {pipeline : Bool} (w : IsWord s 0 from to) (p : pipeline ≡ is_pipeline (words s)) where
-    -- `proj=` is in front
-    pub proj-room : is_proj (part from to s) ≡ true → from + 5 ≤ to
-    proj-room e = omega (arith, proj-long (part from to s) e, length_part s from to w.body.ahead (word-within w), w.longer)
+-- where there is one
+changes : (x : Bor Bytes) (q : Option (Bor Bytes)) (ws : Words) (p : Bytes) → IsProj (x.now ∷ ws) p → IsMoved (Some x) q → drop 5 p ∷ in_place q ws ≡ exchanged (x.now ∷ ws)
+unfolding exchanged any_of first_proj IsMoved
+changes x q ws p m i = go (is_proj x.now) refl m.some m.first i
+  where
+    go : (b : Bool) → is_proj x.now ≡ b → (b || any_of is_proj ws) ≡ true → cond b x.now (first_proj ws) ≡ p → q ≡ cond b None (Some x)
+        → drop 5 p ∷ in_place q ws ≡ cond b (drop 5 x.now ∷ ws) (cond (any_of is_proj ws) (drop 5 (first_proj ws) ∷ in_its_place x.now ws) (x.now ∷ ws))
+    go true g h e j = rw (j, ← e)
+    go false g h e j = rw (j, ← e, h)
 
-    pub head-front : is_proj (part from to s) ≡ true
-        → IsHead s (record { start = from; stop = to; value = from + 5; ends = to; stage = 2; init = f.init; pipeline = pipeline })
-    unfolding exchanged elements
-    head-front e = record {
-      start-ahead = w.body.ahead;
-      start-within = word-within w;
-      value-ahead = proj-room e;
-      value-within = word-within w;
-      init = m.init;
-      pipeline = p;
-      here = ap exchanged (word-first w) ∙ rw (e, part-less s from to 5 (proj-room e) (word-within w));
-    }
+module _ {ws : Words} {f : First} (m : IsFirst ws f) where
+  module _ (e : f.proj ≡ None) where
+    none-found : any_of is_proj ws ≡ false
+    none-found = subst (FoundProj ws) e m.proj
 
-    -- it is another word
-    later : is_proj (part from to s) ≡ false → f.found ≡ true → any_of is_proj (words (drop to s)) ≡ true
+    pub pipeline-none : false ≡ is_pipeline ws
+    unfolding is_pipeline same ascii
+    pipeline-none = sym (rw (first-none ws none-found))
+
+    pub head-without : (r : Option (Bor Bytes)) (rest : Words) → Opened ws r rest → in_front r rest ≡ exchanged ws
+    unfolding exchanged
+    head-without None rest o = rw (o.0, o.1)
+    head-without (Some x) rest o = sym o ∙ rw o (stays x.now rest (rw o at none-found))
+
+  module _ {w : Bor Bytes} (e : f.proj ≡ Some w) where
+    found : IsProj ws w.now
+    found = subst (FoundProj ws) e m.proj
+
+    pub proj-room : 5 ≤ length w.now
+    proj-room = proj-long w.now found.is
+
+    pub pipeline-some : {b : Bool} → b ≡ same w.now (ascii "proj=pipeline") → b ≡ is_pipeline ws
+    unfolding is_pipeline
+    pipeline-some h = h ∙ ap (λ (t : Bytes). same t (ascii "proj=pipeline")) (sym found.first)
+
+    pub head-with : (r q : Option (Bor Bytes)) (rest : Words) → Opened ws r rest → IsMoved r q → drop 5 w.now ∷ in_place q rest ≡ exchanged ws
     unfolding any_of
-    later e g = sym (ap (any_of is_proj) (word-first w) ∙ rw e) ∙ sym m.found ∙ g
-
-    later_first : is_proj (part from to s) ≡ false → first_proj (words (drop to s)) ≡ part f.from f.to s
-    unfolding first_proj
-    later_first e = sym (ap first_proj (word-first w) ∙ rw e) ∙ sym m.here
-
-    pub later-room : is_proj (part from to s) ≡ false → f.found ≡ true → f.from + 5 ≤ f.to
-    later-room e g =
-        let q : is_proj (part f.from f.to s) ≡ true = ap is_proj (sym (later_first e)) ∙ first-is (words (drop to s)) (later e g) in
-        omega (arith, proj-long (part f.from f.to s) q, length_part s f.from f.to m.ahead m.within, m.ahead)
-
-    pub head-later : is_proj (part from to s) ≡ false → f.found ≡ true
-        → IsHead s (record { start = from; stop = to; value = f.from + 5; ends = f.to; stage = 1; init = f.init; pipeline = pipeline })
-    unfolding exchanged elements
-    head-later e g = record {
-      start-ahead = w.body.ahead;
-      start-within = word-within w;
-      value-ahead = later-room e g;
-      value-within = m.within;
-      init = m.init;
-      pipeline = p;
-      here = ap exchanged (word-first w) ∙ rw (e, later e g, later_first e, part-less s f.from f.to 5 (later-room e g) m.within);
-    }
-
-    -- there is none
-    nowhere : is_proj (part from to s) ≡ false → f.found ≡ false → any_of is_proj (words (drop to s)) ≡ false
-    unfolding any_of
-    nowhere e g = sym (ap (any_of is_proj) (word-first w) ∙ rw e) ∙ sym m.found ∙ g
-
-    pub head-without : is_proj (part from to s) ≡ false → f.found ≡ false
-        → IsHead s (record { start = from; stop = to; value = from; ends = to; stage = 2; init = f.init; pipeline = pipeline })
-    unfolding exchanged elements
-    head-without e g = record {
-      start-ahead = w.body.ahead;
-      start-within = word-within w;
-      value-ahead = w.body.ahead;
-      value-within = word-within w;
-      init = m.init;
-      pipeline = p;
-      here = ap exchanged (word-first w) ∙ rw (e, nowhere e g);
-    }
+    head-with None q rest o i = absurd (false≢true (rw o.0 at found.some))
+    head-with (Some x) q rest o i = rw o (changes x q rest w.now (rw o at found) i)
 
 -- ---- the walk
 
-pub element-at : {s : Bytes} {h : Head} {stage k from to then next : ℕ} {r : Element} → FoundElement s h stage k r → r ≡ At from to then next → IsElement s h stage k from to then next
-unfolding is_found
-element-at {s} {h} {stage} {k} f e = subst (is_found s h stage k) e f.found
+module _ (e n : Exchanged) (z : n.front ≡ None) where
+  -- what stands in front
+  pub coming-front : {w : Bor Bytes} → Some w ≡ e.front → n.moved ≡ e.moved → n.words ≡ e.words → coming e ≡ w.now ∷ coming n
+  unfolding coming
+  coming-front f g h = rw (← f, z, g, h)
 
-pub element-none : {s : Bytes} {h : Head} {stage k : ℕ} {r : Element} → FoundElement s h stage k r → r ≡ End → elements s h stage k ≡ []
-unfolding is_found
-element-none {s} {h} {stage} {k} f e = subst (is_found s h stage k) e f.found
-
-module _ {s : Bytes} {h : Head} (m : IsHead s h) {stage k : ℕ} where
-  pub walk_first : stage ≡ 0 → FoundElement s h stage k (At h.value h.ends h.stop h.stage)
-  unfolding is_found elements
-  walk_first z = record {
-    found = record {
-      ahead = m.value-ahead;
-      within = m.value-within;
-      onward = m.start-within;
-      here = rw z m.here;
-    };
-  }
-
-  module _ (n : stage ≡ 0 → ⊥) where
-    pub walk_end : words (drop k s) ≡ [] → FoundElement s h stage k End
-    unfolding is_found elements in_its_place
-    walk_end e = record { found = rw (ne_eqb stage 0 n, e) (go (eqb stage 1)) }
+  module _ (f : e.front ≡ None) where
+    -- nothing
+    pub coming-none : n.moved ≡ e.moved → (left e.words ≡ []) × (left n.words ≡ []) → (coming e ≡ []) × (coming n ≡ [])
+    unfolding coming
+    coming-none g h = (rw (f, h.0) (empty e.moved), rw (z, g, h.1) (empty e.moved))
       where
-        go : (b : Bool) → ◌≡◌ {A = Words} (cond b [] []) []
-        go true = refl
-        go false = refl
+        empty : (o : Option (Bor Bytes)) → in_place o [] ≡ []
+        empty (Some v) = unfold in_its_place in refl
+        empty None = refl
 
-    module _ {from to : ℕ} (w : IsWord s k from to) where
-      pub walk-place : stage ≡ 1 → is_proj (part from to s) ≡ true → FoundElement s h stage k (At h.start h.stop to 2)
-      unfolding is_found elements in_its_place
-      walk-place z e = record {
-        found = record {
-          ahead = m.start-ahead;
-          within = m.start-within;
-          onward = word-within w;
-          here = rw (z, word-first w, e);
-        };
-      }
+    module _ {w : Bytes} (h : left e.words ≡ w ∷ left n.words) where
+      -- the first word in the place of `proj=`
+      pub coming-place : is_some e.moved ≡ true → is_proj w ≡ true → n.moved ≡ None → YieldsFirstRef coming e e.moved n
+      unfolding coming
+      coming-place s p g = rw (f, z, g, h) (given e.moved s)
+        where
+          given : (o : Option (Bor Bytes)) → is_some o ≡ true → MatchOption o ((in_place o (w ∷ left n.words) ≡ []) × (left n.words ≡ [])) (λ x. in_place o (w ∷ left n.words) ≡ x.now ∷ left n.words)
+          given (Some v) t = unfold in_its_place in rw p
+          given None t = absurd (false≢true t)
 
-      pub walk_before : stage ≡ 1 → is_proj (part from to s) ≡ false → FoundElement s h stage k (At from to to 1)
-      unfolding is_found elements in_its_place
-      walk_before z e = record {
-        found = record {
-          ahead = w.body.ahead;
-          within = word-within w;
-          onward = word-within w;
-          here = rw (z, word-first w, e);
-        };
-      }
+      -- a word as it is
+      pub coming-word : (is_some e.moved && is_proj w) ≡ false → n.moved ≡ e.moved → coming e ≡ w ∷ coming n
+      unfolding coming
+      coming-word p g = rw (f, z, g, h) (kept e.moved p)
+        where
+          kept : (o : Option (Bor Bytes)) → (is_some o && is_proj w) ≡ false → in_place o (w ∷ left n.words) ≡ w ∷ in_place o (left n.words)
+          kept (Some v) t = unfold in_its_place in rw t
+          kept None t = refl
 
-      pub walk-word : (stage ≡ 1 → ⊥) → FoundElement s h stage k (At from to to stage)
-      unfolding is_found elements
-      walk-word o = record {
-        found = record {
-          ahead = w.body.ahead;
-          within = word-within w;
-          onward = word-within w;
-          here = rw (ne_eqb stage 0 n, ne_eqb stage 1 o) (word-first w);
-        };
-      }
+-- the first word changes places, or not
+module _ {o : Option (Bor Bytes)} {w : Bor Bytes} (e : o ≡ Some w) where
+  pub moved-front : is_proj w.now ≡ true → IsMoved o None
+  unfolding IsMoved
+  moved-front h = rw (e, h)
+
+  pub moved-first : is_proj w.now ≡ false → IsMoved o (Some w)
+  unfolding IsMoved
+  moved-first h = rw (e, h)
+
+pub moved-none : {o r : Option (Bor Bytes)} → o ≡ None → r ≡ None → IsMoved o r
+unfolding IsMoved
+moved-none e f = rw (e, f)

@@ -1,4 +1,5 @@
 -- The steps of a PROJ text, one by one: the pieces between the `step` words, and their laws.
+use Rattle.std.specs.Prelude.{Option, None, Some}
 use mathlib.Core.Path.{◌≡◌, refl, sym, ap, ◌∙◌, subst}
 use mathlib.Core.Bool.{Bool, true, false, cond, ◌&&◌, false≢true}
 use mathlib.Core.List.{[], ◌∷◌, ◌++◌, append-nil, append_assoc}
@@ -11,10 +12,9 @@ use lib.Dec.{ltb}
 use Rattle.rules.specs.Text.Lists.{kept, non_empty}
 use Rattle.rules.specs.Text.Bytes.{Bytes, Words, Steps, onto, words}
 use Rattle.rules.specs.Proj.Words.{is_step, cut_at_step, without_noise}
-use Rattle.rules.specs.Text.Reader.{part}
+use Rattle.rules.specs.Text.Reader.{part, step_then}
 use Rattle.rules.specs.declared.Cursor.{Cursor}
 use Rattle.rules.specs.declared.Found.{Found}
-use Rattle.rules.specs.declared.Found.TheVariants.{Step, End}
 use Rattle.laws_text.specs.Passes.{in_word, words-nil}
 use Rattle.text.proofs.Lead.{one_word}
 use Rattle.proj_words.specs.Words.{IsWord}
@@ -154,15 +154,15 @@ begins-alone n from to end h = rw (le-ltb to end h)
 
 -- ---- a step
 
-pub step-at : {n : Bytes} {place from to : ℕ} {then : Cursor} {r : Found} → FoundStep n place r → r ≡ Step from to then → IsStep n place from to then.at
+pub step-at : {n : Bytes} {place from to : ℕ} {then : Cursor} {r : Option Found} → FoundStep n place r → r ≡ step_then from to then → IsStep n place from to then.at
 unfolding is_found
 step-at {n} {place} f e = subst (is_found n place) e f.found
 
-pub step-none : {n : Bytes} {place : ℕ} {r : Found} → FoundStep n place r → r ≡ End → steps_from n place ≡ []
+pub step-none : {n : Bytes} {place : ℕ} {r : Option Found} → FoundStep n place r → r ≡ None → steps_from n place ≡ []
 unfolding is_found
 step-none {n} {place} f e = subst (is_found n place) e f.found
 
-pub walk_none : {n : Bytes} {place start : ℕ} → IsStart n place start → words (drop start n) ≡ [] → FoundStep n place End
+pub walk_none : {n : Bytes} {place start : ℕ} → IsStart n place start → words (drop start n) ≡ [] → FoundStep n place None
 unfolding is_found steps_in cut_at_step kept without_noise non_empty
 walk_none {n} {place} {start} b e = record { found = b.same ∙ rw e }
 
@@ -215,7 +215,7 @@ module _ {n : Bytes} {place start from to : ℕ} {p : Piece} (b : IsStart n plac
       go true = q.ahead
       go false = omega (arith, q.ahead, w.longer)
 
-  pub walk_step : {r : ℕ} → r ≡ beginning n from to p.end → FoundStep n place (Step r p.end (record { at = p.then }))
+  pub walk_step : {r : ℕ} → r ≡ beginning n from to p.end → FoundStep n place (step_then r p.end (record { at = p.then }))
   unfolding is_found
   walk_step {r} e =
       let z : words (part r p.end n) ≡ without_noise (part from to n ∷ words (part to p.end n)) = ap (λ (j : ℕ). words (part j p.end n)) e ∙ begun in

@@ -3,15 +3,15 @@ use mathlib.Core.Path.{◌≡◌, refl, sym, ap, ◌∙◌}
 use mathlib.Core.Bool.{Bool, true, false, cond, ◌&&◌, ◌||◌, false≢true}
 use mathlib.Core.List.{[], ◌∷◌}
 use Prim.Native.Nat.{ℕ, ◌+◌, ◌≤◌, ◌<◌}
-use native.Mathlib.Omega.{arith}
 use borrow.Author.Tests.{eqb-true}
+use Rattle.std.proofs.Common.{◌-◌, take}
+use Rattle.std.proofs.lemmas.List.{take_rest}
 use lib.Dec.{eqb}
-use lib.ListN.{length, drop, get_or, set, length-drop, drop_of_length-le}
+use lib.ListN.{length, drop, set}
 use Rattle.rules.specs.Text.Ascii.{ascii}
 use Rattle.rules.specs.Text.Bytes.{Bytes, starts, replace_from, replace}
 use Rattle.text.specs.Wrote.{Wrote}
-use Rattle.text.proofs.Wrote.{Sofar, sofar-start, sofar-byte, sofar-byte-room, sofar-end, sofar-length, drop-next}
-use Rattle.text.proofs.Finds.{starts-length}
+use Rattle.text.proofs.Wrote.{Sofar, sofar-start, sofar-byte, sofar-byte-room, sofar-end, sofar-length}
 use Rattle.proj_words.specs.Clean.{gap, signless}
 
 -- ---- at a byte
@@ -100,70 +100,45 @@ gap-none x t g = rw (signless-is (x ∷ t), signless-is t) (go (eqb x 32) (eqb x
 
 -- ---- the loop
 
-pub record Signing (src dst₀ : Bytes) (i o : ℕ) (dst : Bytes) : Type 0 where
-  pub within : i ≤ length src
-  pub sofar : Sofar (signless src) (signless (drop i src)) dst₀ o dst
+-- a text is written, but for what `rest` gives
+pub record Signing (src dst₀ rest : Bytes) (o : ℕ) (dst : Bytes) : Type 0 where
+  pub sofar : Sofar (signless src) (signless rest) dst₀ o dst
 
-pub signing-start : {src dst : Bytes} → length (signless src) ≤ length dst → Signing src dst 0 0 dst
-signing-start h = record { within = omega arith; sofar = sofar-start _ _ h }
+pub signing-start : {src dst : Bytes} → length (signless src) ≤ length dst → Signing src dst src 0 dst
+signing-start h = record { sofar = sofar-start _ _ h }
 
-module _ {src dst₀ : Bytes} {i o : ℕ} {dst : Bytes} (m : Signing src dst₀ i o dst) (h : i < length src) where
-  -- a sign follows
-  module _ (g : gap (get_or src i 0) ≡ true) (e : starts (43 ∷ []) (drop (i + 1) src) ≡ true) where
-    pub signing-fits : i + 2 ≤ length src
-    signing-fits = omega (arith, simp length-drop at (starts-length (43 ∷ []) (drop (i + 1) src) e))
+-- a byte, and what is left
+module _ {src dst₀ rest : Bytes} (more : Bytes) {o v : ℕ} {dst : Bytes} (m : Signing src dst₀ rest o dst) (e : signless rest ≡ v ∷ signless more) where
+  byte : Sofar (signless src) (v ∷ signless more) dst₀ o dst
+  byte = rw e at m.sofar
 
-    sign : drop (i + 1) src ≡ 43 ∷ drop (i + 2) src
-    unfolding starts
-    sign =
-        let l : i + 1 < length src = omega (arith, signing-fits) in
-        let k : i + 1 + 1 ≡ i + 2 = omega arith in
-        let n = drop-next src (i + 1) l in
-        let f = rw n at e in
-        n ∙ rw (eqb-true (get_or src (i + 1) 0) 43 (yes (eqb (get_or src (i + 1) 0) 43) f), k)
-      where
-        yes : (b : Bool) → b && true ≡ true → b ≡ true
-        yes true p = refl
-        yes false p = p
+  pub signing-room : (o < length dst) × (o < length dst₀)
+  signing-room = sofar-byte-room byte
 
-    signed : Sofar (signless src) (32 ∷ signless (drop (i + 2) src)) dst₀ o dst
-    signed = rw (drop-next src i h, sign, gap-plus (get_or src i 0) (drop (i + 2) src) g) at m.sofar
+  pub signing-byte : Signing src dst₀ more (o + 1) (set dst o v)
+  signing-byte = record { sofar = sofar-byte byte }
 
-    pub signing-sign-room : (o < length dst) × (o < length dst₀)
-    signing-sign-room = sofar-byte-room signed
+-- the byte at the front of what is left
+pub signless-sign : (x : ℕ) (t : Bytes) → gap x ≡ true → starts (43 ∷ []) t ≡ true → signless (x ∷ t) ≡ 32 ∷ signless (take (length t - 1) (drop 1 t))
+unfolding starts
+signless-sign x [] g e = absurd (false≢true e)
+signless-sign x (y ∷ t) g e = rw (eqb-true y 43 (yes (eqb y 43) e), take_rest (43 ∷ t) 1) (gap-plus x t g)
+  where
+    yes : (b : Bool) → b && true ≡ true → b ≡ true
+    yes true p = refl
+    yes false p = p
 
-    pub signing-sign : Signing src dst₀ (i + 2) (o + 1) (set dst o 32)
-    signing-sign = record { within = signing-fits; sofar = sofar-byte signed }
+pub signless-stays : (x : ℕ) (t : Bytes) → (gap x && starts (43 ∷ []) t) ≡ false → signless (x ∷ t) ≡ x ∷ signless t
+signless-stays x t h = go (gap x) refl h
+  where
+    go : (b : Bool) → gap x ≡ b → (b && starts (43 ∷ []) t) ≡ false → signless (x ∷ t) ≡ x ∷ signless t
+    go true g i = gap-alone x t g i
+    go false g i = gap-none x t g
 
-  -- the byte stays
-  module _ (e : signless (get_or src i 0 ∷ drop (i + 1) src) ≡ get_or src i 0 ∷ signless (drop (i + 1) src)) where
-    stays : Sofar (signless src) (get_or src i 0 ∷ signless (drop (i + 1) src)) dst₀ o dst
-    stays = rw (drop-next src i h, e) at m.sofar
-
-    stay-room : (o < length dst) × (o < length dst₀)
-    stay-room = sofar-byte-room stays
-
-    stay : Signing src dst₀ (i + 1) (o + 1) (set dst o (get_or src i 0))
-    stay = record { within = omega arith; sofar = sofar-byte stays }
-
-  module _ (g : gap (get_or src i 0) ≡ true) (e : starts (43 ∷ []) (drop (i + 1) src) ≡ false) where
-    pub signing-gap-room : (o < length dst) × (o < length dst₀)
-    signing-gap-room = stay-room (gap-alone (get_or src i 0) (drop (i + 1) src) g e)
-
-    pub signing-gap : Signing src dst₀ (i + 1) (o + 1) (set dst o (get_or src i 0))
-    signing-gap = stay (gap-alone (get_or src i 0) (drop (i + 1) src) g e)
-
-  module _ (g : gap (get_or src i 0) ≡ false) where
-    pub signing-byte-room : (o < length dst) × (o < length dst₀)
-    signing-byte-room = stay-room (gap-none (get_or src i 0) (drop (i + 1) src) g)
-
-    pub signing-byte : Signing src dst₀ (i + 1) (o + 1) (set dst o (get_or src i 0))
-    signing-byte = stay (gap-none (get_or src i 0) (drop (i + 1) src) g)
-
-module _ {src dst₀ : Bytes} {i o : ℕ} {dst : Bytes} (m : Signing src dst₀ i o dst) where
+module _ {src dst₀ rest : Bytes} {o : ℕ} {dst : Bytes} (m : Signing src dst₀ rest o dst) where
   pub signing-length : length dst ≡ length dst₀
   signing-length = sofar-length m.sofar
 
-  pub signing_end : length src ≤ i → Wrote (signless src) dst₀ o dst
+  pub signing_end : rest ≡ [] → Wrote (signless src) dst₀ o dst
   unfolding signless replace replace_from
-  signing_end h = sofar-end (rw (drop_of_length-le src h) at m.sofar)
+  signing_end h = sofar-end (rw h at m.sofar)

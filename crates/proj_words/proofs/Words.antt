@@ -1,37 +1,21 @@
 -- The words of a text, one by one: what a found word tells.
-use mathlib.Core.Path.{◌≡◌, sym, ap, ◌∙◌, subst}
+use mathlib.Core.Path.{◌≡◌, sym, ap, ◌∙◌}
 use mathlib.Core.Bool.{false}
 use mathlib.Core.List.{[], ◌∷◌, ◌++◌}
 use Prim.Native.Nat.{ℕ, ◌-◌, ◌≤◌, ◌<◌}
 use native.Mathlib.Decide.{dec_le}
 use native.Mathlib.Omega.{arith}
 use lib.ListN.{length, take, drop}
-use Rattle.rules.specs.Text.Bytes.{Bytes, white, words}
+use Rattle.rules.specs.Text.Bytes.{Bytes, words}
 use Rattle.rules.specs.Text.Reader.{part}
 use Rattle.laws_text.specs.Passes.{in_word, words_append, words-nil}
-use Rattle.text.specs.Runs.{Run}
-use Rattle.text.proofs.RunEnd.{drop-next, other}
-use Rattle.text.proofs.Lead.{word-there, none_left, word-edge, one_word, part-some, part_join, words-white}
-use Rattle.proj_words.specs.Words.{IsWord, is_found, FoundWord}
-use Rattle.proj_words.specs.declared.walk.Word.{Word}
-use Rattle.proj_words.specs.declared.walk.Word.TheVariants.{At, End}
-
-pub found_at : {s : Bytes} {k a e : ℕ} → Run white s k a → Run (other white) s a e → a < e → FoundWord s k (At a e)
-unfolding is_found
-found_at p q h = record { found = record { gap = p; body = q; longer = h } }
-
-pub found_none : {s : Bytes} {k a e : ℕ} → Run white s k a → Run (other white) s a e → e ≤ a → FoundWord s k End
-unfolding is_found
-found_none p q h = record { found = none_left p q h }
-
--- by what was found
-pub word_at : {s : Bytes} {k from to : ℕ} {r : Word} → FoundWord s k r → r ≡ At from to → IsWord s k from to
-unfolding is_found
-word_at {s} {k} f e = subst (is_found s k) e f.found
-
-pub word_none : {s : Bytes} {k : ℕ} {r : Word} → FoundWord s k r → r ≡ End → words (drop k s) ≡ []
-unfolding is_found
-word_none {s} {k} f e = subst (is_found s k) e f.found
+use Rattle.text.proofs.RunEnd.{drop-next}
+use Rattle.text.proofs.Lead.{word-there, word-edge, one_word, part-some, part_join, words-white}
+use Rattle.std.proofs.Common.{List, Option, Some, None, Bor, rules}
+use Rattle.std.proofs.lemmas.List.{take_rest}
+use Rattle.std.specs.Iterator.{YieldsFirstRef, MakesProgress, item_count}
+use Rattle.std.specs.declared.iter.Iterator.{can_next-default}
+use Rattle.proj_words.specs.Words.{IsWord}
 
 module _ {s : Bytes} {k from to : ℕ} (m : IsWord s k from to) where
   -- the word, and those behind it
@@ -53,6 +37,10 @@ module _ {s : Bytes} {k from to : ℕ} (m : IsWord s k from to) where
   word-alone =
       ap words (part_join s k from to m.gap.ahead m.body.ahead) ∙ words-white (part k from s) (part from to s) m.gap.whole ∙ one_word m.gap m.body m.longer
 
+-- the first word, and those of the rest of the text
+pub word-split : {s : Bytes} {from to : ℕ} → IsWord s 0 from to → words s ≡ part from to s ∷ words (take (length s - to) (drop to s))
+word-split {s} {from} {to} w = word-first w ∙ ap (λ (t : Bytes). part from to s ∷ words t) (sym (take_rest s to))
+
 -- a part behind a word does not go on with it
 pub behind-word : (s : Bytes) (k e : ℕ) → k ≤ e → e ≤ length s → in_word (drop k s) ≡ false → in_word (part k e s) ≡ false
 unfolding in_word
@@ -71,3 +59,11 @@ words-parts s k a e h l w i = ap words (part_join s k a e h l) ∙ words_append 
 -- an empty part
 pub words-empty : (s : Bytes) (k e : ℕ) → e ≤ k → words (part k e s) ≡ []
 words-empty s k e h = let z : e - k ≡ 0 = omega arith in ap (λ (j : ℕ). words (take j (drop k s))) z ∙ words-nil
+
+-- an iterator that yields the first of what is left comes to an end
+pub less : {S A B : Type 0} (rest : S → List B) (s t : S) (x : A) {y : B} → rest s ≡ y ∷ rest t → MakesProgress (can_next-default S A) (item_count rest) s (Some x) t
+less rest s t x e = let shorter = ap length e in search rules
+
+pub progress : {S A : Type 0} (rest : S → List A) (s t : S) (r : Option (Bor A)) → YieldsFirstRef rest s r t → MakesProgress (can_next-default S (Bor A)) (item_count rest) s r t
+progress rest s t (Some x) e = let shorter = ap length e in search rules
+progress rest s t None e = search rules

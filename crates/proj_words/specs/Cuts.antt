@@ -1,11 +1,10 @@
 -- The steps of a PROJ text, one by one.
-use Rattle.std.specs.Prelude.{◌≡◌, true, false, cond, ◌&&◌, [], ◌∷◌, map, ℕ, ◌≤◌, ◌<◌, length, drop, ltb}
+use Rattle.std.specs.Prelude.{◌≡◌, true, false, cond, ◌&&◌, [], ◌∷◌, map, ℕ, ◌≤◌, ◌<◌, length, drop, ltb, Option, None, Some}
 use Rattle.rules.specs.Text.Lists.{kept, non_empty}
 use Rattle.rules.specs.Text.Bytes.{Bytes, Steps, words}
 use Rattle.rules.specs.Proj.Words.{is_step, cut_at_step, without_noise}
 use Rattle.rules.specs.Text.Reader.{part}
 use Rattle.rules.specs.declared.Found.{Found}
-use Rattle.rules.specs.declared.Found.TheVariants.{Step, End}
 use Rattle.proj_words.specs.declared.walk.Piece.{Piece}
 
 -- the steps of pieces: without noise and without empty ones
@@ -47,9 +46,9 @@ pub record IsStep (n : Bytes) (place from to then : ℕ) : Type 0 where
   pub here : steps_from n place ≡ words (part from to n) ∷ steps_from n then
 
 -- what is found from a place on: the next step, or that there is none
-unfoldable pub is_found : Bytes → ℕ → Found → Type 0
-is_found n place (Step from to then) = IsStep n place from to then.at
-is_found n place End = steps_from n place ≡ []
+unfoldable pub is_found : Bytes → ℕ → Option Found → Type 0
+is_found n place (Some f) = IsStep n place f.from f.to f.then.at
+is_found n place None = steps_from n place ≡ []
 
-pub record FoundStep (n : Bytes) (place : ℕ) (r : Found) : Type 0 where
+pub record FoundStep (n : Bytes) (place : ℕ) (r : Option Found) : Type 0 where
   pub found : is_found n place r

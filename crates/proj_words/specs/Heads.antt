@@ -1,50 +1,52 @@
--- The exchanged words of a step as parts of its text.
-use Rattle.std.specs.Prelude.{◌≡◌, cond, [], ◌∷◌, ℕ, ◌≤◌, length, drop, eqb}
+-- The exchanged words of a step, one by one.
+use Rattle.std.specs.Prelude.{◌≡◌, true, false, cond, ◌∷◌, ◌<◌, ◌^◌, length, Option, None, Some}
+use denote.Ref.{Bor}
 use Rattle.rules.specs.Text.Lists.{any_of}
-use Rattle.rules.specs.Text.Bytes.{Bytes, Words, words}
+use Rattle.rules.specs.Text.Bytes.{Bytes, Words}
 use Rattle.rules.specs.Proj.Words.{is_proj, first_proj, in_its_place, exchanged}
 use Rattle.rules.specs.Proj.Translate.{init_first, is_pipeline}
-use Rattle.rules.specs.Text.Reader.{part}
+use Rattle.proj_words.specs.Words.{left}
 use Rattle.proj_words.specs.declared.exchange.First.{First}
+use Rattle.proj_words.specs.declared.exchange.Exchanged.{Exchanged}
 use Rattle.proj_words.specs.declared.exchange.Head.{Head}
-use Rattle.proj_words.specs.declared.exchange.Element.{Element}
-use Rattle.proj_words.specs.declared.exchange.Element.TheVariants.{At, End}
 
--- the first `proj=`
-pub record IsFirst (s : Bytes) (f : First) : Type 0 where
-  pub ahead : f.from ≤ f.to
-  pub within : f.to ≤ length s
-  pub init : f.init ≡ init_first (words s)
-  pub found : f.found ≡ any_of is_proj (words s)
-  pub here : part f.from f.to s ≡ first_proj (words s)
+-- the first `proj=` among words
+pub record IsProj (ws : Words) (w : Bytes) : Type 0 where
+  pub is : is_proj w ≡ true
+  pub some : any_of is_proj ws ≡ true
+  pub first : first_proj ws ≡ w
 
--- the exchanged words that are still to come, in a stage of the walk at k
-unfoldable pub elements : Bytes → Head → ℕ → ℕ → Words
-elements s h stage k =
-    cond (eqb stage 0) (exchanged (words s))
-    (cond (eqb stage 1) (in_its_place (part h.start h.stop s) (words (drop k s)))
-    (words (drop k s)))
+-- what is found: that, or that there is none
+abbrev pub FoundProj : Words → Option (Bor Bytes) → Type 0
+FoundProj ws (Some w) = IsProj ws w.now
+FoundProj ws None = any_of is_proj ws ≡ false
+
+pub record IsFirst (ws : Words) (f : First) : Type 0 where
+  pub init : f.init ≡ init_first ws
+  pub proj : FoundProj ws f.proj
+
+-- a word in front of others, if there is one
+abbrev pub in_front : Option (Bor Bytes) → Words → Words
+in_front (Some w) ws = w.now ∷ ws
+in_front None ws = ws
+
+-- others with a word in the place of the first `proj=`, if there is one
+abbrev pub in_place : Option (Bor Bytes) → Words → Words
+in_place (Some w) ws = in_its_place w.now ws
+in_place None ws = ws
+
+-- the exchanged words that are still to come
+unfoldable pub coming : Exchanged → Words
+coming e = in_front e.front (in_place e.moved (left e.words))
+
+-- the first word, if it has to change places
+unfoldable pub IsMoved : Option (Bor Bytes) → Option (Bor Bytes) → Type 0
+IsMoved (Some w) r = r ≡ cond (is_proj w.now) None (Some w)
+IsMoved None r = r ≡ None
 
 -- a step's head
-pub record IsHead (s : Bytes) (h : Head) : Type 0 where
-  pub start-ahead : h.start ≤ h.stop
-  pub start-within : h.stop ≤ length s
-  pub value-ahead : h.value ≤ h.ends
-  pub value-within : h.ends ≤ length s
-  pub init : h.init ≡ init_first (words s)
-  pub pipeline : h.pipeline ≡ is_pipeline (words s)
-  pub here : exchanged (words s) ≡ part h.value h.ends s ∷ elements s h h.stage h.stop
-
--- the next of the exchanged words, and those after it
-pub record IsElement (s : Bytes) (h : Head) (stage k from to then next : ℕ) : Type 0 where
-  pub ahead : from ≤ to
-  pub within : to ≤ length s
-  pub onward : then ≤ length s
-  pub here : elements s h stage k ≡ part from to s ∷ elements s h next then
-
-unfoldable pub is_found : Bytes → Head → ℕ → ℕ → Element → Type 0
-is_found s h stage k (At from to then next) = IsElement s h stage k from to then next
-is_found s h stage k End = elements s h stage k ≡ []
-
-pub record FoundElement (s : Bytes) (h : Head) (stage k : ℕ) (r : Element) : Type 0 where
-  pub found : is_found s h stage k r
+pub record IsHead (ws : Words) (h : Head) : Type 0 where
+  pub init : h.init ≡ init_first ws
+  pub pipeline : h.pipeline ≡ is_pipeline ws
+  pub words : coming h.words ≡ exchanged ws
+  pub few : length (coming h.words) < 2 ^ 64

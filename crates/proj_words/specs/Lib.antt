@@ -2,4 +2,5 @@ pub mod Clean
 pub mod Cuts
 pub mod Facts
 pub mod Heads
+pub mod Steps
 pub mod Words

@@ -1,10 +1,10 @@
 -- The words of a text, one by one.
-use Rattle.std.specs.Prelude.{◌≡◌, [], ℕ, ◌<◌, drop}
-use Rattle.rules.specs.Text.Bytes.{Bytes, words}
+use Rattle.std.specs.Prelude.{◌≡◌, [], ℕ, ◌<◌, drop, Option, None, Some}
+use Rattle.rules.specs.Text.Bytes.{Bytes, Words, words}
 use Rattle.text.specs.Runs.{Run, is_of}
 use Rattle.text.specs.declared.runs.Kind.TheVariants as kind
-use Rattle.proj_words.specs.declared.walk.Word.{Word}
-use Rattle.proj_words.specs.declared.walk.Word.TheVariants.{At, End}
+use Rattle.proj_words.specs.declared.walk.Span.{Span}
+use Rattle.proj_words.specs.declared.walk.SplitWhite.{SplitWhite}
 
 -- the first word from k on: white space up to it, and then the word, which is not empty
 pub record IsWord (s : Bytes) (k from to : ℕ) : Type 0 where
@@ -13,9 +13,10 @@ pub record IsWord (s : Bytes) (k from to : ℕ) : Type 0 where
   pub longer : from < to
 
 -- what is found from k on: the first word, or that there is none
-unfoldable pub is_found : Bytes → ℕ → Word → Type 0
-is_found s k (At from to) = IsWord s k from to
-is_found s k End = words (drop k s) ≡ []
+abbrev pub FoundWord : Bytes → ℕ → Option Span → Type 0
+FoundWord s k (Some w) = IsWord s k w.from w.to
+FoundWord s k None = words (drop k s) ≡ []
 
-pub record FoundWord (s : Bytes) (k : ℕ) (r : Word) : Type 0 where
-  pub found : is_found s k r
+-- the words that are still to come
+abbrev pub left : SplitWhite → Words
+left s = words s.rest.now

@@ -12,10 +12,7 @@ use text::{Edge, start_of, starts_at, trim};
 fn is_gap(b: u8) -> bool
     ensures { result ≡ gap b }
 {
-    if b == 32 {
-        return true;
-    }
-    b == 10
+    b == b' ' || b == b'\n'
 }
 
 // Writes src with a space for each `+` that follows a space or a newline, and for what it follows.
@@ -23,25 +20,17 @@ fn signless_into(src: &[u8], dst: &mut [u8]) -> usize
     requires { length (signless src.now) ≤ length dst.old }
     ensures { Wrote (signless src.now) dst.old result dst.new }
 {
-    let mut i = 0;
+    let mut rest = src;
     let mut o = 0;
-    while i < src.len() {
-        let b = src[i];
-        if is_gap(b) {
-            if starts_at(src, i + 1, b"+") {
-                dst[o] = 32;
-                o += 1;
-                i += 2;
-            } else {
-                dst[o] = b;
-                o += 1;
-                i += 1;
-            }
+    while let Some((b, after)) = rest.split_first() {
+        if is_gap(*b) && starts_at(after, 0, b"+") {
+            dst[o] = b' ';
+            rest = &after[1..];
         } else {
-            dst[o] = b;
-            o += 1;
-            i += 1;
+            dst[o] = *b;
+            rest = after;
         }
+        o += 1;
     }
     o
 }

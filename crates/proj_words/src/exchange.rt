@@ -1,49 +1,37 @@
-// The words of one PROJ step after `proj=` has changed places with the first: found in the step's text, one by one, and
-// what they say. Nothing is moved: each stands for a part of the text. The Rust is the `swap` in `parse_proj` of src/token/mod.rs.
-ghost use Rattle.std.specs.Prelude.{◌≡◌, true, ◌≤◌, length};
-ghost use Rattle.rules.specs.Text.Lists.{non_empty};
+// The words of one PROJ step after `proj=` has changed places with the first: one by one, and what they say. Nothing is
+// moved: each is a part of the step's text. The Rust is the `swap` in `parse_proj` of src/token/mod.rs.
+ghost use Rattle.std.specs.Prelude.{◌≡◌, ◌<◌, ◌^◌, length};
 ghost use Rattle.rules.specs.Text.Bytes.{words, starts};
-ghost use Rattle.rules.specs.Proj.Words.{is_proj, exchanged};
+ghost use Rattle.rules.specs.Proj.Words.{is_proj};
 ghost use Rattle.rules.specs.Proj.Translate.{is_inv};
-ghost use Rattle.proj_words.specs.Heads.{IsFirst, IsHead, FoundElement};
-ghost use Rattle.proj_words.specs.Facts.{Marked, IsMarks, IsKey};
+ghost use Rattle.proj_words.specs.Heads.{coming, IsFirst, IsMoved, IsHead};
+ghost use Rattle.proj_words.specs.Facts.{IsMarked, IsMarks, FoundKey};
 
-use crate::walk::{Word, next_word};
+use crate::walk::SplitWhite;
 use text::{is_same, starts_at};
 
 // The first `proj=` of a step, if there is one, and whether `init=` stands before it.
 #[derive(Clone, Copy, Drop)]
-pub struct First {
+pub struct First<'a> {
     pub init: bool,
-    pub found: bool,
-    pub from: usize,
-    pub to: usize,
+    pub proj: Option<&'a [u8]>,
 }
 
-// A step's first word, from `start` to `stop`; the value of `proj=` that takes its place, from `value` to `ends`; the
-// stage of the walk after that; whether `init=` stands before `proj=`; and whether it is `proj=pipeline`.
+// The exchanged words of a step, one by one: the value of `proj=` in front, until it is given; and the first word, until it
+// is given in the place of `proj=`.
 #[derive(Clone, Copy, Drop)]
-pub struct Head {
-    pub start: usize,
-    pub stop: usize,
-    pub value: usize,
-    pub ends: usize,
-    pub stage: usize,
+pub struct Exchanged<'a> {
+    pub front: Option<&'a [u8]>,
+    pub moved: Option<&'a [u8]>,
+    pub words: SplitWhite<'a>,
+}
+
+// A step's exchanged words; whether `init=` stands before `proj=`; and whether it is `proj=pipeline`.
+#[derive(Clone, Copy, Drop)]
+pub struct Head<'a> {
+    pub words: Exchanged<'a>,
     pub init: bool,
     pub pipeline: bool,
-}
-
-// What the walk over the exchanged words finds: a word, where to go on and in which stage; or the end. In stage 0 the
-// first word is to come, in stage 1 the `proj=` whose place the first word takes, in stage 2 neither.
-#[derive(Clone, Copy, Drop)]
-pub enum Element {
-    At {
-        from: usize,
-        to: usize,
-        then: usize,
-        stage: usize,
-    },
-    End,
 }
 
 // The marks of words: is one of them `inv`, are all, and is one not empty?
@@ -54,12 +42,11 @@ pub struct Marks {
     pub some: bool,
 }
 
-// How many words begin with a key, and the last that does.
+// How many words begin with a key, at least one, and what follows it in the last.
 #[derive(Clone, Copy, Drop)]
-pub struct Key {
-    pub n: usize,
-    pub from: usize,
-    pub to: usize,
+pub struct Key<'a> {
+    pub count: usize,
+    pub value: &'a [u8],
 }
 
 // Is it a word `proj=..`?
@@ -83,238 +70,131 @@ pub fn has_key(word: &[u8], key: &[u8]) -> bool
     starts_at(word, 0, key)
 }
 
+impl<'a> Iterator for Exchanged<'a> {
+    ghost use Rattle.std.specs.Iterator.{YieldsFirstRef, item_count};
+    ghost use Rattle.proj_words.specs.Heads.{coming};
+
+    type Item = &'a [u8];
+
+    ghost next_gives = { YieldsFirstRef coming };
+
+    ghost remaining = { item_count coming };
+
+    fn next(&mut self) -> Option<&'a [u8]> {
+        if let Some(word) = self.front.take() {
+            return Some(word);
+        }
+        let word = self.words.next()?;
+        if self.moved.is_some() && is_proj(word) {
+            return self.moved.take();
+        }
+        Some(word)
+    }
+}
+
 // Looks for the first `proj=` of a step.
-fn first_proj(s: &[u8]) -> First
-    ensures { IsFirst s.now result }
+fn first_proj(s: &[u8]) -> First<'_>
+    ensures { IsFirst (words s.now) result }
 {
-    let mut k = 0;
     let mut init = false;
-    loop {
-        let word = next_word(s, k);
-        match word {
-            Word::End => {
-                return First {
-                    init: init,
-                    found: false,
-                    from: 0,
-                    to: 0,
-                };
-            }
-            Word::At { from, to } => {
-                if is_proj(&s[from..to]) {
-                    return First {
-                        init: init,
-                        found: true,
-                        from: from,
-                        to: to,
-                    };
-                }
-                if has_key(&s[from..to], b"init=") {
-                    init = true;
-                    k = to;
-                } else {
-                    k = to;
-                }
-            }
+    for word in (SplitWhite { rest: s }) {
+        if is_proj(word) {
+            return First {
+                init,
+                proj: Some(word),
+            };
+        }
+        if has_key(word, b"init=") {
+            init = true;
         }
     }
+    First { init, proj: None }
+}
+
+// The first word, if it has to change places: unless it is a `proj=` itself.
+fn moved(first: Option<&[u8]>) -> Option<&[u8]>
+    ensures { IsMoved first.entry result }
+{
+    let word = first?;
+    if is_proj(word) {
+        return None;
+    }
+    Some(word)
 }
 
 // "`proj=` changes places with the first element": what stands in front of a step, and where.
-pub fn head_of(s: &[u8]) -> Head
-    requires { non_empty (words s.now) ≡ true }
-    ensures { IsHead s.now result }
+pub fn head_of(s: &[u8]) -> Head<'_>
+    ensures { IsHead (words s.now) result }
 {
-    let first = first_proj(s);
-    let init = first.init;
-    let a = first.from;
-    let e = first.to;
-    let pipeline = is_same(&s[a..e], b"proj=pipeline");
-    let word = next_word(s, 0);
-    match word {
-        Word::End => Head {
-            start: 0,
-            stop: 0,
-            value: 0,
-            ends: 0,
-            stage: 2,
-            init: init,
-            pipeline: pipeline,
+    let First { init, proj } = first_proj(s);
+    let mut words = SplitWhite { rest: s };
+    let first = words.next();
+    match proj {
+        None => Head {
+            words: Exchanged {
+                front: first,
+                moved: None,
+                words,
+            },
+            init,
+            pipeline: false,
         },
-        Word::At { from, to } => {
-            if is_proj(&s[from..to]) {
-                return Head {
-                    start: from,
-                    stop: to,
-                    value: from + 5,
-                    ends: to,
-                    stage: 2,
-                    init: init,
-                    pipeline: pipeline,
-                };
-            }
-            if first.found {
-                return Head {
-                    start: from,
-                    stop: to,
-                    value: a + 5,
-                    ends: e,
-                    stage: 1,
-                    init: init,
-                    pipeline: pipeline,
-                };
-            }
-            Head {
-                start: from,
-                stop: to,
-                value: from,
-                ends: to,
-                stage: 2,
-                init: init,
-                pipeline: pipeline,
-            }
+        Some(proj) => Head {
+            words: Exchanged {
+                front: Some(&proj[5..]),
+                moved: moved(first),
+                words,
+            },
+            init,
+            pipeline: is_same(proj, b"proj=pipeline"),
+        },
+    }
+}
+
+impl Marks {
+    // The marks with one word more.
+    fn with(self, word: &[u8]) -> Marks
+        ensures { IsMarked word.now self result }
+    {
+        let inv = is_inv(word);
+        Marks {
+            inv: self.inv || inv,
+            only: self.only && inv,
+            some: self.some || !word.is_empty(),
         }
     }
 }
 
-// The next of the exchanged words from k on, in a stage.
-pub fn next_element(s: &[u8], head: Head, stage: usize, k: usize) -> Element
-    requires head { IsHead s.now head }
-    requires k_in_bounds { k ≤ length s.now }
-    ensures { FoundElement s.now head stage k result }
+// The marks of words.
+pub fn marks_of(words: Exchanged) -> Marks
+    ensures { IsMarks (coming words.entry) result }
 {
-    if stage == 0 {
-        return Element::At {
-            from: head.value,
-            to: head.ends,
-            then: head.stop,
-            stage: head.stage,
-        };
-    }
-    let word = next_word(s, k);
-    match word {
-        Word::End => Element::End,
-        Word::At { from, to } => {
-            if stage == 1 {
-                if is_proj(&s[from..to]) {
-                    return Element::At {
-                        from: head.start,
-                        to: head.stop,
-                        then: to,
-                        stage: 2,
-                    };
-                }
-                return Element::At {
-                    from: from,
-                    to: to,
-                    then: to,
-                    stage: 1,
-                };
-            }
-            Element::At {
-                from: from,
-                to: to,
-                then: to,
-                stage: stage,
-            }
-        }
-    }
-}
-
-// The marks of some words, with one word more.
-fn marked(word: &[u8], m: Marks) -> Marks
-    ensures { Marked word.now m result }
-{
-    if is_inv(word) {
-        return Marks {
-            inv: true,
-            only: m.only,
-            some: true,
-        };
-    }
-    if 0 < word.len() {
-        return Marks {
-            inv: m.inv,
-            only: false,
-            some: true,
-        };
-    }
-    Marks {
-        inv: m.inv,
-        only: false,
-        some: m.some,
-    }
-}
-
-// The marks of a step's exchanged words.
-pub fn marks_of(s: &[u8], head: Head) -> Marks
-    requires { IsHead s.now head }
-    ensures { IsMarks (exchanged (words s.now)) result }
-{
-    let mut m = Marks {
+    let mut marks = Marks {
         inv: false,
         only: true,
         some: false,
     };
-    let mut stage = 0;
-    let mut k = 0;
-    loop {
-        let element = next_element(s, head, stage, k);
-        match element {
-            Element::End => {
-                return m;
-            }
-            Element::At {
-                from,
-                to,
-                then,
-                stage: next,
-            } => {
-                m = marked(&s[from..to], m);
-                k = then;
-                stage = next;
-            }
-        }
+    for word in words {
+        marks = marks.with(word);
     }
+    marks
 }
 
-// How many of a step's exchanged words begin with the key, and the last that does.
-pub fn key_of(s: &[u8], head: Head, key: &[u8]) -> Key
-    requires { IsHead s.now head }
-    ensures { IsKey s.now key.now result }
+// How many of the words begin with the key, and what follows it in the last that does, if one does.
+pub fn key_of<'a>(words: Exchanged<'a>, key: &[u8]) -> Option<Key<'a>>
+    requires { length (coming words) < 2 ^ 64 }
+    ensures { FoundKey (coming words.entry) key.now result }
 {
-    let mut n = 0;
-    let mut a = 0;
-    let mut e = 0;
-    let mut stage = 0;
-    let mut k = 0;
-    loop {
-        let element = next_element(s, head, stage, k);
-        match element {
-            Element::End => {
-                return Key {
-                    n: n,
-                    from: a,
-                    to: e,
-                };
-            }
-            Element::At {
-                from,
-                to,
-                then,
-                stage: next,
-            } => {
-                if has_key(&s[from..to], key) {
-                    n += 1;
-                    a = from;
-                    e = to;
-                    k = then;
-                    stage = next;
-                } else {
-                    k = then;
-                    stage = next;
-                }
-            }
+    let mut count = 0;
+    let mut last: Option<&'a [u8]> = None;
+    for word in words {
+        if has_key(word, key) {
+            count += 1;
+            last = Some(&word[key.len()..]);
         }
     }
+    Some(Key {
+        count,
+        value: last?,
+    })
 }

@@ -4,8 +4,10 @@
 
 mod clean;
 mod exchange;
+mod steps;
 mod walk;
 
 pub use clean::clean_into;
-pub use exchange::{Element, Head, has_key, head_of, is_inv, key_of, marks_of, next_element};
+pub use exchange::{Exchanged, Head, Key, has_key, head_of, is_inv, key_of, marks_of};
+pub use steps::{SplitSteps, Step};
 pub use walk::next_proj;

@@ -9,11 +9,11 @@ ghost use Rattle.proj_words.specs.Cuts.{IsPiece, IsStart, beginning, FoundStep};
 use rules::{Cursor, Found};
 use text::{Kind, is_same, run_end};
 
-// What the walk over the words finds: a word, from its first byte up to the byte after its last; or the end.
+// A word of a text, from its first byte up to the byte after its last.
 #[derive(Clone, Copy, Drop)]
-pub enum Word {
-    At { from: usize, to: usize },
-    End,
+pub struct Span {
+    pub from: usize,
+    pub to: usize,
 }
 
 // The end of a piece between two `step` words, and where the next one begins.
@@ -24,16 +24,40 @@ pub struct Piece {
 }
 
 // The first word of s from k on.
-pub fn next_word(s: &[u8], k: usize) -> Word
+pub fn next_word(s: &[u8], k: usize) -> Option<Span>
     requires { k ≤ length s.now }
     ensures { FoundWord s.now k result }
 {
     let from = run_end(Kind::White, s, k);
     let to = run_end(Kind::Word, s, from);
     if from < to {
-        return Word::At { from: from, to: to };
+        return Some(Span { from, to });
     }
-    Word::End
+    None
+}
+
+// The words of a text, one by one, each as a part of it.
+#[derive(Clone, Copy, Drop)]
+pub struct SplitWhite<'a> {
+    pub rest: &'a [u8],
+}
+
+impl<'a> Iterator for SplitWhite<'a> {
+    ghost use Rattle.std.specs.Iterator.{YieldsFirstRef, item_count};
+    ghost use Rattle.proj_words.specs.Words.{left};
+
+    type Item = &'a [u8];
+
+    ghost next_gives = { YieldsFirstRef left };
+
+    ghost remaining = { item_count left };
+
+    fn next(&mut self) -> Option<&'a [u8]> {
+        let text = self.rest;
+        let word = next_word(text, 0)?;
+        self.rest = &text[word.to..];
+        Some(&text[word.from..word.to])
+    }
 }
 
 // Is it the word `step`?
@@ -50,22 +74,18 @@ fn piece_from(n: &[u8], k: usize) -> Piece
     ensures { IsPiece n.now k result }
 {
     let mut at = k;
-    loop {
-        let word = next_word(n, at);
-        match word {
-            Word::End => {
-                return Piece {
-                    end: at,
-                    then: n.len(),
-                };
-            }
-            Word::At { from, to } => {
-                if is_step(&n[from..to]) {
-                    return Piece { end: at, then: to };
-                }
-                at = to;
-            }
+    while let Some(word) = next_word(n, at) {
+        if is_step(&n[word.from..word.to]) {
+            return Piece {
+                end: at,
+                then: word.to,
+            };
         }
+        at = word.to;
+    }
+    Piece {
+        end: at,
+        then: n.len(),
     }
 }
 
@@ -77,15 +97,9 @@ fn start_of(n: &[u8], place: usize) -> usize
     if 0 < place {
         return place;
     }
-    let word = next_word(n, 0);
-    match word {
-        Word::End => 0,
-        Word::At { from, to } => {
-            if is_step(&n[from..to]) {
-                return to;
-            }
-            0
-        }
+    match next_word(n, 0) {
+        Some(word) if is_step(&n[word.from..word.to]) => word.to,
+        _ => 0,
     }
 }
 
@@ -96,33 +110,25 @@ fn unnoised(n: &[u8], from: usize, to: usize, end: usize) -> usize
     requires to_in_bounds { to ≤ length n.now }
     ensures { result ≡ beginning n.now from to end }
 {
-    if to < end {
-        if is_step(&n[from..to]) {
-            return to;
-        }
-        return from;
+    if to < end && is_step(&n[from..to]) {
+        return to;
     }
     from
 }
 
 // The next step of a cleaned text from the cursor on.
-pub fn next_proj(n: &[u8], cursor: Cursor) -> Found
+pub fn next_proj(n: &[u8], cursor: Cursor) -> Option<Found>
     requires { cursor.at ≤ length n.now }
     ensures { FoundStep n.now cursor.at result }
 {
     let start = start_of(n, cursor.at);
-    let word = next_word(n, start);
-    match word {
-        Word::End => Found::End,
-        Word::At { from, to } => {
-            let piece = piece_from(n, to);
-            let end = piece.end;
-            let begin = unnoised(n, from, to, end);
-            Found::Step {
-                from: begin,
-                to: end,
-                then: Cursor { at: piece.then },
-            }
-        }
-    }
+    let Some(word) = next_word(n, start) else {
+        return None;
+    };
+    let piece = piece_from(n, word.to);
+    Some(Found {
+        from: unnoised(n, word.from, word.to, piece.end),
+        to: piece.end,
+        then: Cursor { at: piece.then },
+    })
 }

@@ -1,8 +1,9 @@
 -- Every promise of specs/Promises.antt is kept: a line for each, which cites where it is proved. Of a call's code that is the theorem that the prover
 -- has of the function itself.
-use Rattle.std.specs.Prelude.{◌≡◌, refl, ℕ, ◌-◌, ◌*◌, ◌/◌, ◌%◌, ◌≤◌, ◌<◌, Bool, true, false, List, [], ◌∷◌, map, T, length, get_or, take, Float}
+use Rattle.rules.specs.declared.Refusal.{Refusal}
+use Rattle.rules.specs.declared.Finished.{Finished}
+use Rattle.std.specs.Prelude.{◌≡◌, refl, ℕ, ◌-◌, ◌*◌, ◌/◌, ◌%◌, ◌≤◌, ◌<◌, Bool, true, false, List, [], ◌∷◌, map, T, length, get_or, take, Float, None, Result, Ok}
 use Rattle.std.proofs.Common.{sym, ap, ◌∙◌, subst}
-use Rattle.std.proofs.Math.Option.{none}
 use Rattle.std.specs.Float.{binary64}
 use Rattle.std.specs.Float.Ieee.{neg, mul, fits}
 use Rattle.std.specs.Float.Ieee.Bits.{of_bits-fits}
@@ -13,7 +14,7 @@ use Rattle.rules.specs.Text.Split.{steps}
 use Rattle.rules.specs.Text.Reader.{definition, define}
 use Rattle.rules.specs.Operators.Numbers.{turn}
 use Rattle.rules.specs.Operators.Adapt.{one}
-use Rattle.rules.specs.Pipeline.Run.{Outcome, runs, Runs}
+use Rattle.rules.specs.Pipeline.Run.{Outcome, runs, Runs, done}
 use Rattle.rules.specs.Pipeline.Record.{args, refusal18}
 use Rattle.rules.specs.Pipeline.Prepare.{PreparesAs}
 use Rattle.rules.specs.Pipeline.Running.{opposite, running}
@@ -26,13 +27,9 @@ use Rattle.rules.specs.declared.Reading.{Reading}
 use Rattle.rules.specs.declared.Reading.TheVariants.{Crate}
 use Rattle.rules.specs.declared.Span.{Span}
 use Rattle.rules.specs.declared.Step.{Step}
-use Rattle.rules.specs.declared.Written.TheVariants as written_is
-use Rattle.rules.specs.declared.Prepared.TheVariants as prepared-is
 use Rattle.rules.specs.declared.Verdict.{Verdict}
 use Rattle.rules.specs.declared.Direction.{Direction}
 use Rattle.rules.specs.declared.Foretold.{Foretold}
-use Rattle.rules.specs.declared.Ran.{Ran}
-use Rattle.rules.specs.declared.Ran.TheVariants.{Done}
 use Rattle.rules.specs.declared.Verdict.TheVariants.{Passes}
 use Rattle.laws_text.specs.Entry.{answers-so}
 use Rattle.laws_text.specs.Spans.{walk-rises}
@@ -110,10 +107,10 @@ demand1 = record {
 }
 
 -- what the equation of a run says of its answer and of its list
-ran-answer : {d : Direction} {t : List Step} {xs store : List Float} {r : Ran} {xs' store' : List Float} → Runs d t xs store r xs' store' → (runs d t xs store).answer ≡ r
+ran-answer : {d : Direction} {t : List Step} {xs store : List Float} {r : Result Finished Refusal} {xs' store' : List Float} → Runs d t xs store r xs' store' → (runs d t xs store).answer ≡ r
 ran-answer ran = sym (ap (λ (o : Outcome). o.answer) ran.exactly)
 
-ran-list : {d : Direction} {t : List Step} {xs store : List Float} {r : Ran} {xs' store' : List Float} → Runs d t xs store r xs' store' → xs' ≡ (runs d t xs store).list
+ran-list : {d : Direction} {t : List Step} {xs store : List Float} {r : Result Finished Refusal} {xs' store' : List Float} → Runs d t xs store r xs' store' → xs' ≡ (runs d t xs store).list
 ran-list ran = ap (λ (o : Outcome). o.list) ran.exactly
 
 turned : (minus : Bool) (x : Float) → T (fits binary64 x) → turn minus x ≡ mul binary64 x (turn minus one)
@@ -135,13 +132,13 @@ module _ {d : Direction} {t : List Step} {f : Foretold} (checks : Checks d t f) 
   pass : (check d t).verdict ≡ Passes
   pass = rw checks.exactly at passes
 
-  accepted : {xs store : List Float} {r : Ran} {xs' store' : List Float} → Runs d t xs store r xs' store' → length xs % 4 ≡ 0 → length xs / 4 ≤ 65536
-      → f.deepest * (length xs / 4) ≤ length store → (c : ℕ) × (n : ℕ) × (r ≡ Done c n)
+  accepted : {xs store : List Float} {r : Result Finished Refusal} {xs' store' : List Float} → Runs d t xs store r xs' store' → length xs % 4 ≡ 0 → length xs / 4 ≤ 65536
+      → f.deepest * (length xs / 4) ≤ length store → (c : ℕ) × (n : ℕ) × (r ≡ done c n)
   accepted {xs} {store} ran four few room =
       let a = accepts d t xs store pass four few (rw checks.exactly at room) in
       (a.0, a.1, sym (ran-answer ran) ∙ a.2)
 
-  module _ {xs store : List Float} {c n : ℕ} {xs' store' : List Float} (ran : Runs d t xs store (Done c n) xs' store') where
+  module _ {xs store : List Float} {c n : ℕ} {xs' store' : List Float} (ran : Runs d t xs store (done c n) xs' store') where
     foretold : AsForetold d t f xs n
     foretold =
         let g = foretells d t xs pass in
@@ -194,13 +191,13 @@ unturned x = refl
 
 -- of a number and of what comes back for it: every pattern reads as an f64
 module _ {s : Step} (r : RunsBothWays s) (u : EachUnit (args s)) (d : Direction) {xs store : List Float} {c n : ℕ} {xs' store' : List Float}
-    (there : Runs d (s ∷ []) xs store (Done c n) xs' store') {store₂ : List Float} {c₂ n₂ : ℕ} {xs'' store₂' : List Float}
-    (home : Runs (opposite d) (s ∷ []) xs' store₂ (Done c₂ n₂) xs'' store₂') where
+    (there : Runs d (s ∷ []) xs store (done c n) xs' store') {store₂ : List Float} {c₂ n₂ : ℕ} {xs'' store₂' : List Float}
+    (home : Runs (opposite d) (s ∷ []) xs' store₂ (done c₂ n₂) xs'' store₂') where
   returned : (i : ℕ) → i < length xs / 4 → (j : ℕ) → 1 ≤ j → j ≤ 4 → (p q : ℕ) → Bits p (number_at xs i j) → Bits q (number_at xs'' i j) → Alike false p q
   returned i h j a b p q P Q =
       let fit : T (fits binary64 (number_at xs i j)) = subst (λ (x : Float). T (fits binary64 x)) P.reads (of_bits-fits binary64 p) in
       let left : xs' ≡ (runs d (s ∷ []) xs store).list = ran-list there in
-      let done : (runs (opposite d) (s ∷ []) (runs d (s ∷ []) xs store).list store₂).answer ≡ Done c₂ n₂ =
+      let done : (runs (opposite d) (s ∷ []) (runs d (s ∷ []) xs store).list store₂).answer ≡ done c₂ n₂ =
       ap (λ (l : List Float). (runs (opposite d) (s ∷ []) l store₂).answer) (sym left) ∙ ran-answer home in
       let same : number_at xs'' i j ≡ number_at xs i j =
       ap (λ (l : List Float). number_at l i j) (ran-list home ∙ ap (λ (l : List Float). (runs (opposite d) (s ∷ []) l store₂).list) left)
@@ -227,7 +224,7 @@ offsets = record {
 }
 
 -- a check of a prepared definition that names a step
-module _ (how : Reading) (mode : Mode) {text : Bytes} {table : List Step} {n : ℕ} {table' : List Step} (p : PreparesAs how mode text table (prepared-is.Steps n) table') where
+module _ (how : Reading) (mode : Mode) {text : Bytes} {table : List Step} {n : ℕ} {table' : List Step} (p : PreparesAs how mode text table (Ok n) table') where
   walks : Walk (definition text) 0 (take n table')
   walks = prepared-walks how mode text (take n table') (table-tested how mode p)
 
@@ -243,7 +240,7 @@ module _ {d : Direction} {t : List Step} {f : Foretold} (checks : Checks d t f) 
   span-is e = ap (λ (g : Foretold). g.span) checks.exactly ∙ check-span d t ∙ ap (λ (w : Verdict). span_of w t) (sym (ap (λ (g : Foretold). g.verdict) checks.exactly) ∙ e)
 
 -- two tables that differ only in spans
-module _ (t u : List Step) (t-good : refusal18 t ≡ none) (u-good : refusal18 u ≡ none) (same : SameButSpans t u) where
+module _ (t u : List Step) (t-good : refusal18 t ≡ None) (u-good : refusal18 u ≡ None) (same : SameButSpans t u) where
   both : SameOfBoth t u
   both = record {
     checks = λ c k. rw (c.exactly, k.exactly) (check-aside t u t-good u-good same _);
@@ -252,7 +249,7 @@ module _ (t u : List Step) (t-good : refusal18 t ≡ none) (u-good : refusal18 u
   }
 
 -- what the call `definition` answers
-defined : {text out : Bytes} {m : ℕ} {out' : Bytes} → Writes define text out (written_is.Wrote m) out' → definition text ≡ take m out'
+defined : {text out : Bytes} {m : ℕ} {out' : Bytes} → Writes define text out (Ok m) out' → definition text ≡ take m out'
 unfolding define
 defined p = cc (answers-so p).answer
 

@@ -1,13 +1,14 @@
 -- What is signed: the release's three demands, each sentence above what is proved of it. Statements, and nothing else; proofs/Kept.antt proves every one. They
 -- speak of what a caller holds, results and lent storage before and after, through the calls' contracts, in the words of crates/rules.
-use Rattle.std.specs.Prelude.{◌≡◌, ◌↔◌, ℕ, ◌-◌, ◌*◌, ◌/◌, ◌%◌, ◌≤◌, ◌<◌, Bool, true, false, not, List, [], ◌∷◌, ◌++◌, map, T, length, get_or, take, drop, ℤ, Float}
-use Rattle.std.proofs.Math.Option.{none, some}
+use Rattle.rules.specs.declared.Refusal.{Refusal}
+use Rattle.rules.specs.declared.Finished.{Finished}
+use Rattle.std.specs.Prelude.{◌≡◌, ◌↔◌, ℕ, ◌-◌, ◌*◌, ◌/◌, ◌%◌, ◌≤◌, ◌<◌, Bool, true, false, not, List, [], ◌∷◌, ◌++◌, map, T, length, get_or, take, drop, ℤ, Float, Option, None, Some, Result, Ok}
 use Rattle.std.specs.Float.{binary64}
 use Rattle.std.specs.Float.Ieee.{mul, div, fits, to_bits}
 use borrow.Fn.World.{World}
 use Rattle.rules.specs.Text.Bytes.{Bytes, joined}
 use Rattle.rules.specs.Text.Lists.{all_of}
-use Rattle.rules.specs.Text.Refusal.{Reply, answers, refuses, refuses12, Promised, Writes, Lends, Wrote}
+use Rattle.rules.specs.Text.Refusal.{Reply, answers, refuses, refuses12, Promised, Writes, Lends, Wrote, refusal, refusal_at}
 use Rattle.rules.specs.Text.Normal.{normalise}
 use Rattle.rules.specs.Text.Split.{steps, split}
 use Rattle.rules.specs.Text.Parameters.{parameters}
@@ -23,7 +24,7 @@ use Rattle.rules.specs.Operators.Adapt.{Word, one}
 use Rattle.rules.specs.Operators.Documented.{input_at, combined_by_axis, adapted_by_axis}
 use Rattle.rules.specs.Pipeline.Columns.{after, depths, deepest}
 use Rattle.rules.specs.Pipeline.Tuples.{numbers, acted}
-use Rattle.rules.specs.Pipeline.Run.{start, count, Runs}
+use Rattle.rules.specs.Pipeline.Run.{start, count, Runs, done}
 use Rattle.rules.specs.Pipeline.Check.{place, any_adapt, span_at, Checks}
 use Rattle.rules.specs.Pipeline.Write.{written_spans, write}
 use Rattle.rules.specs.Face.Plain.{plain_prepared, replied, record_count, plain_found, mode_of, direction_of, plain_check, PlainChecks, plain_ran, PlainRuns}
@@ -35,17 +36,10 @@ use Rattle.rules.specs.declared.Reading.TheVariants.{Crate, Proj}
 use Rattle.rules.specs.declared.Step.{Step}
 use Rattle.rules.specs.declared.Coord.{Coord}
 use Rattle.rules.specs.declared.Direction.{Direction}
-use Rattle.rules.specs.declared.Written.{Written}
-use Rattle.rules.specs.declared.Written.TheVariants as written_is
-use Rattle.rules.specs.declared.Prepared.{Prepared}
-use Rattle.rules.specs.declared.Prepared.TheVariants as prepared-is
 use Rattle.rules.specs.declared.Found.{Found}
-use Rattle.rules.specs.declared.Found.TheVariants.{End}
 use Rattle.rules.specs.declared.Part.{Part}
 use Rattle.rules.specs.declared.Foretold.{Foretold}
 use Rattle.rules.specs.declared.Verdict.TheVariants.{Passes, TooFew, TooMany, Refused}
-use Rattle.rules.specs.declared.Ran.{Ran}
-use Rattle.rules.specs.declared.Ran.TheVariants as ran-is
 use Rattle.rules.specs.declared.Answer.{Answer}
 use Rattle.rules.specs.declared.Checked.{Checked}
 use Rattle.rules.specs.declared.Done as plain-run
@@ -128,36 +122,36 @@ pub record Calls (w : World) : Type 1 where
 
 pub record Demand1 : Type 1 where
   -- the text calls, each with its numbers; an answer writes nothing past its own end
-  pub normalise-ends : {text out : Bytes} {r : Written} {out' : Bytes} → Writes normalise text out r out'
-      → Ends written_is.Wrote text_refusal (1 ∷ 2 ∷ 7 ∷ []) out r out'
-  pub definition-ends : {text out : Bytes} {r : Written} {out' : Bytes} → Writes define text out r out'
-      → Ends written_is.Wrote text_refusal (1 ∷ 2 ∷ 7 ∷ []) out r out'
-  pub split-ends : {text out : Bytes} {r : Written} {out' : Bytes} → Writes split text out r out'
-      → Ends written_is.Wrote text_refusal (1 ∷ 2 ∷ 6 ∷ 7 ∷ 8 ∷ []) out r out'
-  pub parameters-ends : {text out : Bytes} {r : Written} {out' : Bytes} → Writes parameters text out r out'
-      → Ends written_is.Wrote text_refusal (1 ∷ 2 ∷ 6 ∷ 7 ∷ 9 ∷ []) out r out'
-  pub translate-ends : {text out : Bytes} {r : Written} {out' : Bytes} → Writes translate text out r out'
-      → Ends written_is.Wrote text_refusal (1 ∷ 2 ∷ 3 ∷ 4 ∷ 5 ∷ 7 ∷ []) out r out'
-  pub write-ends : {out : Bytes} {r : Written} {out' : Bytes} (table : List Step) → Lends (write table) out r out'
-      → Ends written_is.Wrote text_refusal (7 ∷ 18 ∷ []) out r out'
+  pub normalise-ends : {text out : Bytes} {r : Result ℕ Refusal} {out' : Bytes} → Writes normalise text out r out'
+      → Ends Ok text_refusal (1 ∷ 2 ∷ 7 ∷ []) out r out'
+  pub definition-ends : {text out : Bytes} {r : Result ℕ Refusal} {out' : Bytes} → Writes define text out r out'
+      → Ends Ok text_refusal (1 ∷ 2 ∷ 7 ∷ []) out r out'
+  pub split-ends : {text out : Bytes} {r : Result ℕ Refusal} {out' : Bytes} → Writes split text out r out'
+      → Ends Ok text_refusal (1 ∷ 2 ∷ 6 ∷ 7 ∷ 8 ∷ []) out r out'
+  pub parameters-ends : {text out : Bytes} {r : Result ℕ Refusal} {out' : Bytes} → Writes parameters text out r out'
+      → Ends Ok text_refusal (1 ∷ 2 ∷ 6 ∷ 7 ∷ 9 ∷ []) out r out'
+  pub translate-ends : {text out : Bytes} {r : Result ℕ Refusal} {out' : Bytes} → Writes translate text out r out'
+      → Ends Ok text_refusal (1 ∷ 2 ∷ 3 ∷ 4 ∷ 5 ∷ 7 ∷ []) out r out'
+  pub write-ends : {out : Bytes} {r : Result ℕ Refusal} {out' : Bytes} (table : List Step) → Lends (write table) out r out'
+      → Ends Ok text_refusal (7 ∷ 18 ∷ []) out r out'
   -- the calls on step tables, and the reader
-  pub prepare-ends : {text : Bytes} {table : List Step} {r : Prepared} {table' : List Step} → Prepares text table r table'
-      → Ends prepared-is.Steps prepared-is.Refused (1 ∷ 2 ∷ 6 ∷ 7 ∷ 8 ∷ 9 ∷ 10 ∷ 11 ∷ 12 ∷ 13 ∷ 14 ∷ []) table r table'
-  pub prepare-as-ends : (how : Reading) (mode : Mode) {text : Bytes} {table : List Step} {r : Prepared} {table' : List Step} → PreparesAs how mode text table r table'
-      → Ends prepared-is.Steps prepared-is.Refused (1 ∷ 2 ∷ 6 ∷ 7 ∷ 8 ∷ 9 ∷ 10 ∷ 11 ∷ 12 ∷ 13 ∷ 14 ∷ []) table r table'
+  pub prepare-ends : {text : Bytes} {table : List Step} {r : Result ℕ Refusal} {table' : List Step} → Prepares text table r table'
+      → Ends Ok refusal_at (1 ∷ 2 ∷ 6 ∷ 7 ∷ 8 ∷ 9 ∷ 10 ∷ 11 ∷ 12 ∷ 13 ∷ 14 ∷ []) table r table'
+  pub prepare-as-ends : (how : Reading) (mode : Mode) {text : Bytes} {table : List Step} {r : Result ℕ Refusal} {table' : List Step} → PreparesAs how mode text table r table'
+      → Ends Ok refusal_at (1 ∷ 2 ∷ 6 ∷ 7 ∷ 8 ∷ 9 ∷ 10 ∷ 11 ∷ 12 ∷ 13 ∷ 14 ∷ []) table r table'
   pub check-ends : {d : Direction} {t : List Step} {f : Foretold} → Checks d t f → CheckEnds f
-  pub run_ends : {d : Direction} {t : List Step} {xs store : List Float} {r : Ran} {xs' store' : List Float} → Runs d t xs store r xs' store'
+  pub run_ends : {d : Direction} {t : List Step} {xs store : List Float} {r : Result Finished Refusal} {xs' store' : List Float} → Runs d t xs store r xs' store'
       → RunEnds (15 ∷ 16 ∷ 17 ∷ 18 ∷ []) (deepest (depths acted (running d t) (start xs)) * (length xs / 4)) xs store r xs' store'
-  pub next-ends : {text : Bytes} {at : ℕ} {r : Found} → r ≡ next text at → NextEnds text at r
+  pub next-ends : {text : Bytes} {at : ℕ} {r : Option Found} → r ≡ next text at → NextEnds text at r
   -- No second outcome meets a contract: of a text call or of preparing, in Rattle's words or in the exports',
   pub text-once : {A R : Type 0} {in_words : Reply ℕ → R} {own : Bytes → Reply (List A)} {text : Bytes} {storage storage' storage'' : List A} {r s : R}
       → Promised in_words own text storage r storage' → Promised in_words own text storage s storage'' → (r ≡ s) × (storage' ≡ storage'')
   -- of writing, of the check and of the run, and of the reader.
-  pub write-once : {reply : Reply Bytes} {out out' out'' : Bytes} {r s : Written} → Lends reply out r out' → Lends reply out s out'' → (r ≡ s) × (out' ≡ out'')
+  pub write-once : {reply : Reply Bytes} {out out' out'' : Bytes} {r s : Result ℕ Refusal} → Lends reply out r out' → Lends reply out s out'' → (r ≡ s) × (out' ≡ out'')
   pub check-once : {d : Direction} {t : List Step} {f g : Foretold} → Checks d t f → Checks d t g → f ≡ g
-  pub run-once : {d : Direction} {t : List Step} {xs store : List Float} {r s : Ran} {xs' xs'' store' store'' : List Float}
+  pub run-once : {d : Direction} {t : List Step} {xs store : List Float} {r s : Result Finished Refusal} {xs' xs'' store' store'' : List Float}
       → Runs d t xs store r xs' store' → Runs d t xs store s xs'' store'' → (r ≡ s) × (xs' ≡ xs'') × (store' ≡ store'')
-  pub next-once : {r s : Found} (text : Bytes) (at : ℕ) → r ≡ next text at → s ≡ next text at → r ≡ s
+  pub next-once : {r s : Option Found} (text : Bytes) (at : ℕ) → r ≡ next text at → s ≡ next text at → r ≡ s
 
 -- ==== Demand 2. "Within document 01's domain, normalised text, steps, parameters, PROJ translation, transformed tuples and success count equal the
 -- Rust's, bit for bit .. Each is also proved against definitions". What is proved: a call's answer is the written rule's, and by demand 1 no other. That
@@ -166,10 +160,10 @@ pub record Demand1 : Type 1 where
 
 pub record Demand2 : Type 0 where
   -- the bytes that a text call answers, and the records that preparing answers, are those of its rule
-  pub text-answer : {own : Bytes → Reply Bytes} {text out : Bytes} {n : ℕ} {out' : Bytes} → Writes own text out (written_is.Wrote n) out' → own text ≡ answers (take n out')
-  pub records-answer : {text : Bytes} {table : List Step} {n : ℕ} {table' : List Step} → Prepares text table (prepared-is.Steps n) table' → prepare text ≡ answers (take n table')
+  pub text-answer : {own : Bytes → Reply Bytes} {text out : Bytes} {n : ℕ} {out' : Bytes} → Writes own text out (Ok n) out' → own text ≡ answers (take n out')
+  pub records-answer : {text : Bytes} {table : List Step} {n : ℕ} {table' : List Step} → Prepares text table (Ok n) table' → prepare text ≡ answers (take n table')
   -- the tuples after a run, the success count and the columns left are those of the steps one after the other
-  pub run-answer : {d : Direction} {t : List Step} {xs store : List Float} {c n : ℕ} {xs' store' : List Float} → Runs d t xs store (ran-is.Done c n) xs' store'
+  pub run-answer : {d : Direction} {t : List Step} {xs store : List Float} {c n : ℕ} {xs' store' : List Float} → Runs d t xs store (done c n) xs' store'
       → let end = after acted (running d t) (start xs) in (xs' ≡ numbers end.tuples) × (c ≡ count (running d t) (start xs)) × (n ≡ length end.columns)
   -- a sign that is turned or kept is the Rust's product with -1 or 1, for every f64 (IEEE 754 as the kit defines it)
   pub sign-is-product : (minus : Bool) (x : Float) → T (fits binary64 x) → turn minus x ≡ mul binary64 x (turn minus one)
@@ -198,30 +192,30 @@ pub record FromThePlacesNamed (f : Foretold) (xs xs' : List Float) : Type 0 wher
 pub record Demand3 : Type 0 where
   -- Whatever preparing leaves, in either reading and mode, is never refused 18, by a check or by a run.
   pub check-takes-what-is-prepared : (how : Reading) (mode : Mode) {text : Bytes} {table table' : List Step} {n : ℕ} {d : Direction} {f : Foretold} (k : ℕ)
-      → PreparesAs how mode text table (prepared-is.Steps n) table' → Checks d (take n table') f → f.verdict ≡ Refused 18 k → ⊥
+      → PreparesAs how mode text table (Ok n) table' → Checks d (take n table') f → f.verdict ≡ Refused 18 k → ⊥
   pub run-takes-what-is-prepared : (how : Reading) (mode : Mode) {text : Bytes} {table table' : List Step} {n : ℕ} {d : Direction} {xs store xs' store' : List Float} (k : ℕ)
-      → PreparesAs how mode text table (prepared-is.Steps n) table' → Runs d (take n table') xs store (ran-is.Refused 18 k) xs' store' → ⊥
+      → PreparesAs how mode text table (Ok n) table' → Runs d (take n table') xs store (refusal 18 k) xs' store' → ⊥
   -- "It passes exactly when no step finds fewer columns than it takes and the depth never exceeds 64": no record is bad, and so it is of every step that
   -- runs, on any one list or on all;
   pub passes-exactly-when : {d : Direction} {t : List Step} {f : Foretold} → Checks d t f → (xs : List Float)
-      → (f.verdict ≡ Passes) ↔ ((refusal18 t ≡ none) × EachWell (running d t) xs)
+      → (f.verdict ≡ Passes) ↔ ((refusal18 t ≡ None) × EachWell (running d t) xs)
   -- "else it names the first step at fault in running order", and which of the two it is
   pub too-few-exactly-when : {d : Direction} {t : List Step} {f : Foretold} → Checks d t f → (xs : List Float) (k : ℕ)
-      → (f.verdict ≡ TooFew k) ↔ ((refusal18 t ≡ none) × FirstAtFault (Few xs) k (running d t) xs)
+      → (f.verdict ≡ TooFew k) ↔ ((refusal18 t ≡ None) × FirstAtFault (Few xs) k (running d t) xs)
   pub too-many-exactly-when : {d : Direction} {t : List Step} {f : Foretold} → Checks d t f → (xs : List Float) (k : ℕ)
-      → (f.verdict ≡ TooMany k) ↔ ((refusal18 t ≡ none) × FirstAtFault (Many xs) k (running d t) xs)
+      → (f.verdict ≡ TooMany k) ↔ ((refusal18 t ≡ None) × FirstAtFault (Many xs) k (running d t) xs)
   -- (or the first record that no preparation in the first's reading makes, or whose span does not rise)
   pub refused-exactly-when : {d : Direction} {t : List Step} {f : Foretold} → Checks d t f → (number k : ℕ)
-      → (f.verdict ≡ Refused number k) ↔ ((number ≡ 18) × (refusal18 t ≡ some k))
+      → (f.verdict ≡ Refused number k) ↔ ((number ≡ 18) × (refusal18 t ≡ Some k))
   -- "on every list the run accepts": after a pass that is every list of whole tuples, 65,536 at most, with a store for the deepest
-  pub run-accepts : {d : Direction} {t : List Step} {f : Foretold} {xs store : List Float} {r : Ran} {xs' store' : List Float} → Checks d t f → f.verdict ≡ Passes
+  pub run-accepts : {d : Direction} {t : List Step} {f : Foretold} {xs store : List Float} {r : Result Finished Refusal} {xs' store' : List Float} → Checks d t f → f.verdict ≡ Passes
       → Runs d t xs store r xs' store' → length xs % 4 ≡ 0 → length xs / 4 ≤ 65536 → f.deepest * (length xs / 4) ≤ length store
-      → (c : ℕ) × (n : ℕ) × (r ≡ ran-is.Done c n)
+      → (c : ℕ) × (n : ℕ) × (r ≡ done c n)
   pub after-a-pass : {d : Direction} {t : List Step} {f : Foretold} {xs store : List Float} {c n : ℕ} {xs' store' : List Float} → Checks d t f → f.verdict ≡ Passes
-      → Runs d t xs store (ran-is.Done c n) xs' store' → AsForetold d t f xs n
+      → Runs d t xs store (done c n) xs' store' → AsForetold d t f xs n
   -- "and if no `adapt` step runs"
   pub after-a-pass-without-adapt : {d : Direction} {t : List Step} {f : Foretold} {xs store : List Float} {c n : ℕ} {xs' store' : List Float} → Checks d t f
-      → f.verdict ≡ Passes → any_adapt (running d t) ≡ false → Runs d t xs store (ran-is.Done c n) xs' store' → FromThePlacesNamed f xs xs'
+      → f.verdict ≡ Passes → any_adapt (running d t) ≡ false → Runs d t xs store (done c n) xs' store' → FromThePlacesNamed f xs xs'
   -- (every f64 has such bits)
   pub has-bits : (x : Float) → T (fits binary64 x) → Bits (to_bits binary64 x) x
 
@@ -229,36 +223,36 @@ pub record Demand3 : Type 0 where
 
 pub record Readings : Type 0 where
   -- `prepare` is the case of `prepare_as` for the crate's reading and the crate's mode
-  pub prepare-is-the-crates : {text : Bytes} {table : List Step} {r : Prepared} {table' : List Step}
+  pub prepare-is-the-crates : {text : Bytes} {table : List Step} {r : Result ℕ Refusal} {table' : List Step}
       → PreparesAs Crate mode-is.Crate text table r table' ↔ Prepares text table r table'
   -- the records that preparing answers are those of its rule, in either reading and mode, and "Records name their reading."
   pub records-answer-as : (how : Reading) (mode : Mode) {text : Bytes} {table : List Step} {n : ℕ} {table' : List Step}
-      → PreparesAs how mode text table (prepared-is.Steps n) table' → (prepare_as how mode text ≡ answers (take n table')) × Every (InIt (reading_number how)) (take n table')
+      → PreparesAs how mode text table (Ok n) table' → (prepare_as how mode text ≡ answers (take n table')) × Every (InIt (reading_number how)) (take n table')
   -- "`inv` also turns `push`, `pop` and `stack`": whatever the operator, a step with `inv` does what the step without it does in the other direction
   pub inv-turns-every-operator : (d : Direction) (number : ℕ) (l : List ℤ) (fwd back : ℕ)
       → act d (in_reading Proj (step_with number l 1 fwd back)) ≡ act (opposite d) (in_reading Proj (step_with number l 0 fwd back))
   -- "18 at a record whose reading is not the first's": a table of one mode (of records with eight slots, as all are) is not refused 18 exactly when its spans rise, up to
   -- byte 40,960, and some text prepares to it in that mode, spans aside
   pub refused-18-unless-prepared : (mode : Mode) (t : List Step) → Every Slots t → all_of (of_mode mode) t ≡ true
-      → (refusal18 t ≡ none) ↔ (Rise 40960 0 t × ((how : Reading) × Texted how mode t))
+      → (refusal18 t ≡ None) ↔ (Rise 40960 0 t × ((how : Reading) × Texted how mode t))
   -- and any table, exactly when it has 64 records at most, all of its first one's reading, its spans rise, and each alone has a text, in some mode, spans aside
   pub refused-18-unless-each : (t : List Step) → Every Slots t
-      → (refusal18 t ≡ none) ↔ ((length t ≤ 64) × Every (InIt (table_reading t)) t × Rise 40960 0 t × Every TextedAlone t)
+      → (refusal18 t ≡ None) ↔ ((length t ≤ 64) × Every (InIt (table_reading t)) t × Rise 40960 0 t × Every TextedAlone t)
   -- a record alone, in its own reading: it is made, and of a mode, exactly when some text prepares to it in that mode, spans aside
   pub made-exactly : (mode : Mode) (s : Step) → Slots s → ((made s ≡ true) × (of_mode mode s ≡ true)) ↔ Texted (reading_of s.reading) mode (s ∷ [])
   -- what `write` answered of a table of one mode gives the table back, prepared in its reading and that mode, with the spans of that text: its steps' texts in turn, a
   -- byte between
   pub written-returns : (mode : Mode) (t : List Step) → Every Slots t → all_of (of_mode mode) t ≡ true → {out : Bytes} {n : ℕ} {out' : Bytes}
-      → Lends (write t) out (written_is.Wrote n) out' → (table : List Step) → length t ≤ length table → {r : Prepared} {table' : List Step}
+      → Lends (write t) out (Ok n) out' → (table : List Step) → length t ≤ length table → {r : Result ℕ Refusal} {table' : List Step}
       → PreparesAs (reading_of (table_reading t)) mode (take n out') table r table'
-      → (r ≡ prepared-is.Steps (length t)) × (table' ≡ with_spans (written_spans t) t ++ drop (length t) table)
+      → (r ≡ Ok (length t)) × (table' ≡ with_spans (written_spans t) t ++ drop (length t) table)
 
 -- ==== Document 02, request 2. "Add a documented mode, chosen for a whole preparation".
 
 pub record Modes : Type 0 where
   -- the records that a preparation in a mode answers are of that mode: none is the other mode's `adapt`
   pub records-of-the-mode : (how : Reading) (mode : Mode) {text : Bytes} {table : List Step} {n : ℕ} {table' : List Step}
-      → PreparesAs how mode text table (prepared-is.Steps n) table' → all_of (of_mode mode) (take n table') ≡ true
+      → PreparesAs how mode text table (Ok n) table' → all_of (of_mode mode) (take n table') ≡ true
   -- "Refusals: none new.": what one mode refuses, the other refuses, with the same number at the same place
   pub refuses-the-same : (mode other : Mode) (how : Reading) (text : Bytes) (number place : ℕ)
       → prepare_as how mode text ≡ refuses number place → prepare_as how other text ≡ refuses number place
@@ -276,8 +270,8 @@ pub record Modes : Type 0 where
   -- "Where every factor is plus or minus one, inverse after forward restores all numbers that are not NaN, bit for bit", and so does forward after inverse: a
   -- step of this mode that no mark leaves out, a run of it, and a run of it the other way on the list that the first one left
   pub restores : (s : Step) → made s ≡ true → operator s ≡ Documented → is_set s.omit_fwd ≡ false → is_set s.omit_inv ≡ false → EachUnit (args s)
-      → (d : Direction) {xs store : List Float} {c n : ℕ} {xs' store' : List Float} → Runs d (s ∷ []) xs store (ran-is.Done c n) xs' store'
-      → {store₂ : List Float} {c₂ n₂ : ℕ} {xs'' store₂' : List Float} → Runs (opposite d) (s ∷ []) xs' store₂ (ran-is.Done c₂ n₂) xs'' store₂'
+      → (d : Direction) {xs store : List Float} {c n : ℕ} {xs' store' : List Float} → Runs d (s ∷ []) xs store (done c n) xs' store'
+      → {store₂ : List Float} {c₂ n₂ : ℕ} {xs'' store₂' : List Float} → Runs (opposite d) (s ∷ []) xs' store₂ (done c₂ n₂) xs'' store₂'
       → (i : ℕ) → i < length xs / 4 → (j : ℕ) → 1 ≤ j → j ≤ 4 → (p q : ℕ) → Bits p (number_at xs i j) → Bits q (number_at xs'' i j) → Alike false p q
 
 -- ==== Document 02, request 3. "Tell me where the bad number is."
@@ -285,37 +279,37 @@ pub record Modes : Type 0 where
 pub record Offsets : Type 0 where
   -- "The series reading must return the byte offset .. Preparation passes the offset on": where preparing answers 12 at a place and an offset, the byte at the offset of that
   -- step's text begins a piece, or a flag's value, that breaks the rule, and nothing before it does
-  pub prepare-offset : {text : Bytes} {table table' : List Step} {place offset : ℕ} → Prepares text table (prepared-is.Refused 12 place offset) table' → FirstFault text place offset
+  pub prepare-offset : {text : Bytes} {table table' : List Step} {place offset : ℕ} → Prepares text table (refusal_at 12 place offset) table' → FirstFault text place offset
   pub prepare-as-offset : (how : Reading) (mode : Mode) {text : Bytes} {table table' : List Step} {place offset : ℕ}
-      → PreparesAs how mode text table (prepared-is.Refused 12 place offset) table' → FirstFault text place offset
+      → PreparesAs how mode text table (refusal_at 12 place offset) table' → FirstFault text place offset
   -- "12 gains the offset", and no other refusal has one
-  pub no_other : {text : Bytes} {table table' : List Step} {number place offset : ℕ} → Prepares text table (prepared-is.Refused number place offset) table'
+  pub no_other : {text : Bytes} {table table' : List Step} {number place offset : ℕ} → Prepares text table (refusal_at number place offset) table'
       → (number ≡ 12 → ⊥) → offset ≡ 0
   pub no-other-as : (how : Reading) (mode : Mode) {text : Bytes} {table table' : List Step} {number place offset : ℕ}
-      → PreparesAs how mode text table (prepared-is.Refused number place offset) table' → (number ≡ 12 → ⊥) → offset ≡ 0
+      → PreparesAs how mode text table (refusal_at number place offset) table' → (number ≡ 12 → ⊥) → offset ≡ 0
 
 -- ==== Document 02, request 4. "Underline the faulty step."
 
 -- "Depths, places and tuples must not depend on spans": what the calls say of one table they say of the other, but for the span that the check returns
 pub record SameOfBoth (t u : List Step) : Type 0 where
   pub checks : {d : Direction} {f g : Foretold} → Checks d t f → Checks d u g → SaysTheSame f g
-  pub runs : {d : Direction} {xs store : List Float} {r s : Ran} {xs' xs'' store' store'' : List Float}
+  pub runs : {d : Direction} {xs store : List Float} {r s : Result Finished Refusal} {xs' xs'' store' store'' : List Float}
       → Runs d t xs store r xs' store' → Runs d u xs store s xs'' store'' → (r ≡ s) × (xs' ≡ xs'') × (store' ≡ store'')
-  pub writes : {out : Bytes} {r s : Written} {out' out'' : Bytes} → Lends (write t) out r out' → Lends (write u) out s out'' → (r ≡ s) × (out' ≡ out'')
+  pub writes : {out : Bytes} {r s : Result ℕ Refusal} {out' out'' : Bytes} → Lends (write t) out r out' → Lends (write u) out s out'' → (r ≡ s) × (out' ≡ out'')
 
 pub record Spans : Type 0 where
   -- "the normalised definition", which the call `definition` answers
-  pub definition-answer : {text out : Bytes} {m : ℕ} {out' : Bytes} → Writes define text out (written_is.Wrote m) out' → definition text ≡ take m out'
+  pub definition-answer : {text out : Bytes} {m : ℕ} {out' : Bytes} → Writes define text out (Ok m) out' → definition text ≡ take m out'
   -- "Each step record gains the first byte and length of its text in the normalised definition": the reader, from the definition's first byte on, finds the first record's
   -- text at its span, from there on the second's, and so on, and none behind the last
   pub spans-are-the-readers : (how : Reading) (mode : Mode) {text : Bytes} {table : List Step} {n : ℕ} {table' : List Step}
-      → PreparesAs how mode text table (prepared-is.Steps n) table' → Walk (definition text) 0 (take n table')
+      → PreparesAs how mode text table (Ok n) table' → Walk (definition text) 0 (take n table')
   -- "taken before leading modifiers are turned to the end": the bytes there are the step's words as it is split off, a space between, and no more
   pub bytes-there : (how : Reading) (mode : Mode) {text : Bytes} {table : List Step} {n : ℕ} {table' : List Step}
-      → PreparesAs how mode text table (prepared-is.Steps n) table' → map (λ (s : Step). bytes_at (definition text) s.span) (take n table') ≡ map joined (steps text)
+      → PreparesAs how mode text table (Ok n) table' → map (λ (s : Step). bytes_at (definition text) s.span) (take n table') ≡ map joined (steps text)
   -- "Spans of a table rise and do not overlap", within the definition, which has 40,960 bytes at most
   pub spans-rise : (how : Reading) (mode : Mode) {text : Bytes} {table : List Step} {n : ℕ} {table' : List Step}
-      → PreparesAs how mode text table (prepared-is.Steps n) table' → Rise (length (definition text)) 0 (take n table') × (length (definition text) ≤ 40960)
+      → PreparesAs how mode text table (Ok n) table' → Rise (length (definition text)) 0 (take n table') × (length (definition text) ≤ 40960)
   -- "the check returns the span with its step", and none where it names none
   pub few-span : {d : Direction} {t : List Step} {f : Foretold} (k : ℕ) → Checks d t f → f.verdict ≡ TooFew k → f.span ≡ span_at k t
   pub many-span : {d : Direction} {t : List Step} {f : Foretold} (k : ℕ) → Checks d t f → f.verdict ≡ TooMany k → f.span ≡ span_at k t
@@ -323,13 +317,13 @@ pub record Spans : Type 0 where
   pub refused-span : {d : Direction} {t : List Step} {f : Foretold} (number k : ℕ) → Checks d t f → f.verdict ≡ Refused number k → f.span ≡ no_span
   -- "The site editor marks the step the check names": the bytes at the span that the check of a prepared definition returns are the text of the step that it names
   pub underlines-few : (how : Reading) (mode : Mode) {text : Bytes} {table : List Step} {n : ℕ} {table' : List Step} {d : Direction} {f : Foretold} (k : ℕ)
-      → PreparesAs how mode text table (prepared-is.Steps n) table' → Checks d (take n table') f → f.verdict ≡ TooFew k
+      → PreparesAs how mode text table (Ok n) table' → Checks d (take n table') f → f.verdict ≡ TooFew k
       → bytes_at (definition text) f.span ≡ get_or (map joined (steps text)) (k - 1) []
   pub underlines-many : (how : Reading) (mode : Mode) {text : Bytes} {table : List Step} {n : ℕ} {table' : List Step} {d : Direction} {f : Foretold} (k : ℕ)
-      → PreparesAs how mode text table (prepared-is.Steps n) table' → Checks d (take n table') f → f.verdict ≡ TooMany k
+      → PreparesAs how mode text table (Ok n) table' → Checks d (take n table') f → f.verdict ≡ TooMany k
       → bytes_at (definition text) f.span ≡ get_or (map joined (steps text)) (k - 1) []
   -- "and that is proved of two accepted tables that differ only there"
-  pub spans-aside : (t u : List Step) → refusal18 t ≡ none → refusal18 u ≡ none → SameButSpans t u → SameOfBoth t u
+  pub spans-aside : (t u : List Step) → refusal18 t ≡ None → refusal18 u ≡ None → SameButSpans t u → SameOfBoth t u
 
 -- ==== From C and from Rust: behind each answer of an export there is one of the call that it exports, with the same storage afterwards, so all of the above
 -- holds there too. Number 0 is an answer, a pass, or a run that is done; and a reader that finds nothing is at the end.
@@ -341,15 +335,15 @@ pub record Exports : Type 0 where
   pub parameters-export : ExportsText parameters
   pub translate-export : ExportsText translate
   pub next-export : (text : Bytes) (at : ℕ) (r : Part) → r ≡ plain_found (next text at)
-      → (f : Found) × (f ≡ next text at) × (r ≡ plain_found f) × (r.found ≡ 0 → f ≡ End)
+      → (f : Option Found) × (f ≡ next text at) × (r ≡ plain_found f) × (r.found ≡ 0 → f ≡ None)
   pub prepare-export : {text : Bytes} {table : List Step} {r : Answer} {table' : List Step} → Promised record_count prepare text table r table'
-      → (w : Prepared) × Prepares text table w table' × (r ≡ plain_prepared w) × (r.number ≡ 0 → w ≡ prepared-is.Steps r.length)
+      → (w : Result ℕ Refusal) × Prepares text table w table' × (r ≡ plain_prepared w) × (r.number ≡ 0 → w ≡ Ok r.length)
   pub prepare-as-export : (how : Reading) (mode : Mode) {text : Bytes} {table : List Step} {r : Answer} {table' : List Step}
-      → Promised record_count (prepare_as how mode) text table r table' → (w : Prepared) × PreparesAs how mode text table w table' × (r ≡ plain_prepared w) × (r.number ≡ 0 → w ≡ prepared-is.Steps r.length)
+      → Promised record_count (prepare_as how mode) text table r table' → (w : Result ℕ Refusal) × PreparesAs how mode text table w table' × (r ≡ plain_prepared w) × (r.number ≡ 0 → w ≡ Ok r.length)
   pub check-export : {inverse : ℕ} {t : List Step} {r : Checked} → PlainChecks inverse t r
       → (f : Foretold) × Checks (direction_of inverse) t f × (r ≡ plain_check f) × (r.said.number ≡ 0 → f.verdict ≡ Passes)
   pub run-export : {inverse : ℕ} {t : List Step} {xs store : List Float} {r : plain-run.Done} {xs' store' : List Float} → PlainRuns inverse t xs store r xs' store'
-      → (w : Ran) × Runs (direction_of inverse) t xs store w xs' store' × (r ≡ plain_ran w) × (r.number ≡ 0 → w ≡ ran-is.Done r.count r.left)
+      → (w : Result Finished Refusal) × Runs (direction_of inverse) t xs store w xs' store' × (r ≡ plain_ran w) × (r.number ≡ 0 → w ≡ done r.count r.left)
   -- and no second outcome meets these contracts either (of the text calls and of preparing: `text-once`)
   pub next-export-once : {r s : Part} (text : Bytes) (at : ℕ) → r ≡ plain_found (next text at) → s ≡ plain_found (next text at) → r ≡ s
   pub check-export-once : {inverse : ℕ} {t : List Step} {r s : Checked} → PlainChecks inverse t r → PlainChecks inverse t s → r ≡ s

@@ -16,21 +16,22 @@ fn act(pushes: bool, args: [i32; 8], n: usize) -> Doing
     ensures { Does (pushing pushes (take n args)) result }
 {
     if pushes {
-        return Doing {
+        Doing {
             act: Act::Pushes,
-            args: args,
-            n: n,
-        };
-    }
-    let turned = reversed(args, n);
-    Doing {
-        act: Act::Pops,
-        args: turned,
-        n: n,
+            args,
+            n,
+        }
+    } else {
+        Doing {
+            act: Act::Pops,
+            args: reversed(args, n),
+            n,
+        }
     }
 }
 
 // "Inverse push is pop with arguments reversed, and the other way round."
+// Stays: the number of the operator stands in a record, which C fills.
 pub fn act_of(operator: u8, args: [i32; 8], n: usize, direction: Direction) -> Doing
     requires operator_bound { operator ≤ 1 }
     requires n_bound { n ≤ 8 }

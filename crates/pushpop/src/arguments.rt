@@ -2,24 +2,22 @@
 ghost use Rattle.std.specs.Prelude.{◌≡◌};
 ghost use Rattle.rules.specs.Operators.PushPop.{is_rising};
 
-use numbers::{Kind, is_at, size_at};
+use numbers::{Kind, is_of, size_of};
 
 // Places 1 to 4 that rise.
 pub fn is_rising(l: &[i32]) -> bool
     ensures { result ≡ is_rising 0 l.now }
 {
-    let mut i = 0;
     let mut last = 0;
-    while i < l.len() {
-        if !is_at(Kind::Place, l, i) {
+    for x in l {
+        if !is_of(Kind::Place, *x) {
             return false;
         }
-        let m = size_at(l, i);
+        let m = size_of(*x);
         if m <= last {
             return false;
         }
         last = m;
-        i += 1;
     }
     true
 }

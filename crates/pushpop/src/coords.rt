@@ -6,7 +6,7 @@ ghost use Rattle.rules.specs.Operators.Arguments.{places};
 ghost use Rattle.columns.specs.Machine.{Acted};
 
 use columns::{nan_column, pop_column, push_column};
-use numbers::size_at;
+use numbers::size_of;
 
 // Push: a column for each place, in their order.
 pub fn push(xs: &[f64], store: &mut [f64], depth: usize, args: &[i32])
@@ -16,10 +16,9 @@ pub fn push(xs: &[f64], store: &mut [f64], depth: usize, args: &[i32])
     ensures { Acted (pushes (places args.now)) depth xs.now store.old xs.now store.new }
 {
     let n = xs.len() / 4;
-    let mut j = 0;
-    while j < args.len() {
-        push_column(xs, store, (depth + j) * n, size_at(args, j));
-        j += 1;
+    for (j, x) in args.iter().enumerate() {
+        let at = (depth + j) * n;
+        push_column(xs, &mut store[at..at + n], size_of(*x));
     }
 }
 
@@ -30,14 +29,13 @@ pub fn pop(xs: &mut [f64], store: &[f64], depth: usize, args: &[i32])
     ensures { Acted (pops (places args.now)) depth xs.old store.now xs.new store.now }
 {
     let n = xs.len() / 4;
-    let mut j = 0;
-    while j < args.len() {
-        let i = size_at(args, j);
+    for (j, x) in args.iter().enumerate() {
+        let i = size_of(*x);
         if depth <= j {
             nan_column(xs, i);
             return;
         }
-        pop_column(xs, store, (depth - 1 - j) * n, i);
-        j += 1;
+        let at = (depth - 1 - j) * n;
+        pop_column(xs, &store[at..at + n], i);
     }
 }

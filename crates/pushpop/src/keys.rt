@@ -7,20 +7,20 @@ use rules::Kind;
 use text::is_same;
 
 // What a key takes, if it is one of theirs.
-pub fn kind_of(key: &[u8]) -> Kind
+pub fn kind_of(key: &[u8]) -> Option<Kind>
     ensures { result ≡ kind_in axis_keys key.now }
 {
     if is_same(key, b"v_1") {
-        return Kind::Flag;
+        return Some(Kind::Flag);
     }
     if is_same(key, b"v_2") {
-        return Kind::Flag;
+        return Some(Kind::Flag);
     }
     if is_same(key, b"v_3") {
-        return Kind::Flag;
+        return Some(Kind::Flag);
     }
     if is_same(key, b"v_4") {
-        return Kind::Flag;
+        return Some(Kind::Flag);
     }
-    Kind::Lacking
+    None
 }

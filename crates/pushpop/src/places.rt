@@ -7,7 +7,7 @@ ghost use Rattle.columns.specs.Traces.{Whole, Moved};
 ghost use Rattle.numbers.specs.Axes.{is_axis};
 
 use columns::Traced;
-use numbers::axis_at;
+use numbers::axis_of;
 
 // A column for each place, in their order.
 pub fn push_places(t: Traced, l: &[i32]) -> Traced
@@ -17,14 +17,10 @@ pub fn push_places(t: Traced, l: &[i32]) -> Traced
     ensures { Moved (pushes (places l.now)) t result }
 {
     let mut r = t;
-    let mut i = 0;
-    while i < l.len() {
-        let k = axis_at(l, i);
+    for x in l {
         let at = r.top - 1;
-        let p = r.tuple[k];
-        r.columns[at] = p;
+        r.columns[at] = r.tuple[axis_of(*x)];
         r.top = at;
-        i += 1;
     }
     r
 }
@@ -37,14 +33,9 @@ pub fn pop_places(t: Traced, l: &[i32]) -> Traced
     ensures { Moved (pops (places l.now)) t result }
 {
     let mut r = t;
-    let mut i = 0;
-    while i < l.len() {
-        let k = axis_at(l, i);
-        let at = r.top;
-        let p = r.columns[at];
-        r.tuple[k] = p;
-        r.top = at + 1;
-        i += 1;
+    for x in l {
+        r.tuple[axis_of(*x)] = r.columns[r.top];
+        r.top += 1;
     }
     r
 }

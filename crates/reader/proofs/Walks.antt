@@ -1,112 +1,80 @@
 -- The next step, piece by piece: a piece of white space alone is passed over, and the first other one is the step. The invariant of the walk,
 -- and its laws.
+use Rattle.std.specs.Prelude.{None}
 use mathlib.Core.Path.{◌≡◌, refl, sym, ap, ◌∙◌}
-use mathlib.Core.Bool.{Bool, true, false, cond, not, ◌&&◌, false≢true}
-use mathlib.Core.List.{[], ◌∷◌, ◌++◌, append-nil}
+use mathlib.Core.Bool.{Bool, true, false, cond, not}
+use mathlib.Core.List.{List, [], ◌∷◌}
 use Prim.Native.Nat.{ℕ, suc, ◌+◌, ◌≤◌, ◌<◌}
-use native.Mathlib.Decide.{dec_lt}
+use native.Mathlib.Numerals.{add-one}
 use native.Mathlib.Omega.{arith}
-use borrow.Author.Tests.{not-false}
-use lib.ListN.{length, drop, get_or, drop_of_length-le}
+use lib.ListN.{length, drop, get_or, length-drop, drop_of_length-le}
+use lib.Seq.{drop-cons}
 use Rattle.rules.specs.Text.Ascii.{is}
 use Rattle.rules.specs.Text.Lists.{all_of, kept, non_empty}
 use Rattle.rules.specs.Text.Bytes.{Bytes, white, onto, cut, words}
-use Rattle.rules.specs.Text.Reader.{step, found, next, part}
-use Rattle.rules.specs.declared.Found.TheVariants.{End}
-use Rattle.text.specs.Runs.{Run}
-use Rattle.text.proofs.RunEnd.{drop-next, other, part-rest, length_part, run-stops, words-blank}
+use Rattle.rules.specs.Text.Reader.{step, found, next}
+use Rattle.text.proofs.RunEnd.{words-blank}
 
--- ---- the first piece
+-- how many bytes the pieces have, and one between each and behind the last
+pub span : List Bytes → ℕ
+span [] = 0
+span (p ∷ ps) = suc (length p) + span ps
 
--- a text without a byte that passes the test is one piece
-cut-free : (test : ℕ → Bool) (t : Bytes) → all_of (other test) t ≡ true → cut test t ≡ t ∷ []
-unfolding all_of cut onto
-cut-free test [] e = refl
-cut-free test (x ∷ t) e = go (test x) e (cut-free test t)
+span-onto : (x : ℕ) (ps : List Bytes) → 0 < span ps → span (onto x ps) ≡ suc (span ps)
+unfolding span onto
+span-onto x [] h = omega (arith, h)
+span-onto x (p ∷ ps) h = omega arith
+
+span-cut : (test : ℕ → Bool) (t : Bytes) → span (cut test t) ≡ suc (length t)
+unfolding span cut
+span-cut test [] = refl
+span-cut test (x ∷ t) = go (test x) (span-cut test t)
   where
-    go : (b : Bool) → (not b && all_of (other test) t) ≡ true → (all_of (other test) t ≡ true → cut test t ≡ t ∷ [])
-        → cond b ([] ∷ cut test t) (onto x (cut test t)) ≡ (x ∷ t) ∷ []
-    go true g h = absurd (false≢true g)
-    go false g h = ap (onto x) (h g)
+    go : (b : Bool) → span (cut test t) ≡ suc (length t) → span (cond b ([] ∷ cut test t) (onto x (cut test t))) ≡ suc (suc (length t))
+    go true h = omega (arith, h)
+    go false h = omega (arith, h, span-onto x (cut test t) (omega (arith, h)))
 
--- at such a byte, the first piece ends
-cut-here : (test : ℕ → Bool) (t : Bytes) (y : ℕ) (u : Bytes) → all_of (other test) t ≡ true → test y ≡ true → cut test (t ++ y ∷ u) ≡ t ∷ cut test u
-unfolding all_of cut onto
-cut-here test [] y u e f = rw f
-cut-here test (x ∷ t) y u e f = go (test x) e (λ g. cut-here test t y u g f)
-  where
-    go : (b : Bool) → (not b && all_of (other test) t) ≡ true → (all_of (other test) t ≡ true → cut test (t ++ y ∷ u) ≡ t ∷ cut test u)
-        → cond b ([] ∷ cut test (t ++ y ∷ u)) (onto x (cut test (t ++ y ∷ u))) ≡ (x ∷ t) ∷ cut test u
-    go true g h = absurd (false≢true g)
-    go false g h = ap (onto x) (h g)
+-- what is found from `at` on, the place behind the first k pieces, is what is found from `start` on
+pub record Walks (s : Bytes) (start k at : ℕ) : Type 0 where
+  pub same : found at (drop k (cut (is "|") (drop start s))) ≡ next s start
+  pub whole : at + span (drop k (cut (is "|") (drop start s))) ≡ length s + 1
 
-module _ {s : Bytes} {i e : ℕ} (m : Run (other (is "|")) s i e) where
-  -- the piece, and those behind it
-  piece-last : e ≡ length s → cut (is "|") (drop i s) ≡ part i e s ∷ []
-  piece-last z =
-      let l : length s ≤ e = omega arith in
-      let d : drop e s ≡ [] = drop_of_length-le s l in
-      ap (cut (is "|")) (part-rest s i e m.ahead ∙ rw d (append-nil (part i e s))) ∙ cut-free (is "|") (part i e s) m.whole
+pub walks-none : {s : Bytes} {start : ℕ} → start ≤ length s → Walks s start 0 start
+unfolding next
+walks-none {s} {start} h = record { same = refl; whole = omega (arith, span-cut (is "|") (drop start s), length-drop start s) }
 
-  piece-more : e < length s → cut (is "|") (drop i s) ≡ part i e s ∷ cut (is "|") (drop (e + 1) s)
-  piece-more h =
-      let y : is "|" (get_or s e 0) ≡ true = not-false (is "|" (get_or s e 0)) (run-stops m h) in
-      ap (cut (is "|")) (part-rest s i e m.ahead ∙ rw (drop-next s e h)) ∙ cut-here (is "|") (part i e s) (get_or s e 0) (drop (e + 1) s) m.whole y
+module _ {s : Bytes} {start k at : ℕ} (m : Walks s start k at) where
+  module _ {p : Bytes} (h : k < length (cut (is "|") (drop start s))) (e : p ≡ get_or (cut (is "|") (drop start s)) k p) where
+    split : drop k (cut (is "|") (drop start s)) ≡ p ∷ drop (suc k) (cut (is "|") (drop start s))
+    split = drop-cons (cut (is "|") (drop start s)) k p h ∙ ap (λ (v : Bytes). v ∷ drop (suc k) (cut (is "|") (drop start s))) (sym e)
 
-  blank-words : all_of white (part i e s) ≡ true → non_empty (words (part i e s)) ≡ false
-  blank-words w = words-blank (part i e s) ∙ rw w
+    -- the piece stands within the text
+    pub walks-within : at + length p ≤ length s
+    unfolding span
+    walks-within = omega (arith, m.whole, ap span split)
 
-  some_words : all_of white (part i e s) ≡ false → non_empty (words (part i e s)) ≡ true
-  some_words w = words-blank (part i e s) ∙ rw w
+    here : cond (non_empty (words p)) (step at (at + length p)) (found (at + suc (length p)) (drop (suc k) (cut (is "|") (drop start s)))) ≡ next s start
+    unfolding found
+    here = rw split at m.same
 
-  -- an empty piece is passed over
-  pub next-over : e < length s → all_of white (part i e s) ≡ true → next s i ≡ next s (e + 1)
-  unfolding next found
-  next-over h w =
-      let k : i + suc (length (part i e s)) ≡ e + 1 = omega (arith, length_part s i e m.ahead m.within, m.ahead) in
-      rw (piece-more h, blank-words w, k)
+    -- an empty piece is passed over
+    pub walks-over : {n : ℕ} → all_of white p ≡ true → n ≡ k + 1 → Walks s start n (at + length p + 1)
+    unfolding span
+    walks-over {n} w f =
+        let b : non_empty (words p) ≡ false = words-blank p ∙ ap not w in
+        let a : at + length p + 1 ≡ at + suc (length p) = omega arith in
+        record { same = rw (a, f, add-one k) (rw b at here); whole = rw (f, add-one k) (omega (arith, m.whole, ap span split)) }
 
-  pub next-none : length s ≤ e → all_of white (part i e s) ≡ true → End ≡ next s i
-  unfolding next found
-  next-none h w =
-      let z : e ≡ length s = omega (arith, m.within) in
-      sym (rw (piece-last z, blank-words w))
+    -- another is the step
+    pub walks-here : all_of white p ≡ false → step at (at + length p) ≡ next s start
+    walks-here w = let b : non_empty (words p) ≡ true = words-blank p ∙ ap not w in rw b at here
 
-  -- another is the step
-  pub next_here : all_of white (part i e s) ≡ false → step i e ≡ next s i
-  next_here w = elim (dec_lt e (length s)) [ yes h ↦ more h | no h ↦ last (omega (arith, m.within)) ]
-    where
-      k : i + length (part i e s) ≡ e
-      k = omega (arith, length_part s i e m.ahead m.within, m.ahead)
+  -- no piece is left
+  pub walks-end : length (cut (is "|") (drop start s)) ≤ k → None ≡ next s start
+  unfolding found
+  walks-end h = rw (drop_of_length-le (cut (is "|") (drop start s)) h) at m.same
 
-      more : e < length s → step i e ≡ next s i
-      more h = unfold next found in sym (rw (piece-more h, some_words w, k))
-
-      last : e ≡ length s → step i e ≡ next s i
-      last z = unfold next found in sym (rw (piece-last z, some_words w, k))
-
--- from the text's end on, or beyond, there is none
-pub next_past : (s : Bytes) (i : ℕ) → length s ≤ i → End ≡ next s i
+-- from beyond the text's end, there is none
+pub next_past : (s : Bytes) (i : ℕ) → length s < i → None ≡ next s i
 unfolding next found words kept cut non_empty
-next_past s i h = sym (rw (drop_of_length-le s h))
-
--- ---- `next_step`: what is found from i on is what is found from the start on
-
-pub record Walks (s : Bytes) (start i : ℕ) : Type 0 where
-  pub same : next s i ≡ next s start
-
-pub walks-none : (s : Bytes) (start : ℕ) → Walks s start start
-walks-none s start = record { same = refl }
-
-module _ {s : Bytes} {start i e : ℕ} (m : Walks s start i) (p : Run (other (is "|")) s i e) where
-  pub walks-over : e < length s → all_of white (part i e s) ≡ true → Walks s start (e + 1)
-  walks-over h w = record { same = sym (next-over p h w) ∙ m.same }
-
-  pub walks-none-left : length s ≤ e → all_of white (part i e s) ≡ true → End ≡ next s start
-  walks-none-left h w = next-none p h w ∙ m.same
-
-  pub walks-here : all_of white (part i e s) ≡ false → step i e ≡ next s start
-  walks-here w = next_here p w ∙ m.same
-
-pub walks-end : {s : Bytes} {start i : ℕ} → Walks s start i → length s ≤ i → End ≡ next s start
-walks-end {s} {start} {i} m h = next_past s i h ∙ m.same
+next_past s i h = let l : length s ≤ i = omega arith in sym (rw (drop_of_length-le s l))

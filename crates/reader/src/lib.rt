@@ -19,7 +19,7 @@ pub struct Reader<'a> {
 
 impl<'a> Reader<'a> {
     // What the reader finds: the next step, and the place from which to go on; or the end.
-    pub fn next(self) -> Found
+    pub fn next(self) -> Option<Found>
         ensures { result ≡ next self.entry.text.now self.entry.at }
     {
         walk::next_step(self.text, Cursor { at: self.at })
@@ -27,7 +27,7 @@ impl<'a> Reader<'a> {
 }
 
 // What a reader of text finds from the place `at` on.
-pub fn next_from(text: &[u8], at: usize) -> Found
+pub fn next_from(text: &[u8], at: usize) -> Option<Found>
     ensures { result ≡ next text.now at }
 {
     let reader = Reader { text, at };

@@ -3,28 +3,26 @@ ghost use Rattle.std.specs.Prelude.{◌≡◌};
 ghost use Rattle.rules.specs.Text.Reader.{next};
 
 use rules::{Cursor, Found};
-use text::{Kind, is_blank, run_end};
+use text::is_blank;
 
 // The next step of a normalised text from the cursor on: the first piece between `|` that is not empty.
-pub fn next_step(normal: &[u8], cursor: Cursor) -> Found
+pub fn next_step(normal: &[u8], cursor: Cursor) -> Option<Found>
     ensures { result ≡ next normal.now cursor.at }
 {
-    let mut i = cursor.at;
-    while i < normal.len() {
-        let e = run_end(Kind::Piece, normal, i);
-        if is_blank(&normal[i..e]) {
-            if e < normal.len() {
-                i = e + 1;
-            } else {
-                return Found::End;
-            }
-        } else {
-            return Found::Step {
-                from: i,
-                to: e,
-                then: Cursor { at: e },
-            };
+    let Some(rest) = normal.get(cursor.at..) else {
+        return None;
+    };
+    let mut from = cursor.at;
+    for piece in rest.split(|b| *b == b'|') {
+        let to = from + piece.len();
+        if !is_blank(piece) {
+            return Some(Found {
+                from,
+                to,
+                then: Cursor { at: to },
+            });
         }
+        from = to + 1;
     }
-    Found::End
+    None
 }

@@ -1,11 +1,11 @@
 -- Refusal 18 of a record and of a table, by what the code has found out.
+use Rattle.std.specs.Prelude.{None, Some}
 use mathlib.Core.Path.{◌≡◌, refl, ap, ◌∙◌}
 use Prim.Native.Nat.{ℕ, zero, suc, ◌+◌, ◌-◌, ◌≤◌, ◌<◌}
 use native.Mathlib.Nat.{pos_of_ne-zero}
 use native.Mathlib.Numerals.{add-one}
 use native.Mathlib.Omega.{arith}
 use mathlib.Core.List.{List, [], ◌∷◌, ◌++◌, append-nil}
-use mathlib.Core.Option.{none, some}
 use mathlib.Core.Bool.{Bool, true, false, ◌&&◌}
 use lib.Dec.{leb}
 use lib.ListN.{length, get_or, take, length-append, length-take, length-replicate, replicate}
@@ -15,8 +15,7 @@ use Rattle.rules.specs.Pipeline.Record.{span_end, made, good_span, table_reading
 use Rattle.rules.specs.declared.Span.{Span}
 use Rattle.rules.specs.declared.Step.{Step}
 use Rattle.rules.specs.declared.Table.{Table}
-use Rattle.record.specs.Records.{is_marked, is_written, bad_of}
-use Rattle.record.specs.declared.tests.Bad.TheVariants.{At}
+use Rattle.record.specs.Records.{is_marked, is_written}
 
 -- ---- a record
 
@@ -60,8 +59,8 @@ pub listed-length : (t : Table) → length t.steps ≡ 64 → length (listed t) 
 unfolding listed
 listed-length t full = length-append (take t.n t.steps) _ ∙ rw (length-take, length-replicate, full) (omega arith)
 
-pub bad-long : (t : Table) → length t.steps ≡ 64 → 64 < t.n → At 0 ≡ bad_of (refusal18 (listed t))
-unfolding refusal18 bad_of
+pub bad-long : (t : Table) → length t.steps ≡ 64 → 64 < t.n → Some 0 ≡ refusal18 (listed t)
+unfolding refusal18
 bad-long t full h = rw (listed-length t full, lt-ltb _ _ h) refl
 
 -- the reading of a table is that of its first record, as the code reads it: of no records none is bad in any reading
@@ -83,10 +82,10 @@ module _ (reading end k : ℕ) where
   unfolding first_bad
   bad-next s l e f = rw (e, f, add-one k) refl
 
-  pub bad-here : (s : Step) (l : List Step) → good_in reading end s ≡ false → first_bad reading end k (s ∷ l) ≡ some k
+  pub bad-here : (s : Step) (l : List Step) → good_in reading end s ≡ false → first_bad reading end k (s ∷ l) ≡ Some k
   unfolding first_bad
   bad-here s l e = rw e refl
 
-  pub bad-none : first_bad reading end k [] ≡ none
+  pub bad-none : first_bad reading end k [] ≡ None
   unfolding first_bad
   bad-none = refl

@@ -1,8 +1,8 @@
 -- A table that no refusal 18 is given for.
+use Rattle.std.specs.Prelude.{None, Some}
 use mathlib.Core.Path.{◌≡◌, refl, sym, ap, ◌∙◌}
 use Prim.Native.Nat.{ℕ, zero, suc, ◌≤◌, ◌<◌}
 use mathlib.Core.Bool.{Bool, true, false, cond}
-use mathlib.Core.Option.{none, some}
 use mathlib.Core.List.{List, [], ◌∷◌}
 use native.Mathlib.Omega.{arith}
 use borrow.Author.Tests.{ltb-false}
@@ -18,13 +18,13 @@ use Rattle.record.specs.Visits.{visited}
 use Rattle.record.proofs.Refused18.{listed-few, listed-length, bad-few}
 
 module _ (reading : ℕ) where
-  none-bad : (end k : ℕ) (l : List Step) (i : ℕ) (z : Step) → first_bad reading end k l ≡ none → i < length l → made (get_or l i z) ≡ true
+  none-bad : (end k : ℕ) (l : List Step) (i : ℕ) (z : Step) → first_bad reading end k l ≡ None → i < length l → made (get_or l i z) ≡ true
   unfolding first_bad good_in
   none-bad end k [] i z e h = absurd (omega (arith, h))
   none-bad end k (s ∷ l) i z e h = go (good_in reading end s) refl i h e (λ j g f. none-bad (span_end s.span) (suc k) l j z g f)
     where
-      go : (b : Bool) → good_in reading end s ≡ b → (i : ℕ) → i < length (s ∷ l) → cond b (first_bad reading (span_end s.span) (suc k) l) (some k) ≡ none
-          → ((j : ℕ) → first_bad reading (span_end s.span) (suc k) l ≡ none → j < length l → made (get_or l j z) ≡ true) → made (get_or (s ∷ l) i z) ≡ true
+      go : (b : Bool) → good_in reading end s ≡ b → (i : ℕ) → i < length (s ∷ l) → cond b (first_bad reading (span_end s.span) (suc k) l) (Some k) ≡ None
+          → ((j : ℕ) → first_bad reading (span_end s.span) (suc k) l ≡ None → j < length l → made (get_or l j z) ≡ true) → made (get_or (s ∷ l) i z) ≡ true
       go true p zero h e f = and_left (made s) _ p
       go true p (suc i) h e f = f i e (omega (arith, h))
       go false p i h e f = absurd (never (cc e))
@@ -35,7 +35,7 @@ pub record Sound (t : Table) : Type 0 where
   pub many : length (take t.n t.steps) ≡ t.n
   pub each : (i : ℕ) (z : Step) → i < t.n → made (get_or t.steps i z) ≡ true
 
-pub sound-so : (t : Table) → length t.steps ≡ 64 → refusal18 (listed t) ≡ none → Sound t
+pub sound-so : (t : Table) → length t.steps ≡ 64 → refusal18 (listed t) ≡ None → Sound t
 unfolding refusal18
 sound-so t full e =
     let few : t.n ≤ 64 = ltb-false 64 t.n (ap (ltb 64) (sym (listed-length t full)) ∙ short (ltb 64 (length (listed t))) refl e) in
@@ -48,7 +48,7 @@ sound-so t full e =
           sym (ap made (get_or-take t.n t.steps i z h)) ∙ none-bad _ 0 1 (take t.n t.steps) i z (sym (bad-few t z full few) ∙ e) (omega (arith, h, many));
     }
   where
-    short : (b : Bool) → ltb 64 (length (listed t)) ≡ b → cond b (some 0) (first_bad (table_reading (listed t)) 0 1 (listed t)) ≡ none → ltb 64 (length (listed t)) ≡ false
+    short : (b : Bool) → ltb 64 (length (listed t)) ≡ b → cond b (Some 0) (first_bad (table_reading (listed t)) 0 1 (listed t)) ≡ None → ltb 64 (length (listed t)) ≡ false
     short true p e = absurd (never (cc e))
     short false p e = p
 

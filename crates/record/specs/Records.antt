@@ -1,12 +1,9 @@
 -- A record, in the code's own order of tests.
 use Rattle.std.specs.Prelude.{ℕ, Bool, cond, ◌&&◌, List, leb, ℤ}
-use Rattle.std.proofs.Math.Option.{Option, none, some}
 use Rattle.rules.specs.Text.Lists.{all_of}
 use Rattle.rules.specs.Pipeline.Record.{nine_digits}
 use Rattle.rules.specs.Operators.Table.{is_args, operator_of}
 use Rattle.rules.specs.declared.Step.{Step}
-use Rattle.record.specs.declared.tests.Bad.{Bad}
-use Rattle.record.specs.declared.tests.Bad.TheVariants.{At, Nowhere}
 use Rattle.numbers.specs.declared.tests.Kind.TheVariants.{Zero}
 use Rattle.numbers.specs.Tests.{is_of}
 
@@ -15,11 +12,6 @@ is_marked s = leb s.inv 1 && (leb s.omit_fwd 1 && (leb s.omit_inv 1 && leb s.rea
 
 unfoldable pub is_written : ℕ → List ℤ → List ℤ → Bool
 is_written operator l unused = all_of (is_of Zero) unused && (all_of nine_digits l && is_args (operator_of operator) l)
-
--- the place of refusal 18, in the words of the code
-unfoldable pub bad_of : Option ℕ → Bad
-bad_of none = Nowhere
-bad_of (some place) = At place
 
 -- a mark, where it is set
 unfoldable pub mark_of : Bool → ℕ

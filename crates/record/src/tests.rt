@@ -1,7 +1,7 @@
 // Records and tables that a preparation makes: the test of refusal 18.
 ghost use Rattle.std.specs.Prelude.{◌≡◌, ◌≤◌, length, take, drop};
 ghost use Rattle.rules.specs.Pipeline.Record.{span_end, made, good_span, good_in, refusal18, listed};
-ghost use Rattle.record.specs.Records.{is_marked, is_written, bad_of};
+ghost use Rattle.record.specs.Records.{is_marked, is_written};
 
 use crate::arguments::is_args;
 use numbers::{Kind, are_of};
@@ -93,33 +93,23 @@ pub fn good_in(s: Step, reading: u8, end: usize) -> bool
     is_behind(s, end)
 }
 
-// The place of refusal 18.
-#[derive(Clone, Copy, Drop)]
-pub enum Bad {
-    At(usize),
-    Nowhere,
-}
-
-// 18: the first record that no preparation makes, whose reading is not the first's, or whose span is empty, too far or not behind the last
-// one's; 0 for over 64 records.
-pub fn refusal18(table: Table) -> Bad
-    ensures { result ≡ bad_of (refusal18 (listed table)) }
+// 18: the place of the first record that no preparation makes, whose reading is not the first's, or whose span is empty, too far or not behind the
+// last one's; 0 for over 64 records.
+pub fn refusal18(table: Table) -> Option<usize>
+    ensures { result ≡ refusal18 (listed table) }
 {
     let n = table.n;
     if 64 < n {
-        return Bad::At(0);
+        return Some(0);
     }
-    let first = table.steps[0];
-    let reading = first.reading;
+    let reading = table.steps[0].reading;
     let mut end = 0;
-    let mut i = 0;
-    while i < n {
+    for i in 0..n {
         let s = table.steps[i];
-        i += 1;
         if !good_in(s, reading, end) {
-            return Bad::At(i);
+            return Some(i + 1);
         }
         end = end_of(s);
     }
-    Bad::Nowhere
+    None
 }

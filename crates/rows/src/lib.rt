@@ -40,14 +40,8 @@ pub fn load(table: &[Step]) -> Table
     let n = table.len();
     let blank = blank_row();
     let mut steps = blank;
-    let mut i = 0;
-    while i < 64 {
-        if n <= i {
-            return table_of(steps, n);
-        }
-        steps[i] = table[i];
-        i += 1;
-    }
+    let held = n.min(64);
+    steps[..held].copy_from_slice(&table[..held]);
     table_of(steps, n)
 }
 
@@ -56,9 +50,5 @@ pub fn store(table: &mut [Step], steps: [Step; 64], n: usize)
     requires { Fits n table.old }
     ensures { table.new ≡ laid steps n table.old }
 {
-    let mut i = 0;
-    while i < n {
-        table[i] = steps[i];
-        i += 1;
-    }
+    table[..n].copy_from_slice(&steps[..n]);
 }

@@ -31,7 +31,7 @@ pub const DOCUMENTED: u8 = 11;
 // The greatest of their numbers.
 pub const GREATEST: u8 = DOCUMENTED;
 
-// The five names of operators; and whether a word is one of them.
+// The five names of operators.
 #[derive(Clone, Copy, Drop)]
 pub enum Name {
     Push,
@@ -41,19 +41,12 @@ pub enum Name {
     Adapt,
 }
 
-#[derive(Clone, Copy, Drop)]
-pub enum Named {
-    Is(Name),
-    Not,
-}
-
-// What a key takes: a flag, a series of numbers, or a word; or the operator lacks it.
+// What a key takes: a flag, a series of numbers, or a word.
 #[derive(Clone, Copy, Drop)]
 pub enum Kind {
     Flag,
     Series,
     Word,
-    Lacking,
 }
 
 // The two readings of a definition: the crate's, in which `inv` turns `axisswap` and `adapt` only, and PROJ's, in which it turns
@@ -140,49 +133,53 @@ pub struct Decimal {
     pub millionths: u32,
 }
 
-// What reading a series element answers.
-#[derive(Clone, Copy, Drop)]
-pub enum Number {
-    Is(Decimal),
-    Not,
-}
-
 // A place in a normalised text, from which the walk over its steps goes on.
 #[derive(Clone, Copy, Drop)]
 pub struct Cursor {
     pub at: usize,
 }
 
-// What the walk finds: a step, from its first byte up to the byte after its last, and where to go on; or the end.
+// A step that the walk finds: from its first byte up to the byte after its last, and where to go on.
 #[derive(Clone, Copy, Drop)]
-pub enum Found {
-    Step {
-        from: usize,
-        to: usize,
-        then: Cursor,
-    },
-    End,
+pub struct Found {
+    pub from: usize,
+    pub to: usize,
+    pub then: Cursor,
 }
 
-// What a text call answers: how many bytes it wrote, from the first of the lent buffer on; or the refusal's number and
-// place.
+// A refusal: its number in the documents' tables and its place; and the offset that 12 has in preparing, the byte of the step's
+// text at which the fault is. Of any other refusal the offset is 0.
 #[derive(Clone, Copy, Drop)]
-pub enum Written {
-    Wrote(usize),
-    Refused { number: u8, place: usize },
+pub struct Refusal {
+    pub number: u8,
+    pub place: usize,
+    pub offset: usize,
 }
 
-// What preparing answers: how many records it wrote, from the first of the lent table on; or the refusal's number and place,
-// and the offset that 12 has: the byte of the step's text at which the fault is. Of any other refusal the offset is 0.
-#[derive(Clone, Copy, Drop)]
-pub enum Prepared {
-    Steps(usize),
-    Refused {
-        number: u8,
-        place: usize,
-        offset: usize,
-    },
-}
+// Those that have no place.
+pub const TOO_LONG: Refusal = Refusal {
+    number: 1,
+    place: 0,
+    offset: 0,
+};
+
+pub const OUTSIDE: Refusal = Refusal {
+    number: 2,
+    place: 0,
+    offset: 0,
+};
+
+pub const NO_ROOM: Refusal = Refusal {
+    number: 7,
+    place: 0,
+    offset: 0,
+};
+
+pub const TOO_MANY_STEPS: Refusal = Refusal {
+    number: 8,
+    place: 0,
+    offset: 0,
+};
 
 // What the check says of a step table. What a pass foretells stands beside it, in `Foretold`.
 #[derive(Clone, Copy, Drop)]
@@ -207,11 +204,11 @@ pub struct Foretold {
     pub places: [Place; 4],
 }
 
-// What a run answers: the success count and how many columns are left; or the refusal.
+// What a run that is not refused answers: the success count and how many columns are left.
 #[derive(Clone, Copy, Drop)]
-pub enum Ran {
-    Done { count: usize, left: usize },
-    Refused { number: u8, place: usize },
+pub struct Finished {
+    pub count: usize,
+    pub left: usize,
 }
 
 // ---- the same answers as plain records, which C and Rust can hold (specs/Face/Plain.antt says what each holds)

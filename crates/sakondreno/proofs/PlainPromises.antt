@@ -1,4 +1,7 @@
 -- The library's promises on a step table, in the words of plain records.
+use Rattle.rules.specs.declared.Refusal.{Refusal}
+use Rattle.rules.specs.declared.Finished.{Finished}
+use Rattle.std.specs.Prelude.{Result}
 use mathlib.Core.Path.{◌≡◌, ap, ◌∙◌}
 use mathlib.Core.List.{List}
 use Prim.Native.Nat.{ℕ}
@@ -8,7 +11,6 @@ use Rattle.rules.specs.Pipeline.Run as rules
 use Rattle.rules.specs.declared.Step.{Step}
 use Rattle.rules.specs.declared.Direction.{Direction}
 use Rattle.rules.specs.declared.Foretold.{Foretold}
-use Rattle.rules.specs.declared.Ran.{Ran}
 use Rattle.rules.specs.declared.Said.{Said}
 use Rattle.rules.specs.declared.Checked.{Checked}
 use Rattle.rules.specs.declared.Done.{Done}
@@ -23,7 +25,7 @@ pub checks-plain : {inverse : ℕ} {t : List Step} {d : Direction} {f : Foretold
     → d ≡ direction_of inverse → Checks d t f → r ≡ plain_check f → PlainChecks inverse t r
 checks-plain {inverse} {t} g c h = record { exactly = h ∙ ap plain_check (c.exactly ∙ ap (λ (d : Direction). check d t) g) }
 
-pub runs-plain : {inverse : ℕ} {t : List Step} {d : Direction} {xs store xs' store' : List Float} {r : Ran} {a : Done}
+pub runs-plain : {inverse : ℕ} {t : List Step} {d : Direction} {xs store xs' store' : List Float} {r : Result Finished Refusal} {a : Done}
     → d ≡ direction_of inverse → rules.Runs d t xs store r xs' store' → a ≡ plain_ran r
     → PlainRuns inverse t xs store a xs' store'
 unfolding plain_outcome

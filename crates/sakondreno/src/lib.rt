@@ -22,8 +22,8 @@ pub use parameters::parameters;
 pub use proj::translate;
 pub use reader::{Reader, next_from};
 pub use rules::{
-    Answer, Checked, Cursor, Direction, Done, Foretold, Found, Mode, Part, Place, Prepared, Ran,
-    Reading, Said, Span, Step, Table, Verdict, Written,
+    Answer, Checked, Cursor, Direction, Done, Finished, Foretold, Found, Mode, Part, Place,
+    Reading, Refusal, Said, Span, Step, Table, Verdict,
 };
 pub use split::split;
 pub use write::{write, write_step};

@@ -5,23 +5,23 @@ ghost use Rattle.rules.specs.Pipeline.Record.{reading_of};
 ghost use Rattle.rules.specs.Face.Plain.{plain_written, plain_found, plain_prepared, mode_of, direction_of, plain_verdict, plain_check, plain_ran};
 
 use rules::{
-    Answer, CRATE, Checked, Direction, Done, Foretold, Found, Mode, Part, Prepared, Ran, Reading,
-    Said, Verdict, Written,
+    Answer, CRATE, Checked, Direction, Done, Finished, Foretold, Found, Mode, Part, Reading,
+    Refusal, Said, Verdict,
 };
 
-pub fn answered(w: Written) -> Answer
+pub fn answered(w: Result<usize, Refusal>) -> Answer
     ensures { result ≡ plain_written w }
 {
     match w {
-        Written::Wrote(bytes) => Answer {
+        Ok(bytes) => Answer {
             number: 0,
             place: 0,
             length: bytes,
             offset: 0,
         },
-        Written::Refused { number, place } => Answer {
-            number: number,
-            place: place,
+        Err(refusal) => Answer {
+            number: refusal.number,
+            place: refusal.place,
             length: 0,
             offset: 0,
         },
@@ -30,17 +30,17 @@ pub fn answered(w: Written) -> Answer
 
 // ---- the walk over the steps
 
-pub fn part_of(found: Found) -> Part
+pub fn part_of(found: Option<Found>) -> Part
     ensures { result ≡ plain_found found }
 {
     match found {
-        Found::Step { from, to, then } => Part {
+        Some(Found { from, to, then }) => Part {
             found: 1,
             from: from,
             to: to,
             then: then.at,
         },
-        Found::End => Part {
+        None => Part {
             found: 0,
             from: 0,
             to: 0,
@@ -51,25 +51,21 @@ pub fn part_of(found: Found) -> Part
 
 // ---- step tables
 
-pub fn counted(p: Prepared) -> Answer
+pub fn counted(p: Result<usize, Refusal>) -> Answer
     ensures { result ≡ plain_prepared p }
 {
     match p {
-        Prepared::Steps(steps) => Answer {
+        Ok(steps) => Answer {
             number: 0,
             place: 0,
             length: steps,
             offset: 0,
         },
-        Prepared::Refused {
-            number,
-            place,
-            offset,
-        } => Answer {
-            number: number,
-            place: place,
+        Err(refusal) => Answer {
+            number: refusal.number,
+            place: refusal.place,
             length: 0,
-            offset: offset,
+            offset: refusal.offset,
         },
     }
 }
@@ -147,19 +143,19 @@ pub fn checked_of(f: Foretold) -> Checked
     }
 }
 
-pub fn ended(ran: Ran) -> Done
+pub fn ended(ran: Result<Finished, Refusal>) -> Done
     ensures { result ≡ plain_ran ran }
 {
     match ran {
-        Ran::Done { count, left } => Done {
+        Ok(Finished { count, left }) => Done {
             number: 0,
             place: 0,
             count: count,
             left: left,
         },
-        Ran::Refused { number, place } => Done {
-            number: number,
-            place: place,
+        Err(refusal) => Done {
+            number: refusal.number,
+            place: refusal.place,
             count: 0,
             left: 0,
         },

@@ -1,4 +1,6 @@
 -- What is printed of what a call answers.
+use Rattle.rules.specs.declared.Refusal.{Refusal}
+use Rattle.std.specs.Prelude.{Result, Ok, Err}
 use mathlib.Core.Path.{◌≡◌, refl, sym, ap, subst}
 use mathlib.Core.Bool.{Bool, true, false, cond}
 use mathlib.Core.List.{List, ◌++◌}
@@ -9,7 +11,7 @@ use lib.ListN.{length, take, drop}
 use lib.Seq.{length-take-le}
 use lib.Dec.{ltb}
 use Rattle.rules.specs.Text.Bytes.{Bytes}
-use Rattle.rules.specs.Text.Refusal.{Reply, answers, refuses, refuses12, and_then, tested, lent, outcome, written, Writes}
+use Rattle.rules.specs.Text.Refusal.{Reply, answers, refuses, refuses12, and_then, tested, lent, outcome, written, Writes, refusal, told as says}
 use Rattle.rules.specs.Text.Split.{line, split}
 use Rattle.rules.specs.Proj.Translate.{translate}
 use Rattle.rules.specs.Pipeline.Prepare.{prepare_as}
@@ -17,8 +19,6 @@ use Rattle.laws_lists.specs.Tests.{never}
 use Rattle.rules.specs.declared.Mode.{Mode}
 use Rattle.rules.specs.declared.Reading.{Reading}
 use Rattle.rules.specs.declared.Step.{Step}
-use Rattle.rules.specs.declared.Written.{Written}
-use Rattle.rules.specs.declared.Written.TheVariants as variant
 use Rattle.laws_text.specs.Entry.{answers-so}
 use Rattle.laws_text.specs.Refusals.{Refusing, tested-refuses}
 use Rattle.text.specs.Wrote.{Wrote, WroteAt}
@@ -39,36 +39,32 @@ front-so w = w.wrote
 
 -- ---- a call that is lent 65,536 bytes
 
-abbrev same? : Written × Bytes → Written × Bytes → Type 0
+abbrev same? : Result ℕ Refusal × Bytes → Result ℕ Refusal × Bytes → Type 0
 same? x y = x ≡ y
 
 -- 7 where the answer is longer, by either of the two
-refused-by : (buf : Bytes) → length buf ≡ 65536 → (reply : Reply Bytes) → Refusing Other reply → (n place : ℕ) (buf' : Bytes)
-    → same? (variant.Refused n place, buf') (lent written reply buf)
-    → and_then reply (λ t. cond (ltb 65536 (length t)) (refuses 7 0) (answers t)) ≡ refuses n place
+refused-by : (buf : Bytes) → length buf ≡ 65536 → (reply : Reply Bytes) → Refusing Other reply → (r : Refusal) (buf' : Bytes)
+    → same? (Err r, buf') (lent written reply buf)
+    → and_then reply (λ t. cond (ltb 65536 (length t)) (refuses 7 0) (answers t)) ≡ refuses r.number r.place
 unfolding and_then lent written Refusing
-refused-by buf l (refuses12 q o) h n place buf' e = absurd (h refl)
-refused-by buf l (refuses m q) h n place buf' e =
-    let f : variant.Refused n place ≡ variant.Refused m q = ap (λ (x : Written × Bytes). x.0) e in
-    let a : n ≡ m = cc f in
-    let b : place ≡ q = cc f in
-    rw (a, b)
-refused-by buf l (answers xs) h n place buf' e = go (ltb (length buf) (length xs)) refl e
+refused-by buf l (refuses12 q o) h r buf' e = absurd (h refl)
+refused-by buf l (refuses m q) h r buf' e =
+    let f : r ≡ says m q = cc (ap (λ (x : Result ℕ Refusal × Bytes). x.0) e) in
+    rw f refl
+refused-by buf l (answers xs) h r buf' e = go (ltb (length buf) (length xs)) refl e
   where
     go : (b : Bool) → ltb (length buf) (length xs) ≡ b
-        → same? (variant.Refused n place, buf') (cond b (variant.Refused 7 0, buf) (variant.Wrote (length xs), xs ++ drop (length xs) buf))
-        → cond (ltb 65536 (length xs)) (refuses 7 0) (answers xs) ≡ refuses n place
+        → same? (Err r, buf') (cond b (refusal 7 0, buf) (Ok (length xs), xs ++ drop (length xs) buf))
+        → cond (ltb 65536 (length xs)) (refuses 7 0) (answers xs) ≡ refuses r.number r.place
     go true g f =
-        let h : variant.Refused n place ≡ variant.Refused 7 0 = ap (λ (x : Written × Bytes). x.0) f in
-        let a : n ≡ 7 = cc h in
-        let b : place ≡ 0 = cc h in
-        rw (lt-ltb 65536 (length xs) (omega (arith, l, ltb-true (length buf) (length xs) g)), a, b)
-    go false g f = let z : ◌≡◌ {A = ℕ} 0 1 = cc (ap (λ (x : Written × Bytes). x.0) f) in absurd (never z)
+        let h : r ≡ says 7 0 = cc (ap (λ (x : Result ℕ Refusal × Bytes). x.0) f) in
+        rw (lt-ltb 65536 (length xs) (omega (arith, l, ltb-true (length buf) (length xs) g)), h) refl
+    go false g f = absurd (never (cc (ap (λ (x : Result ℕ Refusal × Bytes). x.0) f)))
 
 -- where it wrote n bytes
-module _ {own : Bytes → Reply Bytes} {t buf : Bytes} {r : Written} {buf' : Bytes} {n : ℕ} (e : r ≡ variant.Wrote n) (w : Writes own t buf r buf') where
-  wrote-n : Writes own t buf (variant.Wrote n) buf'
-  wrote-n = subst (λ (x : Written). Writes own t buf x buf') e w
+module _ {own : Bytes → Reply Bytes} {t buf : Bytes} {r : Result ℕ Refusal} {buf' : Bytes} {n : ℕ} (e : r ≡ Ok n) (w : Writes own t buf r buf') where
+  wrote-n : Writes own t buf (Ok n) buf'
+  wrote-n = subst (λ (x : Result ℕ Refusal). Writes own t buf x buf') e w
 
   pub called-fits : n ≤ length buf'
   called-fits = (answers-so wrote-n).fits
@@ -84,13 +80,13 @@ module _ {own : Bytes → Reply Bytes} {t buf : Bytes} {r : Written} {buf' : Byt
       rw (le-ltb 4096 (length t) a.short, a.domain, a.answer, le-ltb 65536 (length (take n buf')) m)
 
 -- where it refused, which is not with 12
-pub called-refused : {own : Bytes → Reply Bytes} {t buf : Bytes} {r : Written} {buf' : Bytes} {n place : ℕ} → Refusing Other (own t) → r ≡ variant.Refused n place
-    → Writes own t buf r buf' → length buf ≡ 65536 → called own t ≡ refuses n place
+pub called-refused : {own : Bytes → Reply Bytes} {t buf : Bytes} {r : Result ℕ Refusal} {buf' : Bytes} {e : Refusal} → Refusing Other (own t) → r ≡ Err e
+    → Writes own t buf r buf' → length buf ≡ 65536 → called own t ≡ refuses e.number e.place
 unfolding called outcome
-called-refused {own} {t} {buf} {r} {buf'} {n} {place} h e w l =
-    let v : Writes own t buf (variant.Refused n place) buf' = subst (λ (x : Written). Writes own t buf x buf') e w in
+called-refused {own} {t} {buf} {r} {buf'} {e} h z w l =
+    let v : Writes own t buf (Err e) buf' = subst (λ (x : Result ℕ Refusal). Writes own t buf x buf') z w in
     let k = tested-refuses Other own t (λ z. omega (arith, z)) (λ z. omega (arith, z)) (λ s. h) in
-    refused-by buf l (tested own t) k n place buf' v.exactly
+    refused-by buf l (tested own t) k e buf' v.exactly
 
 -- ---- what is printed then
 

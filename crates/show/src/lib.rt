@@ -15,7 +15,7 @@ use checks::say_checks;
 use pieces::{say_offset, say_refusal, say_steps};
 use prepare::prepare_as;
 use proj::translate;
-use rules::{Mode, Prepared, Reading, Table, Written};
+use rules::{Mode, Reading, Table};
 use split::split;
 use text::put;
 
@@ -35,20 +35,16 @@ fn show_checks(text: &[u8], reading: Reading, mode: Mode, out: &mut [u8], at: us
     let p = prepare_as(text, reading, mode, rows::empty(64));
     let answer = p.answer;
     match answer {
-        Prepared::Steps(n) => {
+        Ok(n) => {
             let table = p.table;
             let steps = first_of(table, n);
             say_checks(steps, out, at)
         }
-        Prepared::Refused {
-            number,
-            place,
-            offset,
-        } => {
-            if number == 12 {
-                return say_offset(place, offset, out, at);
+        Err(refusal) => {
+            if refusal.number == 12 {
+                return say_offset(refusal.place, refusal.offset, out, at);
             }
-            say_refusal(number, place, out, at)
+            say_refusal(refusal.number, refusal.place, out, at)
         }
     }
 }
@@ -84,8 +80,8 @@ fn show_steps(
 {
     let written = split(text, b);
     match written {
-        Written::Wrote(n) => show_lines(&b[..n], text, reading, mode, out, at),
-        Written::Refused { number, place } => say_refusal(number, place, out, at),
+        Ok(n) => show_lines(&b[..n], text, reading, mode, out, at),
+        Err(refusal) => say_refusal(refusal.number, refusal.place, out, at),
     }
 }
 
@@ -141,7 +137,7 @@ pub fn show(
 {
     let written = translate(text, a);
     match written {
-        Written::Wrote(n) => show_translation(&a[..n], reading, mode, b, out, 0),
-        Written::Refused { number, place } => say_refusal(number, place, out, 0),
+        Ok(n) => show_translation(&a[..n], reading, mode, b, out, 0),
+        Err(refusal) => say_refusal(refusal.number, refusal.place, out, 0),
     }
 }

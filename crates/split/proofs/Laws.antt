@@ -1,16 +1,16 @@
 -- What is written of splitting's reply is what the promise of `split` names.
-use mathlib.Core.Path.{◌≡◌, refl}
+use Rattle.rules.specs.declared.Refusal.{Refusal}
+use Rattle.std.specs.Prelude.{Result, Ok, Err}
+use mathlib.Core.Path.{◌≡◌, refl, sym, subst}
 use mathlib.Core.Bool.{true}
 use Prim.Native.Nat.{ℕ, ◌*◌, ◌≤◌, ◌<◌}
 use native.Mathlib.Omega.{arith}
 use lib.ListN.{length, take}
 use Rattle.rules.specs.Text.Bytes.{Bytes, in_domain}
-use Rattle.rules.specs.Text.Refusal.{Reply, answers, Writes, Lends}
+use Rattle.rules.specs.Text.Refusal.{Reply, answers, Writes, Lends, refusal_at}
 use Rattle.rules.specs.Text.Normal.{normal}
 use Rattle.rules.specs.Text.Comments.{stripped}
 use Rattle.rules.specs.Text.Split.{steps, split}
-use Rattle.rules.specs.declared.Written.{Written}
-use Rattle.rules.specs.declared.Written.TheVariants as variant
 use Rattle.laws_text.specs.Entry.{lends-refusal, lends-so}
 use Rattle.laws_text.specs.Sizes.{steps-length}
 pub use Rattle.laws_text.specs.Sizes.{tenfold, tenfold-less}
@@ -22,13 +22,15 @@ use Rattle.split.specs.Lines.{split_normal, Lined}
 
 -- a reply that stands in the buffer b, handed out
 module _ {reply : Reply Bytes} {b : Bytes} where
-  pub out-refused : {number place : ℕ} {r : Written} {out : Bytes} → Lined reply r b → r ≡ variant.Refused number place → Lends reply out (variant.Refused number place) out
-  out-refused w e = lends-refusal (rw e at w.told)
+  pub out-refused : {e : Refusal} {r : Result ℕ Refusal} {out : Bytes} → Lined reply r b → r ≡ Err e → Lends reply out (Err e) out
+  out-refused {e} {r} {out} w f =
+      let z : e.offset ≡ 0 = rw f at w.plain in
+      subst (λ (k : ℕ). Lends reply out (refusal_at e.number e.place k) out) (sym z) (lends-refusal (rw f at w.told))
 
-  pub out-fits : {m : ℕ} {r : Written} → Lined reply r b → r ≡ variant.Wrote m → m ≤ length b
+  pub out-fits : {m : ℕ} {r : Result ℕ Refusal} → Lined reply r b → r ≡ Ok m → m ≤ length b
   out-fits w e = rw e at w.within
 
-  pub out-answer : {m : ℕ} {r told : Written} {out out' : Bytes} → Lined reply told b → told ≡ variant.Wrote m → Lends (answers (take m b)) out r out'
+  pub out-answer : {m : ℕ} {r told : Result ℕ Refusal} {out out' : Bytes} → Lined reply told b → told ≡ Ok m → Lends (answers (take m b)) out r out'
       → Lends reply out r out'
   out-answer w e v = rw (rw e at w.told) v
 
@@ -42,5 +44,5 @@ module _ (t : Bytes) {a : Bytes} {n : ℕ} (w : Holds (normal (stripped t)) n a)
   pub normal-fits : {x y : ℕ} → 10 * length t < x → y ≡ x → length (take n a) < y
   normal-fits h e = rw (wrote-front w) (omega (arith, steps-length t))
 
-  pub split-so : {out out' : Bytes} {r : Written} → length t ≤ 4096 → in_domain t ≡ true → Lends (split_normal (take n a)) out r out' → Writes split t out r out'
+  pub split-so : {out out' : Bytes} {r : Result ℕ Refusal} → length t ≤ 4096 → in_domain t ≡ true → Lends (split_normal (take n a)) out r out' → Writes split t out r out'
   split-so h d v = lends-so h d (is-split t) (rw (wrote-front w) at v)

@@ -1,16 +1,15 @@
 -- The loop that writes the lines of all steps: its invariant, and what each way out of it tells of splitting's reply.
-use mathlib.Core.Path.{◌≡◌, subst}
+use Rattle.std.specs.Prelude.{Ok, None}
+use mathlib.Core.Path.{◌≡◌, subst, refl}
 use mathlib.Core.List.{◌++◌, flat_map}
 use Prim.Native.Nat.{ℕ, ◌+◌, ◌≤◌, ◌<◌}
 use native.Mathlib.Omega.{arith}
 use lib.ListN.{length, drop}
 use Rattle.rules.specs.Text.Bytes.{Bytes, Words, Steps, words}
-use Rattle.rules.specs.Text.Refusal.{and_then}
+use Rattle.rules.specs.Text.Refusal.{and_then, refusal}
 use Rattle.rules.specs.Text.Split.{steps_of, step_text, line}
-use Rattle.rules.specs.Text.Reader.{next, part}
+use Rattle.rules.specs.Text.Reader.{next, part, step_then}
 use Rattle.rules.specs.declared.Cursor.{Cursor}
-use Rattle.rules.specs.declared.Found.TheVariants.{Step, End}
-use Rattle.rules.specs.declared.Written.TheVariants as written_is
 use Rattle.laws_text.specs.Walk.{walk_step, walk_end}
 use Rattle.text.specs.Wrote.{Wrote}
 use Rattle.text.proofs.Wrote.{Sofar, sofar-start, sofar-part, sofar-part-room, sofar-end, sofar-length, wrote-front, wrote-fits}
@@ -33,23 +32,24 @@ module _ {s dst₀ : Bytes} {at n o : ℕ} {dst : Bytes} (m : Lines s dst₀ at 
   lines-kept = sofar-length m.sofar
 
   -- the walk is at its end
-  pub lines-many : next s at ≡ End → 64 < n → Lined (split_normal s) (written_is.Refused 8 0) dst
+  pub lines-many : next s at ≡ None → 64 < n → Lined (split_normal s) (refusal 8 0) dst
   unfolding and_then
-  lines-many f h = record { within = omega arith; told = rw (passed-many m.walked f h) }
+  lines-many f h = record { within = omega arith; told = rw (passed-many m.walked f h); plain = refl }
 
-  lines-done : next s at ≡ End → Wrote (lines_of (steps_of s)) dst₀ o dst
+  lines-done : next s at ≡ None → Wrote (lines_of (steps_of s)) dst₀ o dst
   unfolding flat_map
   lines-done f = sofar-end (subst (λ (ss : Steps). Sofar (lines_of (steps_of s)) (lines_of ss) dst₀ o dst) (walk_end s at f) m.sofar)
 
-  pub lines-all : next s at ≡ End → n ≤ 64 → Lined (split_normal s) (written_is.Wrote o) dst
+  pub lines-all : next s at ≡ None → n ≤ 64 → Lined (split_normal s) (Ok o) dst
   unfolding and_then
   lines-all f h = record {
     within = wrote-fits (lines-done f);
     told = rw (wrote-front (lines-done f), passed-well m.walked f h);
+    plain = refl;
   }
 
   -- the walk finds a step
-  module _ {from to : ℕ} {then : Cursor} (f : next s at ≡ Step from to then) where
+  module _ {from to : ℕ} {then : Cursor} (f : next s at ≡ step_then from to then) where
     -- its words
     abbrev here : Words
     here = words (part from to s)
@@ -61,9 +61,9 @@ module _ {s dst₀ : Bytes} {at n o : ℕ} {dst : Bytes} (m : Lines s dst₀ at 
     pub lines-room : o + length (line (step_text here)) ≤ length dst
     lines-room = sofar-part-room (line (step_text here)) (lines_of (steps_of (drop then.at s))) here-sofar
 
-    pub lines-only : {r : Line} {last : Bytes} → IsLine here dst o r last → r ≡ line-is.Modifiers → Lined (split_normal s) (written_is.Refused 6 (n + 1)) last
+    pub lines-only : {r : Line} {last : Bytes} → IsLine here dst o r last → r ≡ line-is.Modifiers → Lined (split_normal s) (refusal 6 (n + 1)) last
     unfolding and_then
-    lines-only w e = record { within = omega arith; told = rw (passed-only m.walked f (rw e at w)) }
+    lines-only w e = record { within = omega arith; told = rw (passed-only m.walked f (rw e at w)); plain = refl }
 
     pub lines_more : {r : Line} {end : ℕ} {last : Bytes} → IsLine here dst o r last → r ≡ line-is.To end → Lines s dst₀ then.at (n + 1) end last
     lines_more {r} {end} {last} w e =

@@ -1,5 +1,6 @@
 -- The walk over the steps of a text, of which none so far is modifiers alone: the invariant that splitting and preparing share, and what each way out
 -- of it says of splitting's reply.
+use Rattle.std.specs.Prelude.{None}
 use mathlib.Core.Path.{◌≡◌, refl, ap, ◌∙◌}
 use mathlib.Core.Bool.{Bool, true, false}
 use mathlib.Core.List.{map}
@@ -11,9 +12,8 @@ use Rattle.rules.specs.Text.Lists.{any_of, all_of, place_of}
 use Rattle.rules.specs.Text.Bytes.{Bytes, Steps, words}
 use Rattle.rules.specs.Text.Refusal.{answers, refuses}
 use Rattle.rules.specs.Text.Split.{modifier, only_modifiers, steps_of, step_text, split_steps}
-use Rattle.rules.specs.Text.Reader.{next, part}
+use Rattle.rules.specs.Text.Reader.{next, part, step_then}
 use Rattle.rules.specs.declared.Cursor.{Cursor}
-use Rattle.rules.specs.declared.Found.TheVariants.{Step, End}
 use Rattle.laws_text.specs.Walk.{walk-ahead, walk_step, walk_end}
 
 -- n steps stand before `at`, and none of them is modifiers alone
@@ -29,7 +29,7 @@ passed_none s = record { within = omega arith; few = omega arith; some = refl; f
 
 module _ {s : Bytes} {at n : ℕ} (m : Passed s at n) where
   -- the walk is at its end
-  module _ (f : next s at ≡ End) where
+  module _ (f : next s at ≡ None) where
     none_only : any_of only_modifiers (steps_of s) ≡ false
     unfolding any_of
     none_only = m.some ∙ ap (any_of only_modifiers) (walk_end s at f)
@@ -50,7 +50,7 @@ module _ {s : Bytes} {at n : ℕ} (m : Passed s at n) where
         rw (none_only, le-ltb 64 (length (steps_of s)) l)
 
   -- the walk finds a step
-  module _ {from to : ℕ} {then : Cursor} (f : next s at ≡ Step from to then) where
+  module _ {from to : ℕ} {then : Cursor} (f : next s at ≡ step_then from to then) where
     only-is : (b : Bool) → all_of modifier (words (part from to s)) ≡ b → only_modifiers (words (part from to s)) ≡ b
     unfolding only_modifiers
     only-is b e = rw (walk-ahead s at from to then f).worded e

@@ -1,12 +1,11 @@
 -- The lines of steps, and what the functions that write them leave behind.
-use Rattle.std.specs.Prelude.{◌≡◌, true, false, ℕ, ◌≤◌, length, take}
+use Rattle.rules.specs.declared.Refusal.{Refusal}
+use Rattle.std.specs.Prelude.{◌≡◌, true, false, ℕ, ◌≤◌, length, take, Result, Ok, Err}
 use mathlib.Core.List.{map, flat_map}
 use Rattle.rules.specs.Text.Lists.{all_of}
 use Rattle.rules.specs.Text.Bytes.{Bytes, Words, Steps}
 use Rattle.rules.specs.Text.Refusal.{Reply, answers, refuses, and_then}
 use Rattle.rules.specs.Text.Split.{modifier, steps_of, split_steps, step_text, line}
-use Rattle.rules.specs.declared.Written.{Written}
-use Rattle.rules.specs.declared.Written.TheVariants as written_is
 use Rattle.text.specs.Wrote.{WroteAt}
 use Rattle.split.specs.declared.step.Line.{Line}
 use Rattle.split.specs.declared.step.Line.TheVariants as line-is
@@ -30,16 +29,22 @@ IsLine ws dst₀ at (line-is.To to) dst = HasLine ws dst₀ at to dst
 IsLine ws dst₀ at line-is.Modifiers dst = all_of modifier ws ≡ true
 
 -- the reply that a buffer and a word on it tell: a refusal, or the answer, which stands in the buffer's first bytes
-abbrev pub told_by : Written → Bytes → Reply Bytes
-told_by (written_is.Refused number place) dst = refuses number place
-told_by (written_is.Wrote m) dst = answers (take m dst)
+abbrev pub told_by : Result ℕ Refusal → Bytes → Reply Bytes
+told_by (Err r) dst = refuses r.number r.place
+told_by (Ok m) dst = answers (take m dst)
 
 -- how many of the buffer's bytes are the answer
-abbrev pub count : Written → ℕ
-count (written_is.Refused number place) = 0
-count (written_is.Wrote m) = m
+abbrev pub count : Result ℕ Refusal → ℕ
+count (Err r) = 0
+count (Ok m) = m
+
+-- the offset of a refusal: splitting has none
+abbrev pub offset : Result ℕ Refusal → ℕ
+offset (Err r) = r.offset
+offset (Ok m) = 0
 
 -- a reply stands in a buffer
-pub record Lined (reply : Reply Bytes) (r : Written) (dst : Bytes) : Type 0 where
+pub record Lined (reply : Reply Bytes) (r : Result ℕ Refusal) (dst : Bytes) : Type 0 where
   pub within : count r ≤ length dst
   pub told : reply ≡ told_by r dst
+  pub plain : offset r ≡ 0

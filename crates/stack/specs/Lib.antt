@@ -1,4 +1,3 @@
--- What the contracts speak of: an action's arguments, rolls, columns put over others, and an action's text.
-pub mod Places
+-- What the contracts speak of: an action's arguments, rolls, and an action's text.
 pub mod Actions
 pub mod Text

@@ -8,7 +8,7 @@ ghost use Rattle.columns.specs.Doings.{Does};
 ghost use Rattle.stack.specs.Actions.{Roll, Rolled, Action, Turns, acting};
 
 use columns::{Act, Doing, reversed};
-use numbers::{minus_at, size_at};
+use numbers::{is_minus, size_of};
 use rules::{Direction, STACK_FLIP, STACK_POP, STACK_PUSH, STACK_ROLL, STACK_SWAP, STACK_UNROLL};
 
 // How many times n turns of m come to, below m: a full turn changes nothing.
@@ -16,10 +16,7 @@ pub fn turns(m: usize, n: usize) -> usize
     requires { n < 2 * m }
     ensures { Turns m n result }
 {
-    if m <= n {
-        return n - m;
-    }
-    n
+    if m <= n { n - m } else { n }
 }
 
 // roll: "Negative n means m + n."
@@ -27,12 +24,13 @@ fn rolling(l: &[i32]) -> Act
     requires { Roll l.now }
     ensures { Rolled (rolling (arg 1 l.now) (arg 2 l.now)) l.now result }
 {
-    let m = size_at(l, 0);
-    let n = size_at(l, 1);
-    if minus_at(l, 1) {
-        return Act::Rolls { m: m, n: m - n };
+    let m = size_of(l[0]);
+    let n = size_of(l[1]);
+    if is_minus(l[1]) {
+        Act::Rolls { m, n: m - n }
+    } else {
+        Act::Rolls { m, n }
     }
-    Act::Rolls { m: m, n: n }
 }
 
 // "Inverse uses m - n, as does unroll."
@@ -40,25 +38,24 @@ fn unrolling(l: &[i32]) -> Act
     requires { Roll l.now }
     ensures { Rolled (unrolling (arg 1 l.now) (arg 2 l.now)) l.now result }
 {
-    let m = size_at(l, 0);
-    let n = size_at(l, 1);
-    if minus_at(l, 1) {
-        return Act::Rolls { m: m, n: m + n };
+    let m = size_of(l[0]);
+    let n = size_of(l[1]);
+    if is_minus(l[1]) {
+        Act::Rolls { m, n: m + n }
+    } else {
+        Act::Rolls { m, n: m - n }
     }
-    Act::Rolls { m: m, n: m - n }
 }
 
 // An act with its arguments.
 fn doing(act: Act, args: [i32; 8], n: usize) -> Doing
     ensures { result ≡ acting act args n }
 {
-    Doing {
-        act: act,
-        args: args,
-        n: n,
-    }
+    Doing { act, args, n }
 }
 
+// What an action does forward.
+// Stays: the number of the operator stands in a record, which C fills.
 fn forward(operator: u8, args: [i32; 8], n: usize) -> Doing
     requires { Action operator args n }
     ensures { Does (forward (operator_of operator) (take n args)) result }

@@ -10,7 +10,7 @@ ghost use Rattle.columns.specs.Machine.{Acted};
 
 use crate::acts::turns;
 use columns::{exchange, flip_column, nan_all, reverse};
-use numbers::size_at;
+use numbers::size_of;
 use pushpop::pop;
 
 // Pop: the top column into each place, in their order, all or none.
@@ -32,10 +32,9 @@ fn flip_columns(xs: &mut [f64], store: &mut [f64], depth: usize, args: &[i32])
     ensures { (tuples xs.new ≡ (flipped on_numbers (places args.now) (tuples xs.old) (columns_of (length xs.old / 4) depth store.old)).tuples) × Stacked (length xs.old / 4) depth (flipped on_numbers (places args.now) (tuples xs.old) (columns_of (length xs.old / 4) depth store.old)).columns store.old store.new }
 {
     let n = xs.len() / 4;
-    let mut j = 0;
-    while j < args.len() {
-        flip_column(xs, store, (depth - 1 - j) * n, size_at(args, j));
-        j += 1;
+    for (j, x) in args.iter().enumerate() {
+        let at = (depth - 1 - j) * n;
+        flip_column(xs, &mut store[at..at + n], size_of(*x));
     }
 }
 
@@ -53,6 +52,7 @@ pub fn flip(xs: &mut [f64], store: &mut [f64], depth: usize, args: &[i32])
 
 // The top column goes under the top m, r times. So the first r go behind the others: each part turned round, and then the
 // whole.
+// Stays: the last of the three turns is what must-fail/roll_unturned.edit speaks of.
 fn roll_columns(store: &mut [f64], n: usize, depth: usize, m: usize, r: usize)
     requires r_le_m { (r ≤ m) × ((m ≤ depth) × (depth ≤ 64)) }
     requires n_in_bounds { depth * n ≤ length store.old }

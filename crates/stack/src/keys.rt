@@ -7,29 +7,29 @@ use rules::Kind;
 use text::is_same;
 
 // What a key takes, if it is one of them.
-pub fn kind_of(key: &[u8]) -> Kind
+pub fn kind_of(key: &[u8]) -> Option<Kind>
     ensures { result ≡ kind_in action_keys key.now }
 {
     if is_same(key, b"push") {
-        return Kind::Series;
+        return Some(Kind::Series);
     }
     if is_same(key, b"pop") {
-        return Kind::Series;
+        return Some(Kind::Series);
     }
     if is_same(key, b"flip") {
-        return Kind::Series;
+        return Some(Kind::Series);
     }
     if is_same(key, b"roll") {
-        return Kind::Series;
+        return Some(Kind::Series);
     }
     if is_same(key, b"unroll") {
-        return Kind::Series;
+        return Some(Kind::Series);
     }
     if is_same(key, b"swap") {
-        return Kind::Flag;
+        return Some(Kind::Flag);
     }
     if is_same(key, b"drop") {
-        return Kind::Flag;
+        return Some(Kind::Flag);
     }
-    Kind::Lacking
+    None
 }

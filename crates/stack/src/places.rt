@@ -4,13 +4,11 @@ ghost use Rattle.rules.specs.Text.Lists.{all_of};
 ghost use Rattle.rules.specs.Operators.Arguments.{places};
 ghost use Rattle.rules.specs.Operators.Acts.{flips, swaps, rolls};
 ghost use Rattle.columns.specs.Traces.{Whole, Moved};
-ghost use Rattle.stack.specs.Places.{Pasted};
 ghost use Rattle.numbers.specs.Axes.{is_axis};
 
 use crate::acts::turns;
 use columns::Traced;
-use numbers::axis_at;
-use rules::Place;
+use numbers::axis_of;
 
 // Each place exchanged with its column, the top one first.
 pub fn flip_places(t: Traced, l: &[i32]) -> Traced
@@ -20,15 +18,12 @@ pub fn flip_places(t: Traced, l: &[i32]) -> Traced
     ensures { Moved (flips (places l.now)) t result }
 {
     let mut r = t;
-    let mut i = 0;
-    while i < l.len() {
-        let k = axis_at(l, i);
+    for (i, x) in l.iter().enumerate() {
+        let k = axis_of(*x);
         let at = t.top + i;
         let p = r.tuple[k];
-        let q = r.columns[at];
-        r.tuple[k] = q;
+        r.tuple[k] = r.columns[at];
         r.columns[at] = p;
-        i += 1;
     }
     r
 }
@@ -42,32 +37,8 @@ pub fn swap_places(t: Traced) -> Traced
     if 62 < top {
         return t;
     }
-    let next = top + 1;
-    let p = t.columns[top];
-    let q = t.columns[next];
     let mut r = t;
-    r.columns[top] = q;
-    r.columns[next] = p;
-    r
-}
-
-// n columns of `from`, from `start` on, put over those of `into`, from `at` on.
-fn paste(into: [Place; 64], at: usize, from: [Place; 64], start: usize, n: usize) -> [Place; 64]
-    requires into_len { length into ≡ 64 }
-    requires from_len { length from ≡ 64 }
-    requires n_bound { at + n ≤ 64 }
-    requires n_bound_2 { start + n ≤ 64 }
-    ensures { Pasted into at from start n result }
-{
-    let mut r = into;
-    let mut i = 0;
-    while i < n {
-        let to = at + i;
-        let k = start + i;
-        let p = from[k];
-        r[to] = p;
-        i += 1;
-    }
+    r.columns.swap(top, top + 1);
     r
 }
 
@@ -78,12 +49,8 @@ pub fn roll_places(t: Traced, m: usize, n: usize) -> Traced
     requires n_bound { n < 2 * m }
     ensures { Moved (rolls m n) t result }
 {
-    let k = turns(m, n);
     let top = t.top;
-    let from = t.columns;
-    let others = paste(from, top, from, top + k, m - k);
-    let all = paste(others, top + (m - k), from, top, k);
     let mut r = t;
-    r.columns = all;
+    r.columns[top..top + m].rotate_left(turns(m, n));
     r
 }

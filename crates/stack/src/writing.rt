@@ -12,6 +12,7 @@ use rules::{STACK_FLIP, STACK_POP, STACK_PUSH, STACK_ROLL, STACK_SWAP, STACK_UNR
 use text::put;
 
 // The name and the action, up to its arguments.
+// Stays: the number of the operator stands in a record, which C fills.
 fn action(operator: u8, out: &mut [u8], o: usize) -> usize
     requires le_operator { (2 ≤ operator) × (operator ≤ 8) }
     requires room { Room (action_text (operator_of operator)) o out.old }

@@ -4,65 +4,44 @@
 
 mod options;
 
-ghost use Rattle.std.specs.Prelude.{◌≡◌, ◌≤◌, length};
+ghost use Rattle.std.specs.Prelude.{◌≤◌, IfOk, length};
 
-use options::Options;
+use options::{MOST_ARGUMENT, Options};
 use std::fs::File;
 use std::io;
-use std::io::{Error, Read, Stdin};
+use std::io::{Error, Print, Read, Stdin};
 use std::rt::Env;
-use text::is_same;
 
-// Room for a definition. One that fills it is too long, as is any over 4,096 bytes.
-fn input_room() -> [u8; 131073]
-    ensures { 131073 ≡ length result }
+// Reads until the room is full, the input ends or a read fails, and answers how many bytes were read.
+fn read_input(from: &mut impl Read, room: &mut [u8]) -> io::Result<usize>
+    ensures { IfOk result (λ n. n ≤ length room.new) }
 {
-    [0; 131073]
-}
-
-// Room for all that can be printed.
-fn print_room() -> [u8; 139264]
-    ensures { 139264 ≡ length result }
-{
-    [0; 139264]
-}
-
-// How many bytes were read, and why a read failed.
-#[derive(Clone, Copy, Drop)]
-struct Input {
-    n: usize,
-    error: Option<Error>,
-}
-
-// Reads until the room is full, the input ends or a read fails.
-fn read_input(from: &mut impl Read, room: &mut [u8]) -> Input
-    ensures { result.n ≤ length room.new }
-{
+    // Stays: a `for` is no plainer, as a read takes as many bytes as it likes, and the room ends the loop.
     let mut n = 0;
     while n < room.len() {
-        match from.read(&mut room[n..]) {
-            Ok(0) => return Input { n, error: None },
-            Ok(more) => n += more,
-            Err(error) => {
-                return Input {
-                    n,
-                    error: Some(error),
-                };
-            }
+        match from.read(&mut room[n..])? {
+            0 => break,
+            more => n += more,
         }
     }
-    Input { n, error: None }
+    Ok(n)
 }
 
 // Prints what becomes of a definition.
 fn show_text(to: &impl Print, text: &[u8], options: Options) {
-    let reading = options.reading();
-    let mode = options.mode();
-    let mut a = streams::large_buffer();
-    let mut b = streams::large_buffer();
-    let mut out = print_room();
-    let n = show::show(text, reading, mode, &mut a, &mut b, &mut out);
-    streams::write_all(to, &out[..n]);
+    let mut a = [0; 65536];
+    let mut b = [0; 65536];
+    // Room for all that can be printed.
+    let mut out = [0; 139264];
+    let n = show::show(
+        text,
+        options.reading,
+        options.mode,
+        &mut a,
+        &mut b,
+        &mut out,
+    );
+    let _ = to.write_all(&out[..n]);
 }
 
 // Where a definition is read from.
@@ -83,15 +62,15 @@ impl Read for Source {
 
 // Opens the input of this name.
 fn open_input(rt: &HostRuntime, name: &[u8]) -> io::Result<Source> {
-    if is_same(name, b"-") {
-        return Ok(Source::Standard(rt.stdin()));
+    match name {
+        b"-" => Ok(Source::Standard(rt.stdin())),
+        _ => Ok(Source::Named(streams::open_read(rt, name)?)),
     }
-    Ok(Source::Named(streams::open_read(rt, name)?))
 }
 
 // Says why the input of this name cannot be read.
 fn complain(to: &impl Print, name: &mut [u8], error: Error) {
-    if is_same(name, b"-") {
+    if matches!(name, [b'-']) {
         streams::fail(to, b"steps: standard input", error);
         return;
     }
@@ -101,41 +80,36 @@ fn complain(to: &impl Print, name: &mut [u8], error: Error) {
 
 // Prints what becomes of the definition in the input of this name.
 fn show_input(rt: &HostRuntime, name: &mut [u8], options: Options) {
-    match open_input(rt, name) {
-        Ok(source) => show_source(rt, source, name, options),
-        Err(error) => complain(&rt.stderr(), name, error),
+    if let Err(error) = try_show(rt, name, options) {
+        complain(&rt.stderr(), name, error);
     }
 }
 
-// The same, where the input is open.
-fn show_source(rt: &HostRuntime, mut source: Source, name: &mut [u8], options: Options) {
-    let mut room = input_room();
-    let input = read_input(&mut source, &mut room);
-    if let Some(error) = input.error {
-        complain(&rt.stderr(), name, error);
-        return;
-    }
-    let n = input.n;
-    show_text(rt, &room[0..n], options);
+// The same, where the input can be read.
+fn try_show(rt: &HostRuntime, name: &[u8], options: Options) -> io::Result<()> {
+    let mut source = open_input(rt, name)?;
+    // One that fills the room is too long, as is any over 4,096 bytes.
+    let mut room = [0; 131073];
+    let n = read_input(&mut source, &mut room)?;
+    show_text(rt, &room[..n], options);
+    Ok(())
 }
 
 // Prints what becomes of the definition in the file that the options name, or in standard input.
 fn show_asked(rt: &HostRuntime, options: Options) {
-    let file = options.file;
-    if file == 0 {
-        let mut none = [b'-'];
-        show_input(rt, &mut none, options);
+    let Some(file) = options.file else {
+        show_input(rt, &mut [b'-'], options);
         return;
-    }
-    let mut name = streams::buffer();
+    };
+    let mut name = [0; MOST_ARGUMENT];
     let n = rt.arg(file, &mut name).unwrap_or(0);
     show_input(rt, &mut name[..n], options);
 }
 
 fn main(rt: HostRuntime) {
     let options = options::asked(&rt);
-    if options.wrong != 0 {
-        options::refuse(&rt, &rt.stderr(), options.wrong);
+    if let Some(wrong) = options.wrong {
+        options::refuse(&rt, &rt.stderr(), wrong);
     } else if options.help {
         options::print_help(&rt);
     } else if options.version {

@@ -1,19 +1,21 @@
 -- Does a text begin with `old`, and where does the first one stand: the laws at a place, and the loops' invariants.
-use mathlib.Core.Path.{◌≡◌, refl, ap, ◌∙◌}
-use mathlib.Core.Bool.{Bool, true, false, cond, ◌&&◌, false≢true, true≢false}
-use mathlib.Core.List.{[], ◌∷◌}
+use mathlib.Core.Path.{◌≡◌, refl, sym, ap, ◌∙◌}
+use mathlib.Core.Bool.{Bool, true, false, cond, ◌&&◌, ◌||◌, false≢true, true≢false, or-false, and-true, and_assoc}
+use mathlib.Core.List.{[], ◌∷◌, ◌++◌}
 use Prim.Native.Nat.{ℕ, zero, suc, ◌+◌, ◌-◌, ◌≤◌, ◌<◌, suc-le-suc}
-use native.Mathlib.Nat.{add-zero, add_assoc, not-suc-le-zero}
+use native.Mathlib.Nat.{not-suc-le-zero}
 use native.Mathlib.Numerals.{add-one}
 use native.Mathlib.Omega.{arith}
-use borrow.Author.Tests.{eq-eqb, ne_eqb}
+use borrow.Author.Tests.{ne_eqb}
 use lib.Dec.{eqb}
-use lib.ListN.{length, drop, get_or, drop_of_length-le}
-use lib.Seq.{drop-cons, drop-drop}
+use lib.ListN.{length, take, drop, get_or, length-drop, drop_of_length-le}
+use lib.Seq.{drop-drop, get_or-drop}
 use Rattle.rules.specs.Text.Bytes.{Bytes, starts}
 use Rattle.laws_lists.specs.Tests.{and_right}
 use Rattle.text.specs.Places.{ahead, Passed, Sought}
-use Rattle.text.proofs.Wrote.{drop-next}
+use Rattle.text.proofs.Wrote.{drop-next, part-from}
+use Rattle.std.specs.List.{starts_with}
+use Rattle.std.proofs.lemmas.Bool.Decides.{nat_tests}
 
 pub starts-length : (old t : Bytes) → starts old t ≡ true → length old ≤ length t
 unfolding starts
@@ -21,40 +23,32 @@ starts-length [] t e = omega arith
 starts-length (p ∷ old) [] e = absurd (false≢true e)
 starts-length (p ∷ old) (x ∷ t) e = suc-le-suc (starts-length old t (and_right (eqb x p) (starts old t) e))
 
--- ---- `starts_at`: the first j bytes of `old` stand at `at`, so what follows them decides
+-- ---- `starts_at`: what std's `starts_with` tells
 
-pub record Matching (src : Bytes) (at : ℕ) (old : Bytes) (j : ℕ) : Type 0 where
-  pub in-old : j ≤ length old
-  pub in_src : at + j ≤ length src
-  pub same : starts old (drop at src) ≡ starts (drop j old) (drop (at + j) src)
+same-numbers : (x y : ℕ) → eqb x y ≡ eqb y x
+same-numbers x y = grind (arith, nat_tests)
 
-pub matching-none : {src : Bytes} {at : ℕ} {old : Bytes} → at ≤ length src → Matching src at old 0
-matching-none h = record { in-old = omega arith; in_src = omega arith; same = rw add-zero }
+starts-with : (old t : Bytes) → starts_with eqb t old ≡ starts old t
+unfolding starts
+starts-with [] t = refl
+starts-with (p ∷ old) [] = refl
+starts-with (p ∷ old) (x ∷ t) = rw (same-numbers p x, starts-with old t)
 
-module _ {src : Bytes} {at : ℕ} {old : Bytes} {j : ℕ} (m : Matching src at old j) where
-  -- the text is at its end, and `old` is not
-  pub matching-short : j < length old → length src - at ≤ j → starts old (drop at src) ≡ false
-  unfolding starts
-  matching-short l h =
-      let e : length src ≤ at + j = omega (arith, m.in_src) in
-      m.same ∙ rw (drop-cons old j 0 l, drop_of_length-le src e)
+pub starts-is : (src : Bytes) (at : ℕ) (old : Bytes) {r : Bool} → r ≡ starts_with eqb (take (length src - at) (drop at src)) old → r ≡ starts old (drop at src)
+starts-is src at old e = e ∙ rw (part-from src at) (starts-with old (drop at src))
 
-  pub matching-other : j < length old → at + j < length src → (get_or src (at + j) 0 ≡ get_or old j 0 → ⊥) → starts old (drop at src) ≡ false
-  unfolding starts
-  matching-other l h n = m.same ∙ rw (drop-cons old j 0 l, drop-cons src (at + j) 0 h, ne_eqb _ _ n)
+-- ---- `agrees`: one byte more
 
-  pub matching-more : j < length old → at + j < length src → get_or src (at + j) 0 ≡ get_or old j 0 → Matching src at old (j + 1)
-  unfolding starts
-  matching-more l h e = record {
-    in-old = omega arith;
-    in_src = omega arith;
-    same = m.same ∙ rw (← add_assoc, add-one j, add-one (at + j), drop-cons old j 0 l, drop-cons src (at + j) 0 h, eq-eqb _ _ e);
-  }
+starts-take : (old t : Bytes) (k : ℕ) → k < length old → k < length t → starts (take (suc k) old) t ≡ starts (take k old) t && eqb (get_or t k 0) (get_or old k 0)
+unfolding starts
+starts-take [] t k l h = absurd (not-suc-le-zero l)
+starts-take (p ∷ old) [] k l h = absurd (not-suc-le-zero h)
+starts-take (p ∷ old) (x ∷ t) zero l h = rw and-true
+starts-take (p ∷ old) (x ∷ t) (suc k) l h = rw (starts-take old t k (omega arith) (omega arith)) (sym (and_assoc (eqb x p) (starts (take k old) t) (eqb (get_or t k 0) (get_or old k 0))))
 
-  -- all of `old` is there
-  pub matching-all : length old ≤ j → starts old (drop at src) ≡ true
-  unfolding starts
-  matching-all h = m.same ∙ rw (drop_of_length-le old h)
+pub starts-more : (old src : Bytes) (at k : ℕ) {same : Bool} → same ≡ starts (take k old) (drop at src) → k < length old → at + length old ≤ length src
+    → (same && eqb (get_or src (at + k) 0) (get_or old k 0)) ≡ starts (take (k + 1) old) (drop at src)
+starts-more old src at k e l h = rw (e, add-one, ← get_or-drop at src k 0) (sym (starts-take old (drop at src) k l (omega (arith, length-drop at src))))
 
 -- ---- `skip` and `find`: no `old` begins before i
 
@@ -98,32 +92,21 @@ module _ {src : Bytes} {from : ℕ} {old : Bytes} {i : ℕ} (m : Passed src from
 
 -- ---- looking for the first bytes of `old`
 
--- where they do not begin, `old` does not
-pub starts-one : (old : Bytes) → 0 < length old → (u : Bytes) → starts (get_or old 0 0 ∷ []) u ≡ false → starts old u ≡ false
+starts-front : (front more u : Bytes) → starts front u ≡ false → starts (front ++ more) u ≡ false
 unfolding starts
-starts-one [] h u e = absurd (not-suc-le-zero h)
-starts-one (p ∷ old) h [] e = refl
-starts-one (p ∷ old) h (x ∷ u) e = go (eqb x p) e
+starts-front [] more u e = absurd (true≢false e)
+starts-front (p ∷ front) more [] e = refl
+starts-front (p ∷ front) more (x ∷ u) e = go (eqb x p) e (starts-front front more u)
   where
-    go : (b : Bool) → b && true ≡ false → b && starts old u ≡ false
-    go true f = absurd (true≢false f)
-    go false f = refl
+    go : (b : Bool) → b && starts front u ≡ false → (starts front u ≡ false → starts (front ++ more) u ≡ false) → b && starts (front ++ more) u ≡ false
+    go true f g = g f
+    go false f g = refl
 
-one-one : 1 < 1 → ⊥
-one-one h = omega arith
-
-pub starts-two : (old : Bytes) → 1 < length old → (u : Bytes) → starts (get_or old 0 0 ∷ get_or old 1 0 ∷ []) u ≡ false → starts old u ≡ false
-unfolding starts
-starts-two [] h u e = absurd (not-suc-le-zero h)
-starts-two (p ∷ []) h u e = absurd (one-one h)
-starts-two (p ∷ q ∷ old) h [] e = refl
-starts-two (p ∷ q ∷ old) h (x ∷ []) e = e
-starts-two (p ∷ q ∷ old) h (x ∷ y ∷ u) e = go (eqb x p) (eqb y q) e
-  where
-    go : (b c : Bool) → b && (c && true) ≡ false → b && (c && starts old u) ≡ false
-    go true true f = absurd (true≢false f)
-    go true false f = refl
-    go false c f = refl
+-- where its first two bytes do not begin, `old` does not
+pub starts-two : (old : Bytes) → 2 ≤ length old → (u : Bytes) → starts (get_or old 0 0 ∷ get_or old 1 0 ∷ []) u ≡ false → starts old u ≡ false
+starts-two old h u e =
+    let n : old ≡ (get_or old 0 0 ∷ get_or old 1 0 ∷ []) ++ drop 2 old = drop-next old 0 (omega arith) ∙ rw (drop-next old 1 (omega arith)) in
+    ap (λ (t : Bytes). starts t u) n ∙ starts-front (get_or old 0 0 ∷ get_or old 1 0 ∷ []) (drop 2 old) u e
 
 ahead-pass : (p old : Bytes) → ((u : Bytes) → starts p u ≡ false → starts old u ≡ false) → (n : ℕ) (t : Bytes) → n ≤ ahead p t → ahead old t ≡ n + ahead old (drop n t)
 unfolding ahead
@@ -146,43 +129,14 @@ passed-by {src} {from} {p} {r} old f m =
     let b : ahead old (drop from src) ≡ n + ahead old (drop r src) = a ∙ rw d in
     record { onward = m.onward; within = m.within; same = omega (arith, m.onward) }
 
--- ---- `has_one` and `has_two`: up to j none is found, or it is said that one is
+-- ---- `stands`: up to j none is found, or it is said that one is
 
-pub record Seeking (src : Bytes) (from : ℕ) (old : Bytes) (to j : ℕ) (found : Bool) : Type 0 where
-  pub upto : j ≤ to
-  pub sought : Sought src from old j found
+or_true : (b : Bool) → b || true ≡ true
+or_true true = refl
+or_true false = refl
 
-pub seeking-none : {src : Bytes} {from : ℕ} {old : Bytes} {to : ℕ} → from ≤ to → to ≤ length src → Seeking src from old to from false
-seeking-none h l = record { upto = h; sought = record { none = λ e. passed_none (omega arith) } }
-
-module _ {src : Bytes} {from : ℕ} {old : Bytes} {to j : ℕ} {found : Bool} (m : Seeking src from old to j found) where
-  pub seeking-found : j < to → Seeking src from old to (j + 1) true
-  seeking-found h = record { upto = omega arith; sought = record { none = λ e. absurd (true≢false e) } }
-
-  seeking-next : j < to → to ≤ length src → starts old (drop j src) ≡ false → Seeking src from old to (j + 1) found
-  seeking-next h l n = record { upto = omega arith; sought = record { none = λ e. passed-next (m.sought.none e) (omega arith) n } }
-
-  pub seeking-end : to ≤ j → Sought src from old to found
-  seeking-end h = let e : j ≡ to = omega (arith, m.upto) in rw e at m.sought
-
--- the byte is another
-pub seeking-one : {src : Bytes} {from first to j : ℕ} {found : Bool} → Seeking src from (first ∷ []) to j found → j < to → to ≤ length src
-    → (get_or src j 0 ≡ first → ⊥) → Seeking src from (first ∷ []) to (j + 1) found
-unfolding starts
-seeking-one {src} {from} {first} {to} {j} m h l n =
-    let k : j < length src = omega arith in
-    seeking-next m h l (rw (drop-next src j k, ne_eqb (get_or src j 0) first n))
-
--- one of the two is
-pub seeking-two : {src : Bytes} {from first second to j : ℕ} {found : Bool} → Seeking src from (first ∷ second ∷ []) to j found → j < to → to < length src
-    → eqb (get_or src j 0) first && eqb (get_or src (j + 1) 0) second ≡ false → Seeking src from (first ∷ second ∷ []) to (j + 1) found
-unfolding starts
-seeking-two {src} {from} {first} {second} {to} {j} m h l e =
-    let k : j < length src = omega arith in
-    let n : j + 1 < length src = omega arith in
-    seeking-next m h (omega arith) (rw (drop-next src j k, drop-next src (j + 1) n) (go (eqb (get_or src j 0) first) (eqb (get_or src (j + 1) 0) second) e))
-  where
-    go : (b c : Bool) → b && c ≡ false → b && (c && true) ≡ false
-    go true true f = f
-    go true false f = refl
-    go false c f = refl
+module _ {src : Bytes} {from : ℕ} {old : Bytes} {j : ℕ} {found : Bool} (m : Sought src from old j found) where
+  -- here is looked at too
+  pub sought-next : (here : Bool) → j < length src → here ≡ starts old (drop j src) → Sought src from old (j + 1) (found || here)
+  sought-next true h e = record { none = λ f. absurd (true≢false (sym (or_true found) ∙ f)) }
+  sought-next false h e = record { none = λ f. passed-next (m.none (sym (or-false found) ∙ f)) h (sym e) }

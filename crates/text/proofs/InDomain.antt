@@ -1,120 +1,90 @@
--- The domain test: a digit at a place, and the invariants of the three loops that pass over a text.
+-- The domain test: a digit at the front of a text, and what is left of a text, which decides where what was passed is in the domain.
 use mathlib.Core.Path.{◌≡◌, refl, sym, ap, ◌∙◌}
-use mathlib.Core.Bool.{Bool, true, false, ◌&&◌, false≢true}
-use mathlib.Core.List.{◌∷◌}
-use Prim.Native.Nat.{ℕ, ◌+◌, ◌-◌, ◌≤◌, ◌<◌}
-use native.Mathlib.Nat.{add-zero}
-use native.Mathlib.Decide.{dec_lt}
+use mathlib.Core.Bool.{true, false}
+use mathlib.Core.List.{[], ◌∷◌, ◌++◌}
+use Prim.Native.Nat.{ℕ, suc, ◌-◌, ◌≤◌, ◌<◌}
 use native.Mathlib.Omega.{arith}
-use borrow.Author.Tests.{lt-ltb, le-ltb}
-use lib.Dec.{leb, eqb}
-use lib.ListN.{length, drop, get_or, length-drop, drop_of_length-le, get_or-eq_default}
-use lib.Seq.{get_or-drop}
+use borrow.Author.Tests.{lt-ltb, le-ltb, le-leb}
+use lib.ListN.{length, take, drop, get_or, get_or-eq_default, length-append, length-drop, drop_of_length-le}
+use Rattle.std.proofs.lemmas.Bool.Decides.{nat_tests}
+use Rattle.std.specs.Str.{IsAscii}
 use Rattle.rules.specs.Text.Bytes.{Bytes, subscript, in_domain}
-use Rattle.text.specs.Domain.{Clear}
 use Rattle.laws_text.specs.Passes.{digit, domain-ascii, domain-digit, domain-stop}
-use Rattle.text.proofs.Wrote.{drop-next}
+use Rattle.text.specs.Domain.{BehindDigit}
+use Rattle.text.proofs.Wrote.{drop-next, part-from}
 
-and-false : (a : Bool) → a && false ≡ false
-and-false true = refl
-and-false false = refl
+-- ---- a digit at the front
 
--- ---- a digit at a place
+subscript-not : (x y z : ℕ) → (x ≡ 226 → y ≡ 130 → 128 ≤ z → z ≤ 137 → ⊥) → subscript x y z ≡ false
+unfolding subscript
+subscript-not x y z n = grind (arith, nat_tests)
 
-pub digit-at : (s : Bytes) (i : ℕ)
-    → digit (drop i s) ≡ eqb (get_or s i 0) 226 && (eqb (get_or s (i + 1) 0) 130 && (leb 128 (get_or s (i + 2) 0) && leb (get_or s (i + 2) 0) 137))
-unfolding digit subscript
-digit-at s i = rw (get_or-drop i s 0 0, get_or-drop i s 1 0, get_or-drop i s 2 0, add-zero)
+pub no-digit : (s : Bytes) → (get_or s 0 0 ≡ 226 → get_or s 1 0 ≡ 130 → 128 ≤ get_or s 2 0 → get_or s 2 0 ≤ 137 → ⊥) → digit s ≡ false
+unfolding digit
+no-digit s n = subscript-not (get_or s 0 0) (get_or s 1 0) (get_or s 2 0) n
+
+third : (s : Bytes) → length s < 3 → length s ≤ 2
+third s h = omega arith
 
 -- there is no third byte
-pub digit-short : (s : Bytes) (i : ℕ) → length s - i < 3 → i ≤ length s → digit (drop i s) ≡ false
-digit-short s i h l =
-    let n : length s ≤ i + 2 = omega arith in
-    digit-at s i ∙ rw (get_or-eq_default s 0 n) (rw (and-false (eqb (get_or s (i + 1) 0) 130)) (and-false (eqb (get_or s i 0) 226)))
+pub short-text : (s : Bytes) → length s < 3 → digit s ≡ false
+short-text s h = no-digit s (λ a b c d. let z = get_or-eq_default s 0 (third s h) in omega arith)
 
-digit-length : (t : Bytes) → digit t ≡ true → 2 < length t
-digit-length t e = go (digit-short t 0)
-  where
-    go : (length t - 0 < 3 → 0 ≤ length t → digit t ≡ false) → 2 < length t
-    go f = elim (dec_lt 2 (length t)) [ yes h ↦ h | no h ↦ absurd (false≢true (sym (f (omega arith) (omega arith)) ∙ e)) ]
+pub digit-there : (s : Bytes) → 3 ≤ length s → get_or s 0 0 ≡ 226 → get_or s 1 0 ≡ 130 → 128 ≤ get_or s 2 0 → get_or s 2 0 ≤ 137
+    → BehindDigit s (take (length s - 3) (drop 3 s))
+unfolding digit subscript
+digit-there s h a b c d = record {
+  fits = h;
+  whole = rw (a, b, le-leb 128 (get_or s 2 0) c, le-leb (get_or s 2 0) 137 d);
+  behind = part-from s 3;
+}
 
--- ---- `is_ascii` and `skip_ascii`: what is passed is in the domain
+-- ---- what is left decides
 
-pub clear_none : {s : Bytes} {from : ℕ} → from ≤ length s → Clear s from from
-clear_none h = record { onward = omega arith; within = h; same = refl }
+ascii-part : (t u : Bytes) → IsAscii t → in_domain (t ++ u) ≡ in_domain u
+ascii-part [] u h = refl
+ascii-part (x ∷ t) u h = domain-ascii x (t ++ u) (lt-ltb x 128 (h 0)) ∙ ascii-part t u (λ i. h (suc i))
 
-module _ {s : Bytes} {from i : ℕ} (m : Clear s from i) where
-  pub clear_next : i < length s → get_or s i 0 < 128 → Clear s from (i + 1)
-  clear_next h l = record {
-    onward = omega (arith, m.onward);
-    within = omega arith;
-    same = m.same ∙ ap in_domain (drop-next s i h) ∙ domain-ascii (get_or s i 0) (drop (i + 1) s) (lt-ltb (get_or s i 0) 128 l);
+pub record Left (s rest : Bytes) : Type 0 where
+  pub shorter : length rest ≤ length s
+  pub same : in_domain rest ≡ in_domain s
+
+pub left-all : {s rest : Bytes} → length rest ≤ length s → in_domain rest ≡ in_domain s → Left s rest
+left-all h e = record { shorter = h; same = e }
+
+module _ {s rest : Bytes} (m : Left s rest) where
+  -- ASCII is passed
+  pub left-block : (t u : Bytes) → t ++ u ≡ rest → IsAscii t → Left s u
+  left-block t u e h = record {
+    shorter = omega (arith, m.shorter, simp length-append at (ap length e));
+    same = sym (ascii-part t u h) ∙ ap in_domain e ∙ m.same;
   }
 
-  pub clear-on : {r : ℕ} → Clear s i r → Clear s from r
-  clear-on n = record { onward = omega (arith, m.onward, n.onward); within = n.within; same = m.same ∙ n.same }
-
--- up to j all is ASCII, or it is said that not all is
-pub record Clearing (s : Bytes) (from to j : ℕ) (all_of : Bool) : Type 0 where
-  pub upto : j ≤ to
-  pub clear : all_of ≡ true → Clear s from j
-
-pub clearing-none : {s : Bytes} {from to : ℕ} → from ≤ to → to ≤ length s → Clearing s from to from true
-clearing-none h l = record { upto = h; clear = λ e. clear_none (omega arith) }
-
-module _ {s : Bytes} {from to j : ℕ} {all_of : Bool} (m : Clearing s from to j all_of) where
-  pub clearing-next : j < to → to ≤ length s → get_or s j 0 < 128 → Clearing s from to (j + 1) all_of
-  clearing-next h l b = record { upto = omega arith; clear = λ e. clear_next (m.clear e) (omega arith) b }
-
-  pub clearing-not : j < to → Clearing s from to (j + 1) false
-  clearing-not h = record { upto = omega arith; clear = λ e. absurd (false≢true e) }
-
-  pub clearing-end : to ≤ j → all_of ≡ true → Clear s from to
-  clearing-end h e = let k : j ≡ to = omega (arith, m.upto) in rw k at (m.clear e)
-
--- ---- `in_domain`: every byte before i is in the domain, so what follows decides
-
-pub record Scanning (s : Bytes) (i : ℕ) : Type 0 where
-  pub within : i ≤ length s
-  pub same : in_domain s ≡ in_domain (drop i s)
-
--- from the start on, or from where it is gone on
-pub scanning-from : {s : Bytes} {r : ℕ} → Clear s 0 r → Scanning s r
-scanning-from n = record { within = n.within; same = n.same }
-
-module _ {s : Bytes} {i : ℕ} (m : Scanning s i) where
-  pub scanning-on : {r : ℕ} → Clear s i r → Scanning s r
-  scanning-on n = record { within = n.within; same = m.same ∙ n.same }
-
-  pub scanning-ascii : i < length s → get_or s i 0 < 128 → Scanning s (i + 1)
-  scanning-ascii h l = record {
-    within = omega arith;
-    same = m.same ∙ ap in_domain (drop-next s i h) ∙ domain-ascii (get_or s i 0) (drop (i + 1) s) (lt-ltb (get_or s i 0) 128 l);
+  pub left-byte : 0 < length rest → get_or rest 0 0 < 128 → Left s (take (length rest - 1) (drop 1 rest))
+  left-byte h l = record {
+    shorter = rw (part-from rest 1) (omega (arith, m.shorter, length-drop 1 rest));
+    same = rw (part-from rest 1) (sym (ap in_domain (drop-next rest 0 h) ∙ domain-ascii (get_or rest 0 0) (drop 1 rest) (lt-ltb (get_or rest 0 0) 128 l)) ∙ m.same);
   }
 
-  pub scanning-fits : digit (drop i s) ≡ true → i + 3 ≤ length s
-  scanning-fits e = omega (arith, simp length-drop at (digit-length (drop i s) e))
-
-  -- the three bytes of a digit, and the rest
-  three : i + 3 ≤ length s → drop i s ≡ get_or s i 0 ∷ get_or s (i + 1) 0 ∷ get_or s (i + 2) 0 ∷ drop (i + 3) s
-  three h =
-      let a : i + 1 + 1 ≡ i + 2 = omega arith in
-      let b : i + 2 + 1 ≡ i + 3 = omega arith in
-      rw (drop-next s i (omega arith), drop-next s (i + 1) (omega arith), a, drop-next s (i + 2) (omega arith), b)
-
-  pub scanning-digit : 128 ≤ get_or s i 0 → digit (drop i s) ≡ true → Scanning s (i + 3)
-  scanning-digit l e =
-      let n = three (scanning-fits e) in
+  -- a digit is passed, and what follows it decides
+  pub left-digit : {others next : Bytes} → 128 ≤ get_or rest 0 0 → BehindDigit rest others → Left others next → Left s next
+  left-digit {others} {next} h b n =
+      let e = three b.fits in
       record {
-        within = scanning-fits e;
-        same = m.same ∙ ap in_domain n ∙ domain-digit (get_or s i 0) (get_or s (i + 1) 0) (get_or s (i + 2) 0) (drop (i + 3) s) (le-ltb (get_or s i 0) 128 l) (rw n at e);
+        shorter = omega (arith, m.shorter, n.shorter, ap length b.behind, length-drop 3 rest);
+        same =
+            let d = domain-digit (get_or rest 0 0) (get_or rest 1 0) (get_or rest 2 0) (drop 3 rest) (le-ltb (get_or rest 0 0) 128 h) (rw e at b.whole) in
+            n.same ∙ ap in_domain b.behind ∙ sym (ap in_domain e ∙ d) ∙ m.same;
       }
+    where
+      three : 3 ≤ length rest → rest ≡ get_or rest 0 0 ∷ get_or rest 1 0 ∷ get_or rest 2 0 ∷ drop 3 rest
+      three l = drop-next rest 0 (omega arith) ∙ rw (drop-next rest 1 (omega arith), drop-next rest 2 (omega arith))
 
-  pub scanning-stop : i < length s → 128 ≤ get_or s i 0 → digit (drop i s) ≡ false → in_domain s ≡ false
-  scanning-stop h l e =
-      let n = drop-next s i h in
-      m.same ∙ ap in_domain n ∙ domain-stop (get_or s i 0) (drop (i + 1) s) (le-ltb (get_or s i 0) 128 l) (rw n at e)
+  pub left-stop : 0 < length rest → 128 ≤ get_or rest 0 0 → digit rest ≡ false → false ≡ in_domain s
+  left-stop l h e =
+      let n = drop-next rest 0 l in
+      sym (domain-stop (get_or rest 0 0) (drop 1 rest) (le-ltb (get_or rest 0 0) 128 h) (rw n at e)) ∙ sym (ap in_domain n) ∙ m.same
 
-  pub scanning-end : length s ≤ i → in_domain s ≡ true
+  pub left-none : length rest < 1 → true ≡ in_domain s
   unfolding in_domain
-  scanning-end h = m.same ∙ ap in_domain (drop_of_length-le s h)
+  left-none h = sym (ap in_domain (drop_of_length-le rest {i = 0} (omega arith))) ∙ m.same

@@ -5,8 +5,8 @@ use mathlib.Core.List.{[], ◌∷◌, ◌++◌, append-nil}
 use Prim.Native.Nat.{ℕ, suc, ◌+◌, ◌-◌, ◌≤◌, ◌<◌}
 use native.Mathlib.Decide.{dec_lt}
 use native.Mathlib.Omega.{arith}
-use lib.ListN.{length, take, drop, get_or, length-drop, drop_of_length-le, take-append-drop}
-use lib.Seq.{drop-drop, take-add, take_all}
+use lib.ListN.{length, take, drop, get_or, drop_of_length-le, take-append-drop}
+use lib.Seq.{drop-drop, take-add}
 use Rattle.rules.specs.Text.Ascii.{ascii}
 use Rattle.rules.specs.Text.Lists.{all_of, kept, non_empty}
 use Rattle.rules.specs.Text.Bytes.{Bytes, Words, white, same, cut, words}
@@ -15,6 +15,7 @@ use Rattle.rules.specs.Text.Reader.{part}
 use Rattle.laws_text.specs.Passes.{in_word, grow, words-cons, words-nil, words_append}
 use Rattle.text.specs.Runs.{Run, Lead}
 use Rattle.text.proofs.RunEnd.{drop-next, words-blank, other, run-stops, part-rest}
+pub use Rattle.text.proofs.Wrote.{part-from}
 
 -- ---- words
 
@@ -196,17 +197,6 @@ module _ {s : Bytes} {k a e : ℕ} (m : Leads s k) (p : Run white s k a) (q : Ru
         rest = sym (ap following m.whole ∙ following-past (words (take k s)) (words (drop k s)) m.modifiers ∙ (stops f).1);
       }
 
-pub leads-end : {s : Bytes} {k : ℕ} → Leads s k → length s ≤ k → Lead s k
-unfolding leading following
-leads-end {s} {k} m h =
-    let d : drop k s ≡ [] = drop_of_length-le s h in
-    let n : words (drop k s) ≡ [] = ap words d ∙ words-nil in
-    record {
-      within = m.within;
-      front = sym (ap leading m.whole ∙ leading-past (words (take k s)) (words (drop k s)) m.modifiers ∙ rw n (append-nil (words (take k s))));
-      rest = sym (ap following m.whole ∙ following-past (words (take k s)) (words (drop k s)) m.modifiers ∙ rw n);
-    }
-
 -- ---- modifiers alone
 
 following-all : (ws : Words) → not (non_empty (following ws)) ≡ all_of modifier ws
@@ -221,10 +211,6 @@ following-all (w ∷ ws) = go (modifier w) (following-all ws)
 -- where not all words are modifiers, there is a word after those in front
 pub following-some : (ws : Words) → all_of modifier ws ≡ false → non_empty (following ws) ≡ true
 following-some ws e = sym (not-not (non_empty (following ws))) ∙ ap not (following-all ws ∙ e)
-
--- the part of a text from a place on
-pub part-from : (s : Bytes) (k : ℕ) → take (length s - k) (drop k s) ≡ drop k s
-part-from s k = take_all (length s - k) (drop k s) (omega (arith, length-drop k s))
 
 pub lead-all : {s : Bytes} {k : ℕ} {r : Bool} → Lead s k → r ≡ all_of white (take (length s - k) (drop k s)) → r ≡ all_of modifier (words s)
 lead-all {s} {k} {r} m e =

@@ -10,7 +10,7 @@ use lib.Seq.{drop-drop, take_all}
 use Rattle.rules.specs.Text.Bytes.{Bytes, starts, replace_from, replace}
 use Rattle.text.specs.Wrote.{Wrote}
 use Rattle.text.specs.Places.{ahead}
-use Rattle.text.proofs.Wrote.{Sofar, sofar-start, sofar-part, sofar-end, sofar-part-room}
+use Rattle.text.proofs.Wrote.{Sofar, sofar-part, sofar-end, sofar-part-room}
 use Rattle.text.proofs.Finds.{starts-length}
 
 -- bytes that are passed over
@@ -72,9 +72,6 @@ pub record Replacing (src old new dst₀ : Bytes) (i o k : ℕ) (dst : Bytes) : 
   pub within : i ≤ length src
   pub next : k ≡ i + ahead old (drop i src)
   pub sofar : Sofar (replace old new src) (replace old new (drop i src)) dst₀ o dst
-
-pub replacing-none : {src old new dst₀ : Bytes} {k : ℕ} → k ≡ ahead old src → length (replace old new src) ≤ length dst₀ → Replacing src old new dst₀ 0 0 k dst₀
-replacing-none e h = record { within = omega arith; next = omega arith; sofar = sofar-start _ _ h }
 
 -- what the code makes of the part between
 abbrev pub between : Bytes → ℕ → ℕ → Bytes

@@ -1,13 +1,21 @@
--- White space alone, runs of bytes that pass a test, parts of a text, and texts compared: the invariants of the loops, and their laws.
+-- White space alone, runs of bytes that pass a test, parts of a text, and texts compared: what std's searches tell of them, and their laws.
 use mathlib.Core.Path.{◌≡◌, refl, sym, ap, ◌∙◌}
-use mathlib.Core.Bool.{Bool, true, false, cond, not, ◌&&◌, ◌||◌, false≢true, true≢false, and-false}
-use mathlib.Core.List.{[], ◌∷◌, ◌++◌}
+use mathlib.Core.Bool.{Bool, true, false, cond, not, ◌&&◌, ◌||◌, false≢true, true≢false, not-not}
+use mathlib.Core.List.{List, [], ◌∷◌, ◌++◌}
 use Prim.Native.Nat.{ℕ, suc, ◌+◌, ◌-◌, ◌≤◌, ◌<◌}
 use native.Mathlib.Omega.{arith}
-use borrow.Author.Tests.{le-leb, lt-leb, ne_eqb, eq-eqb}
-use lib.ListN.{length, take, drop, get_or, length-drop, drop_of_length-le, take-append-drop}
+use native.Mathlib.Decide.{dec_lt}
+use borrow.Author.Tests.{le-leb, lt-leb}
+use lib.ListN.{length, take, drop, get_or, length-drop, take-append-drop}
 use lib.Seq.{take-suc, get_or-drop, drop-drop, length-take-le}
-use lib.Dec.{leb, eqb}
+use lib.Dec.{leb, ltb, eqb}
+use Rattle.std.proofs.Common.{Option, Some, None}
+use Rattle.std.specs.Option.{unwrap_or}
+use Rattle.std.specs.List.{list_all, prefix_len, position_or_len, position}
+use Rattle.std.specs.Cmp.Lexicographic.{pointwise}
+use Rattle.std.proofs.lemmas.Bool.{ltb-false}
+use Rattle.std.proofs.lemmas.List.Sums.{prefix_len-le-length, prefix_len_stops}
+use Rattle.std.proofs.lemmas.List.Recursion.{same_from_clauses}
 use Rattle.rules.specs.Text.Lists.{all_of, kept, non_empty}
 use Rattle.rules.specs.Text.Bytes.{Bytes, Words, white, cut, words, same}
 use Rattle.rules.specs.Text.Reader.{part}
@@ -15,27 +23,37 @@ use Rattle.laws_text.specs.Passes.{in_word, grow, words-cons, grow-some}
 use Rattle.text.specs.Runs.{Run}
 pub use Rattle.text.proofs.Wrote.{drop-next}
 
--- ---- `is_blank`: before i stands white space alone, so the bytes from i on decide
+-- ---- what std's tests and searches tell, in the words of `rules`
 
-pub record Blank (s : Bytes) (i : ℕ) : Type 0 where
-  pub within : i ≤ length s
-  pub same : all_of white s ≡ all_of white (drop i s)
+pub all-is : {A : Type 0} (test : A → Bool) (s : List A) → list_all test s ≡ all_of test s
+unfolding all_of
+all-is test = same_from_clauses (list_all test) (all_of test) (λ x b. test x && b) refl (λ _ _. refl) (λ _ _. refl)
 
-pub blank_none : (s : Bytes) → Blank s 0
-blank_none s = record { within = omega arith; same = refl }
+pub same-is : (a b : Bytes) → pointwise eqb a b ≡ same a b
+unfolding same
+same-is [] [] = refl
+same-is [] (y ∷ b) = refl
+same-is (x ∷ a) [] = refl
+same-is (x ∷ a) (y ∷ b) = rw (same-is a b)
 
-module _ {s : Bytes} {i : ℕ} (m : Blank s i) where
-  pub blank-white : i < length s → white (get_or s i 0) ≡ true → Blank s (i + 1)
-  unfolding all_of
-  blank-white h e = record { within = omega arith; same = m.same ∙ ap (all_of white) (drop-next s i h) ∙ rw e }
+-- a byte that does not pass a test
+abbrev pub other : (ℕ → Bool) → ℕ → Bool
+other test b = not (test b)
 
-  pub blank-not : i < length s → white (get_or s i 0) ≡ false → false ≡ all_of white s
-  unfolding all_of
-  blank-not h e = sym (m.same ∙ ap (all_of white) (drop-next s i h) ∙ rw e)
+-- how many bytes stand before the first other one: all of them where `position` finds none
+pub place : (test : ℕ → Bool) (s : Bytes) {r : Option ℕ} {n : ℕ} → r ≡ position (other test) s → n ≡ unwrap_or r (length s) → n ≡ prefix_len test s
+place test s {r} {n} e d = d ∙ ap (λ (o : Option ℕ). unwrap_or o (length s)) e ∙ go (ltb k (length s)) refl ∙ all-of s
+  where
+    k : ℕ
+    k = position_or_len (other test) s
 
-  pub blank-end : length s ≤ i → true ≡ all_of white s
-  unfolding all_of
-  blank-end h = sym (m.same ∙ ap (all_of white) (drop_of_length-le s h))
+    all-of : (t : Bytes) → position_or_len (other test) t ≡ prefix_len test t
+    all-of [] = refl
+    all-of (x ∷ t) = rw (not-not (test x), all-of t)
+
+    go : (b : Bool) → ltb k (length s) ≡ b → unwrap_or (cond b (Some k) None) (length s) ≡ k
+    go true h = refl
+    go false h = let l = prefix_len-le-length (λ x. not (not (test x))) s in omega (arith, ltb-false k (length s) h)
 
 -- a text has a word exactly where it is not all white space
 pub words-blank : (t : Bytes) → non_empty (words t) ≡ not (all_of white t)
@@ -54,7 +72,7 @@ words-none t e = go (words t) (words-blank t ∙ ap not e)
     go [] f = refl
     go (w ∷ ws) f = unfold non_empty in absurd (true≢false f)
 
--- ---- `run_end`: every byte from the start up to i passes the test
+-- ---- a run by a loop: every byte from the start up to i passes the test
 
 pub record Scan (test : ℕ → Bool) (s : Bytes) (from i : ℕ) : Type 0 where
   pub ahead : from ≤ i
@@ -96,11 +114,34 @@ module _ {test : ℕ → Bool} {s : Bytes} {from i : ℕ} (m : Scan test s from 
   pub scan-end : length s ≤ i → Run test s from i
   scan-end h = record { ahead = m.ahead; within = m.within; whole = m.whole; ends = rw (le-leb (length s) i h) }
 
--- ---- parts of a text, and where a run stops
+-- ---- `run_end`: the run goes up to the first other byte
 
--- a byte that does not pass a test
-abbrev pub other : (ℕ → Bool) → ℕ → Bool
-other test b = not (test b)
+run-of : (test : ℕ → Bool) (s : Bytes) → all_of test (take (prefix_len test s) s) ≡ true
+unfolding all_of
+run-of test [] = refl
+run-of test (x ∷ s) = go (test x) refl (run-of test s)
+  where
+    go : (b : Bool) → test x ≡ b → all_of test (take (prefix_len test s) s) ≡ true → all_of test (take (cond b (1 + prefix_len test s) 0) (x ∷ s)) ≡ true
+    go true e h = let n : 1 + prefix_len test s ≡ suc (prefix_len test s) = omega arith in rw (n, e) h
+    go false e h = refl
+
+pub run-is : {test : ℕ → Bool} {s : Bytes} {from n : ℕ} → from ≤ length s → n ≡ prefix_len test (drop from s) → Run test s from (from + n)
+run-is {test} {s} {from} {n} h e =
+    let l = prefix_len-le-length test (drop from s) in
+    let d : from + n - from ≡ prefix_len test (drop from s) = omega arith in
+    record {
+      ahead = omega arith;
+      within = omega (arith, length-drop from s);
+      whole = rw d (run-of test (drop from s));
+      ends = elim (dec_lt (from + n) (length s)) [ yes k ↦ inside k | no k ↦ rw (le-leb (length s) (from + n) (omega arith)) ];
+    }
+  where
+    inside : from + n < length s → (leb (length s) (from + n) || not (test (get_or s (from + n) 0))) ≡ true
+    inside k =
+        let stop = prefix_len_stops test (drop from s) 0 (omega (arith, length-drop from s)) in
+        rw (lt-leb (length s) (from + n) k, e, ← get_or-drop from s (prefix_len test (drop from s)) 0, stop)
+
+-- ---- parts of a text, and where a run stops
 
 -- the text from a place on is the part up to another, and what is behind that
 pub part-rest : (s : Bytes) (from to : ℕ) → from ≤ to → drop from s ≡ part from to s ++ drop to s
@@ -119,36 +160,3 @@ run-stops {test} {s} {from} {to} m h = go (leb (length s) to) (test (get_or s to
     go true b e f = absurd (true≢false e)
     go false true e f = absurd (false≢true f)
     go false false e f = refl
-
--- ---- `is_same`: the first i bytes are alike, so those from i on decide
-
-pub same-unlike : (a b : Bytes) → (length a ≡ length b → ⊥) → false ≡ same a b
-unfolding same
-same-unlike [] [] n = absurd (n refl)
-same-unlike [] (y ∷ b) n = refl
-same-unlike (x ∷ a) [] n = refl
-same-unlike (x ∷ a) (y ∷ b) n = rw (← same-unlike a b (λ e. n (ap suc e))) (sym (and-false (eqb x y)))
-
-pub record Same (a b : Bytes) (i : ℕ) : Type 0 where
-  pub within : i ≤ length a
-  pub like : length a ≡ length b
-  pub so_far : same a b ≡ same (drop i a) (drop i b)
-
-pub same_none : (a b : Bytes) → length a ≡ length b → Same a b 0
-same_none a b e = record { within = omega arith; like = e; so_far = refl }
-
-module _ {a b : Bytes} {i : ℕ} (m : Same a b i) where
-  both : i < length a → same a b ≡ same (get_or a i 0 ∷ drop (i + 1) a) (get_or b i 0 ∷ drop (i + 1) b)
-  both h = m.so_far ∙ rw (drop-next a i h, drop-next b i (omega (arith, m.like)))
-
-  pub same_more : i < length a → get_or a i 0 ≡ get_or b i 0 → Same a b (i + 1)
-  unfolding same
-  same_more h e = record { within = omega arith; like = m.like; so_far = both h ∙ rw (eq-eqb (get_or a i 0) (get_or b i 0) e) }
-
-  pub same_differs : i < length a → (get_or a i 0 ≡ get_or b i 0 → ⊥) → false ≡ same a b
-  unfolding same
-  same_differs h n = sym (both h ∙ rw (ne_eqb (get_or a i 0) (get_or b i 0) n))
-
-  pub same_end : length a ≤ i → true ≡ same a b
-  unfolding same
-  same_end h = let l : length b ≤ i = omega (arith, m.like) in sym (m.so_far ∙ rw (drop_of_length-le a h, drop_of_length-le b l))

@@ -1,39 +1,35 @@
--- Trimming by a test, at a place of a text: the laws, and the loops' invariants.
+-- Trimming by a test, at a place of a text: how many bytes stand before the first that stays, from the front and from the end.
 use mathlib.Core.Path.{◌≡◌, refl, sym, ap, ◌∙◌}
-use mathlib.Core.Bool.{Bool, true, false}
-use mathlib.Core.List.{[], ◌∷◌, ◌++◌}
-use Prim.Native.Nat.{ℕ, suc, ◌+◌, ◌-◌, ◌≤◌, ◌<◌}
+use mathlib.Core.Bool.{Bool, true, false, cond}
+use mathlib.Core.List.{[], ◌∷◌, ◌++◌, reverse}
+use Prim.Native.Nat.{ℕ, suc, ◌+◌, ◌-◌, ◌≤◌}
 use native.Mathlib.Omega.{arith}
-use lib.ListN.{length, take, drop, get_or, length-drop, drop_of_length-le}
-use lib.Seq.{take-suc, take_all, take-length}
+use lib.ListN.{length, take, drop, length-append}
+use lib.Seq.{take_all}
+use Rattle.std.specs.List.{prefix_len}
+use Rattle.std.proofs.lemmas.Grind.{reverse_onto}
+use Rattle.std.proofs.lemmas.List.{length-reverse, reverse-reverse, take-append-le}
+use Rattle.std.proofs.lemmas.List.Sums.{prefix_len-le-length}
 use Rattle.rules.specs.Text.Bytes.{Bytes, trim_start, trim_end, trimmed}
 use Rattle.laws_text.specs.Passes.{keep, trim_end-cons}
 use Rattle.text.specs.Places.{LeftFrom, LeftTo}
-use Rattle.text.proofs.Wrote.{drop-next}
+use Rattle.text.proofs.Wrote.{part-from}
 
--- ---- `start_of`: every byte before i goes
+-- ---- `start_of`: what stands before the first byte that stays goes
 
-pub record Starting (test : ℕ → Bool) (s : Bytes) (i : ℕ) : Type 0 where
-  pub within : i ≤ length s
-  pub same : trim_start test (drop i s) ≡ trim_start test s
+start-at : (test : ℕ → Bool) (s : Bytes) → drop (prefix_len test s) s ≡ trim_start test s
+unfolding trim_start
+start-at test [] = refl
+start-at test (x ∷ s) = go (test x) (start-at test s)
+  where
+    go : (b : Bool) → drop (prefix_len test s) s ≡ trim_start test s → drop (cond b (1 + prefix_len test s) 0) (x ∷ s) ≡ cond b (trim_start test s) (x ∷ s)
+    go true h = let n : 1 + prefix_len test s ≡ suc (prefix_len test s) = omega arith in rw n h
+    go false h = refl
 
-pub starting-none : {test : ℕ → Bool} {s : Bytes} → Starting test s 0
-starting-none = record { within = omega arith; same = refl }
+pub start-is : {test : ℕ → Bool} {s : Bytes} {n : ℕ} → n ≡ prefix_len test s → LeftFrom test s n
+start-is {test} {s} e = record { within = omega (arith, prefix_len-le-length test s); part = rw e (start-at test s) }
 
-module _ {test : ℕ → Bool} {s : Bytes} {i : ℕ} (m : Starting test s i) where
-  pub starting-cut : i < length s → test (get_or s i 0) ≡ true → Starting test s (i + 1)
-  unfolding trim_start
-  starting-cut h e = record { within = omega arith; same = sym (ap (trim_start test) (drop-next s i h) ∙ rw e) ∙ m.same }
-
-  pub starting-here : i < length s → test (get_or s i 0) ≡ false → LeftFrom test s i
-  unfolding trim_start
-  starting-here h e = record { within = m.within; part = drop-next s i h ∙ sym (ap (trim_start test) (drop-next s i h) ∙ rw e) ∙ m.same }
-
-  pub starting-end : length s ≤ i → LeftFrom test s i
-  unfolding trim_start
-  starting-end h = record { within = m.within; part = drop_of_length-le s h ∙ sym (ap (trim_start test) (drop_of_length-le s h)) ∙ m.same }
-
--- ---- `end_of`: every byte from k on goes
+-- ---- `end_of`: what stands behind the last byte that stays goes
 
 module _ (test : ℕ → Bool) where
   -- one byte alone
@@ -59,36 +55,22 @@ module _ (test : ℕ → Bool) where
   end_kept [] x e = trim_end-cons test x [] ∙ one_kept x e
   end_kept (y ∷ t) x e = rw (trim_end-cons test y (t ++ (x ∷ [])), end_kept t x e) (keep-more y t x)
 
--- the part up to k is that up to k - 1 and one byte more
-take_last : (s : Bytes) (k : ℕ) → 0 < k → k ≤ length s → take k s ≡ take (k - 1) s ++ (get_or s (k - 1) 0 ∷ [])
-take_last s k p h =
-    let n : k ≡ suc (k - 1) = omega arith in
-    ap (λ (j : ℕ). take j s) n ∙ take-suc s (k - 1) 0 (omega arith)
+-- u is the text from its end back
+end-at : (test : ℕ → Bool) (u : Bytes) → take (length u - prefix_len test u) (reverse u) ≡ trim_end test (reverse u)
+unfolding trim_end
+end-at test [] = refl
+end-at test (x ∷ u) = let n : reverse (x ∷ u) ≡ reverse u ++ (x ∷ []) = reverse_onto u x [] in rw n (go (test x) refl (end-at test u))
+  where
+    go : (b : Bool) → test x ≡ b → take (length u - prefix_len test u) (reverse u) ≡ trim_end test (reverse u)
+        → take (suc (length u) - cond b (1 + prefix_len test u) 0) (reverse u ++ (x ∷ [])) ≡ trim_end test (reverse u ++ (x ∷ []))
+    go true e h =
+        let n : suc (length u) - (1 + prefix_len test u) ≡ length u - prefix_len test u = omega arith in
+        let l : length u - prefix_len test u ≤ length (reverse u) = omega (arith, length-reverse u) in
+        rw (n, take-append-le (length u - prefix_len test u) (reverse u) (x ∷ []) l, h) (sym (end-cut test (reverse u) x e))
+    go false e h = take_all _ _ (simp (length-append, length-reverse) (omega arith)) ∙ sym (end_kept test (reverse u) x e)
 
-pub record Ending (test : ℕ → Bool) (s : Bytes) (k : ℕ) : Type 0 where
-  pub within : k ≤ length s
-  pub same : trim_end test (take k s) ≡ trim_end test s
-
-pub ending-none : {test : ℕ → Bool} {s : Bytes} → Ending test s (length s)
-ending-none {test} {s} = record { within = omega arith; same = ap (trim_end test) (take-length s) }
-
-module _ {test : ℕ → Bool} {s : Bytes} {k : ℕ} (m : Ending test s k) where
-  pub ending-cut : 0 < k → test (get_or s (k - 1) 0) ≡ true → Ending test s (k - 1)
-  ending-cut p e = record {
-    within = omega (arith, m.within);
-    same = sym (ap (trim_end test) (take_last s k p m.within) ∙ end-cut test (take (k - 1) s) (get_or s (k - 1) 0) e) ∙ m.same;
-  }
-
-  pub ending_here : 0 < k → test (get_or s (k - 1) 0) ≡ false → LeftTo test s k
-  ending_here p e =
-      let t = take_last s k p m.within in
-      record { within = m.within; part = t ∙ sym (ap (trim_end test) t ∙ end_kept test (take (k - 1) s) (get_or s (k - 1) 0) e) ∙ m.same }
-
-  pub ending-end : k ≤ 0 → LeftTo test s k
-  unfolding trim_end
-  ending-end h =
-      let z : k ≡ 0 = omega arith in
-      record { within = m.within; part = ap (λ (j : ℕ). take j s) z ∙ sym (ap (λ (j : ℕ). trim_end test (take j s)) z) ∙ m.same }
+pub end-is : {test : ℕ → Bool} {s : Bytes} {n : ℕ} → n ≡ prefix_len test (reverse s) → LeftTo test s (length s - n)
+end-is {test} {s} {n} e = record { within = omega arith; part = rw e (simp (length-reverse, reverse-reverse) at (end-at test (reverse s))) }
 
 -- ---- `trim`
 
@@ -96,9 +78,6 @@ module _ {test : ℕ → Bool} {s : Bytes} {k : ℕ} (m : Ending test s k) where
 abbrev pub onward : Bytes → ℕ → Bytes
 onward s a = take (length s - a) (drop a s)
 
-pub onward-is : (s : Bytes) (a : ℕ) → onward s a ≡ drop a s
-onward-is s a = take_all (length s - a) (drop a s) (omega (arith, length-drop a s))
-
 pub trimmed-is : {test : ℕ → Bool} {s : Bytes} {a k : ℕ} → LeftFrom test s a → LeftTo test (onward s a) k → take k (onward s a) ≡ trimmed test s
 unfolding trimmed
-trimmed-is {test} {s} {a} p q = q.part ∙ ap (trim_end test) (onward-is s a ∙ p.part)
+trimmed-is {test} {s} {a} p q = q.part ∙ ap (trim_end test) (part-from s a ∙ p.part)

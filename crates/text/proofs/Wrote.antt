@@ -2,11 +2,11 @@
 -- invariants of all writers share, `Sofar`.
 use mathlib.Core.Path.{◌≡◌, refl, sym, ap, ◌∙◌}
 use mathlib.Core.List.{[], ◌∷◌, ◌++◌, append_assoc, append-nil}
-use Prim.Native.Nat.{ℕ, suc, ◌+◌, ◌≤◌, ◌<◌}
+use Prim.Native.Nat.{ℕ, suc, ◌+◌, ◌-◌, ◌≤◌, ◌<◌}
 use native.Mathlib.Numerals.{add-one}
 use native.Mathlib.Omega.{arith}
 use lib.ListN.{length, take, drop, get_or, set, length-append, length-drop, take-append-drop}
-use lib.Seq.{drop-cons, take_at, set_at, length-take-le, drop-drop, drop-append-add, append_snoc}
+use lib.Seq.{drop-cons, take_all, take_at, set_at, length-take-le, drop-drop, drop-append-add, append_snoc}
 use Rattle.rules.specs.Text.Bytes.{Bytes}
 use Rattle.text.specs.Wrote.{Wrote, Holds}
 
@@ -51,6 +51,10 @@ module _ {all_of rest dst₀ : Bytes} {o : ℕ} {dst : Bytes} (s : Sofar all_of 
 -- a text's rest from j on is the byte at j and the rest after it
 pub drop-next : (l : Bytes) (j : ℕ) → j < length l → drop j l ≡ get_or l j 0 ∷ drop (j + 1) l
 drop-next l j h = rw (add-one, drop-cons l j 0 h)
+
+-- what the code makes of a text from a place on
+pub part-from : (s : Bytes) (k : ℕ) → take (length s - k) (drop k s) ≡ drop k s
+part-from s k = take_all (length s - k) (drop k s) (omega (arith, length-drop k s))
 
 -- nothing is written yet
 pub sofar-start : (all_of d : Bytes) → length all_of ≤ length d → Sofar all_of all_of d 0 d

@@ -1,43 +1,17 @@
 -- Writing from a place on: the laws of `WroteAt`.
-use mathlib.Core.Path.{◌≡◌, refl, sym, ap, ◌∙◌, subst}
-use mathlib.Core.List.{[], ◌∷◌, ◌++◌, append-nil, append_assoc}
-use Prim.Native.Nat.{ℕ, ◌+◌, ◌-◌, ◌≤◌, ◌<◌}
+use mathlib.Core.Path.{◌≡◌, refl, sym, ap, subst}
+use mathlib.Core.List.{[], ◌∷◌, ◌++◌, append-nil}
+use Prim.Native.Nat.{ℕ, ◌+◌, ◌≤◌, ◌<◌}
 use native.Mathlib.Omega.{arith}
-use borrow.Rule.Slice.PartMut.{put_mid, post_of}
-use lib.ListN.{length, take, drop, set, length-append, length-drop, drop_of_length-le}
-use lib.Seq.{take_all, drop-drop, length-take-le}
+use lib.ListN.{length, take, drop, set, length-append, length-drop}
+use lib.Seq.{length-take-le}
 use Rattle.rules.specs.Text.Ascii.{ascii}
 use Rattle.rules.specs.Text.Bytes.{Bytes}
 use Rattle.rules.specs.Text.Split.{line}
-use Rattle.text.specs.Wrote.{Wrote, WroteAt}
+use Rattle.text.specs.Wrote.{WroteAt}
 use Rattle.text.proofs.Wrote.{Sofar, sofar-at, sofar-part, sofar-byte, sofar-end}
 
 -- ---- a part of the buffer
-
--- what was written into the part of a buffer from a place on
-pub part-wrote : (text dst : Bytes) (at n : ℕ) (last : Bytes) → at ≤ length dst → Wrote text (take (length dst - at) (drop at dst)) n last
-    → WroteAt text dst at (at + n) (put_mid at (length dst - at) dst last)
-part-wrote text dst at n last h w =
-    let l : length (take at dst) ≡ at = length-take-le at dst h in
-    let all-of : take (length dst - at) (drop at dst) ≡ drop at dst = take_all (length dst - at) (drop at dst) (omega (arith, length-drop at dst)) in
-    let k : length (drop at dst) ≤ length dst - at = omega (arith, length-drop at dst) in
-    let none : post_of at (length dst - at) dst ≡ [] = drop_of_length-le (drop at dst) k in
-    let rest : drop n (take (length dst - at) (drop at dst)) ≡ drop (at + n) dst = ap (drop n) all-of ∙ drop-drop n at dst in
-    record {
-      wrote =
-          record {
-            count = omega (arith, length-append (take at dst) text, l, w.count);
-            whole = rw (none, append-nil last, w.whole, rest) (sym (append_assoc (take at dst) text (drop (at + n) dst)));
-          };
-    }
-
-pub part_room : (dst : Bytes) (at k : ℕ) → at + k ≤ length dst → k ≤ length (take (length dst - at) (drop at dst))
-part_room dst at k h =
-    let all-of : take (length dst - at) (drop at dst) ≡ drop at dst = take_all (length dst - at) (drop at dst) (omega (arith, length-drop at dst)) in
-    omega (arith, ap length all-of, length-drop at dst)
-
-pub part-fits : (dst : Bytes) (at : ℕ) (text : Bytes) {r : ℕ} {d last : Bytes} → at + length text ≤ length dst → Wrote text d r last → at + r ≤ length dst
-part-fits dst at text h w = omega (arith, w.count)
 
 -- ---- a text after another
 

@@ -1,9 +1,10 @@
 -- Places in a text up to which it is in the domain.
-use Rattle.std.specs.Prelude.{◌≡◌, ℕ, ◌≤◌, length, drop}
-use Rattle.rules.specs.Text.Bytes.{Bytes, in_domain}
+use Rattle.std.specs.Prelude.{◌≡◌, true, ◌≤◌, length, drop}
+use Rattle.rules.specs.Text.Bytes.{Bytes}
+use Rattle.laws_text.specs.Passes.{digit}
 
--- r is reached from `from`, and what stands between is in the domain, so what follows decides
-pub record Clear (s : Bytes) (from r : ℕ) : Type 0 where
-  pub onward : from ≤ r
-  pub within : r ≤ length s
-  pub same : in_domain (drop from s) ≡ in_domain (drop r s)
+-- s begins with a whole subscript digit, and `others` is what stands behind it
+pub record BehindDigit (s others : Bytes) : Type 0 where
+  pub fits : 3 ≤ length s
+  pub whole : digit s ≡ true
+  pub behind : others ≡ drop 3 s

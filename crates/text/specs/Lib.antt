@@ -2,3 +2,4 @@ pub mod Places
 pub mod Domain
 pub mod Runs
 pub mod Wrote
+pub mod Apart

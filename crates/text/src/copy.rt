@@ -6,34 +6,26 @@ ghost use Rattle.text.specs.Wrote.{Wrote};
 ghost use Rattle.text.specs.Places.{ahead};
 
 use crate::search::find;
-use rules::Written;
+use rules::{NO_ROOM, Refusal};
 
 // Puts all of src into dst from at.
 pub fn put(src: &[u8], dst: &mut [u8], at: usize) -> usize
     requires { at + length src.now ≤ length dst.old }
     ensures { Wrote (take at dst.old ++ src.now) dst.old result dst.new }
 {
-    let mut j = 0;
-    let mut o = at;
-    while j < src.len() {
-        dst[o] = src[j];
-        o += 1;
-        j += 1;
-    }
-    o
+    let end = at + src.len();
+    dst[at..end].copy_from_slice(src);
+    end
 }
 
 // Hands a whole answer out: puts it into the lent buffer, or refuses 7.
-pub fn hand_out(answer: &[u8], out: &mut [u8]) -> Written
+pub fn hand_out(answer: &[u8], out: &mut [u8]) -> Result<usize, Refusal>
     ensures { Lends (answers answer.now) out.old result out.new }
 {
     if out.len() < answer.len() {
-        return Written::Refused {
-            number: 7,
-            place: 0,
-        };
+        return Err(NO_ROOM);
     }
-    Written::Wrote(put(answer, out, 0))
+    Ok(put(answer, out, 0))
 }
 
 // Writes src with each old, of which the first stands at `first`, replaced by new. What stands between two of them is

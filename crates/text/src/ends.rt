@@ -26,30 +26,15 @@ pub fn is_cut(e: Edge, b: u8) -> bool
 pub fn start_of(e: Edge, s: &[u8]) -> usize
     ensures { LeftFrom (cut_by e) s.now result }
 {
-    let mut i = 0;
-    while i < s.len() {
-        if is_cut(e, s[i]) {
-            i += 1;
-        } else {
-            return i;
-        }
-    }
-    i
+    s.iter().position(|b| !is_cut(e, *b)).unwrap_or(s.len())
 }
 
 // The place after the last byte that a trim by e leaves, or 0.
 pub fn end_of(e: Edge, s: &[u8]) -> usize
     ensures { LeftTo (cut_by e) s.now result }
 {
-    let mut k = s.len();
-    while 0 < k {
-        if is_cut(e, s[k - 1]) {
-            k -= 1;
-        } else {
-            return k;
-        }
-    }
-    k
+    let cut = s.iter().rev().position(|b| !is_cut(e, *b));
+    s.len() - cut.unwrap_or(s.len())
 }
 
 // The part of s that a trim by e at both ends leaves.

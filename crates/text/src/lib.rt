@@ -12,7 +12,7 @@ mod search;
 mod white;
 
 pub use copy::{hand_out, put, replace_from, replace_into};
-pub use domain::first_refusal;
+pub use domain::tested;
 pub use ends::{Edge, start_of, trim};
 pub use modifiers::{is_lead, lead_end};
 pub use runs::{Kind, is_blank, is_same, run_end};

@@ -10,15 +10,7 @@ use crate::white::is_white;
 pub fn is_blank(s: &[u8]) -> bool
     ensures { result ≡ all_of white s.now }
 {
-    let mut i = 0;
-    while i < s.len() {
-        if is_white(s[i]) {
-            i += 1;
-        } else {
-            return false;
-        }
-    }
-    true
+    s.iter().all(|b| is_white(*b))
 }
 
 // What a run of bytes is made of.
@@ -51,30 +43,14 @@ pub fn run_end(kind: Kind, s: &[u8], at: usize) -> usize
     requires { at ≤ length s.now }
     ensures { Run (is_of kind) s.now at result }
 {
-    let mut i = at;
-    while i < s.len() {
-        if is_of(kind, s[i]) {
-            i += 1;
-        } else {
-            return i;
-        }
-    }
-    i
+    let rest = &s[at..];
+    let run = rest.iter().position(|b| !is_of(kind, *b));
+    at + run.unwrap_or(rest.len())
 }
 
 // Are the two texts the same?
 pub fn is_same(a: &[u8], b: &[u8]) -> bool
     ensures { result ≡ same a.now b.now }
 {
-    if a.len() != b.len() {
-        return false;
-    }
-    let mut i = 0;
-    while i < a.len() {
-        if a[i] != b[i] {
-            return false;
-        }
-        i += 1;
-    }
-    true
+    a == b
 }

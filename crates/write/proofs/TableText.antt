@@ -1,7 +1,8 @@
 -- A record's text in its parts, a table's texts, and the two public calls.
+use Rattle.rules.specs.declared.Refusal.{Refusal}
+use Rattle.std.specs.Prelude.{Option, None, Some, Result}
 use mathlib.Core.Path.{◌≡◌, refl, sym, ap, ◌∙◌}
 use mathlib.Core.Bool.{Bool, true, false, cond}
-use mathlib.Core.Option.{Option, none, some}
 use mathlib.Core.List.{List, [], ◌∷◌, ◌++◌, map, append-nil}
 use Prim.Native.Nat.{ℕ, ◌+◌, ◌≤◌, ◌<◌}
 use native.Mathlib.Omega.{arith}
@@ -11,18 +12,13 @@ use lib.Seq.{get_or-take}
 use lib.Dec.{ltb}
 use Rattle.rules.specs.Text.Ascii.{ascii}
 use Rattle.rules.specs.Text.Bytes.{Bytes, after_each, joined_by, joined}
-use Rattle.rules.specs.Text.Refusal.{Reply, answers, Lends}
+use Rattle.rules.specs.Text.Refusal.{Reply, answers, Lends, refusal}
 use Rattle.rules.specs.Pipeline.Record.{operator, args, made, table_reading, good_in, first_bad, refusal18, listed}
 use Rattle.rules.specs.declared.Step.{Step}
 use Rattle.rules.specs.declared.Table.{Table}
-use Rattle.rules.specs.declared.Written.{Written}
-use Rattle.rules.specs.declared.Written.TheVariants as variant
 use Rattle.laws_text.specs.Entry.{lends-refusal}
 use Rattle.text.specs.Wrote.{Wrote, WroteAt}
 use Rattle.text.proofs.Wrote.{wrote-front, wrote-fits, wrote-counts}
-use Rattle.record.specs.Records.{bad_of}
-use Rattle.record.specs.declared.tests.Bad.{Bad}
-use Rattle.record.specs.declared.tests.Bad.TheVariants.{At, Nowhere}
 use Rattle.record.proofs.SoundTable.{Sound}
 use Rattle.rules.specs.Pipeline.Write.{operator_words, writing, table_writing, written_unless18, write}
 use Rattle.laws_lists.specs.Tests.{and_left, never}
@@ -138,17 +134,17 @@ module _ {text own : Bytes} {n : ℕ} {last : Bytes} (w : WroteAt text own 0 n l
   pub own-counts : n ≡ length (take n last)
   own-counts = wrote-counts w.wrote
 
-  pub own-lent : {reply : Reply Bytes} {out : Bytes} {r : Written} {out' : Bytes} → reply ≡ answers text → Lends (answers (take n last)) out r out' → Lends reply out r out'
+  pub own-lent : {reply : Reply Bytes} {out : Bytes} {r : Result ℕ Refusal} {out' : Bytes} → reply ≡ answers text → Lends (answers (take n last)) out r out' → Lends reply out r out'
   own-lent e p = let f : take n last ≡ text = wrote-front w.wrote in rw e (rw f at p)
 
 -- one record
 module _ (s : Step) where
   -- in its own reading, behind no other
-  bad-one : (b : Bool) → good_in s.reading 0 s ≡ b → first_bad (table_reading (s ∷ [])) 0 1 (s ∷ []) ≡ cond b none (some 1)
+  bad-one : (b : Bool) → good_in s.reading 0 s ≡ b → first_bad (table_reading (s ∷ [])) 0 1 (s ∷ []) ≡ cond b None (Some 1)
   unfolding first_bad table_reading
   bad-one b e = rw e refl
 
-  pub one-bad : {out : Bytes} → good_in s.reading 0 s ≡ false → Lends (write (s ∷ [])) out (variant.Refused 18 1) out
+  pub one-bad : {out : Bytes} → good_in s.reading 0 s ≡ false → Lends (write (s ∷ [])) out (refusal 18 1) out
   unfolding write written_unless18 refusal18
   one-bad h = lends-refusal (rw (bad-one false h))
 
@@ -161,27 +157,14 @@ module _ (s : Step) where
   good-made h = and_left (made s) _ h
 
 -- a table
-bad-at : (o : Option ℕ) {k : ℕ} → bad_of o ≡ At k → o ≡ some k
-unfolding bad_of
-bad-at none e = absurd (never (cc e))
-bad-at (some j) e = cc e
-
-bad-none : (o : Option ℕ) → bad_of o ≡ Nowhere → o ≡ none
-unfolding bad_of
-bad-none none e = refl
-bad-none (some j) e = absurd (never (cc e))
-
-pub table-bad : (l : List Step) {b : Bad} {k : ℕ} {out : Bytes} → b ≡ bad_of (refusal18 l) → b ≡ At k → Lends (write l) out (variant.Refused 18 k) out
+pub table-bad : (l : List Step) {b : Option ℕ} {k : ℕ} {out : Bytes} → b ≡ refusal18 l → b ≡ Some k → Lends (write l) out (refusal 18 k) out
 unfolding write written_unless18
-table-bad l e f = lends-refusal (rw (bad-at (refusal18 l) (sym e ∙ f)))
+table-bad l e f = lends-refusal (rw (sym e ∙ f))
 
-pub nowhere-bad : (l : List Step) {b : Bad} → b ≡ bad_of (refusal18 l) → b ≡ Nowhere → refusal18 l ≡ none
-nowhere-bad l e f = bad-none (refusal18 l) (sym e ∙ f)
-
-pub table-good : (l : List Step) → refusal18 l ≡ none → write l ≡ answers (table_writing l)
+pub table-good : (l : List Step) → refusal18 l ≡ None → write l ≡ answers (table_writing l)
 unfolding write written_unless18
 table-good l h = rw h
 
 -- it has room in 4,096 bytes
-pub table_fits : (l : List Step) (dst : Bytes) → refusal18 l ≡ none → length dst ≡ 4096 → Room (table_writing l) 0 dst
+pub table_fits : (l : List Step) (dst : Bytes) → refusal18 l ≡ None → length dst ≡ 4096 → Room (table_writing l) 0 dst
 table_fits l dst h e = let k = (not-18 l).0 h in record { fits = omega (arith, table-short l k.0 k.1) }

@@ -3,8 +3,7 @@
 
 mod words;
 
-ghost use Rattle.std.specs.Prelude.{◌≡◌, true, [], ◌∷◌, ltb};
-ghost use Rattle.std.proofs.Math.Option.{none};
+ghost use Rattle.std.specs.Prelude.{◌≡◌, true, [], ◌∷◌, ltb, None};
 ghost use Rattle.rules.specs.Text.Refusal.{Lends};
 ghost use Rattle.rules.specs.Pipeline.Record.{made, refusal18, listed};
 ghost use Rattle.text.specs.Wrote.{WroteAt};
@@ -12,8 +11,8 @@ ghost use Rattle.rules.specs.Pipeline.Write.{writing, table_writing, write};
 ghost use Rattle.numbers.specs.Parts.{Room};
 ghost use Rattle.write.specs.Parts.{parted};
 
-use record::{Bad, good_in, refusal18};
-use rules::{Step, Table, Written};
+use record::{good_in, refusal18};
+use rules::{Refusal, Step, Table};
 use text::{hand_out, put};
 use words::step;
 
@@ -32,31 +31,28 @@ fn parted(i: usize, s: Step, out: &mut [u8], o: usize) -> usize
 
 // The texts of a table's records with ` | ` between.
 fn steps(table: Table, out: &mut [u8], o: usize) -> usize
-    requires table_value { refusal18 (listed table) ≡ none }
+    requires table_value { refusal18 (listed table) ≡ None }
     requires room { Room (table_writing (listed table)) o out.old }
     ensures { WroteAt (table_writing (listed table)) out.old o result out.new }
 {
-    let n = table.n;
     let mut e = o;
-    let mut i = 0;
-    while i < n {
-        let s = table.steps[i];
-        e = parted(i, s, out, e);
-        i += 1;
+    for i in 0..table.n {
+        e = parted(i, table.steps[i], out, e);
     }
     e
 }
 
 // Writes the text of a record to the front of out: 18 at 1 for a record that no preparation makes or whose span is empty or too far, then
 // 7 for a buffer that is too short; and then out is as it was.
-pub fn write_step(s: Step, out: &mut [u8]) -> Written
+pub fn write_step(s: Step, out: &mut [u8]) -> Result<usize, Refusal>
     ensures { Lends (write (s ∷ [])) out.old result out.new }
 {
     if !good_in(s, s.reading, 0) {
-        return Written::Refused {
+        return Err(Refusal {
             number: 18,
             place: 1,
-        };
+            offset: 0,
+        });
     }
     let mut a = [0u8; 64];
     let n = step(s, &mut a, 0);
@@ -64,22 +60,22 @@ pub fn write_step(s: Step, out: &mut [u8]) -> Written
 }
 
 // Writes the texts of a table's records, with ` | ` between, to the front of out: 18, then 7; and then out is as it was.
-pub fn write(table: Table, out: &mut [u8]) -> Written
+pub fn write(table: Table, out: &mut [u8]) -> Result<usize, Refusal>
     ensures { Lends (write (listed table)) out.old result out.new }
 {
-    let bad = refusal18(table);
-    match bad {
-        Bad::At(place) => Written::Refused {
+    if let Some(place) = refusal18(table) {
+        return Err(Refusal {
             number: 18,
-            place: place,
-        },
-        Bad::Nowhere => written(table, out),
+            place,
+            offset: 0,
+        });
     }
+    written(table, out)
 }
 
 // The same for a table that is not refused 18.
-fn written(table: Table, out: &mut [u8]) -> Written
-    requires { refusal18 (listed table) ≡ none }
+fn written(table: Table, out: &mut [u8]) -> Result<usize, Refusal>
+    requires { refusal18 (listed table) ≡ None }
     ensures { Lends (write (listed table)) out.old result out.new }
 {
     let mut a = [0u8; 4096];

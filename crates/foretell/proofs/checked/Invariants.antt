@@ -1,7 +1,6 @@
 -- `checked`: the steps so far, k of them, have come to what the rules say, and none of them was at fault (`Checking`). A step that is
 -- omitted adds nothing; one that finds too few columns or leaves too many is the first at fault, so its verdict and span are the whole one's; any
--- other is taken on places. What is left of n is the measure.
-use Prim.Native.Nat.{◌-◌}
+-- other is taken on places.
 use lib.ListN.{take}
 use Rattle.foretell.specs.Steps.{sofar}
 use Rattle.foretell.proofs.CheckSoFar.{Checking}
@@ -9,6 +8,3 @@ use Rattle.foretell.proofs.checked.Given as goal
 
 abbrev pub invariant-loop-k : goal.invariant-loop-k
 invariant-loop-k l = Checking l.direction (take l.n l.table.steps) l.k (sofar l.t l.run l.depths l.deepest l.adapts)
-
-abbrev pub decreases-loop-k : goal.decreases-loop-k
-decreases-loop-k l = l.n - l.k

@@ -1,11 +1,10 @@
 -- `adapt`, in either mode: two words make arguments that keep its rule, and the two words of a record are read as its arguments. (Its
 -- factors are the Rust's: Adapt/Factors. What the documented mode ties to an axis: Adapt/ByAxis.)
-use Rattle.std.specs.Prelude.{◌≡◌, ◌+◌, ◌≤◌, true, not, List, [], ◌∷◌, map, ℤ}
+use Rattle.std.specs.Prelude.{◌≡◌, ◌+◌, ◌≤◌, true, not, List, [], ◌∷◌, map, ℤ, Option, None, Some}
 use Rattle.std.proofs.Math.Path.{refl, ap}
 use Rattle.std.proofs.Common.{sym, ◌∙◌, arith, length-append, lit≤}
 use Prim.Native.String.{String}
 use Rattle.std.proofs.lemmas.Bool.{false≢true}
-use Rattle.std.proofs.Math.Option.{Option, none, some}
 use Rattle.std.proofs.Math.ListN.{length}
 use Rattle.rules.specs.Text.Ascii.{ascii, is}
 use Rattle.rules.specs.Text.Lists.{any_of, all_of, is_none}
@@ -68,9 +67,9 @@ unfolding choose
 adapt-keeps mode ps short c h = go (between (combined_in mode) (word_given (value_of (ascii "from") ps)) (word_given (value_of (ascii "to") ps))) refl h
   where
     go : (r : Option (List ℤ)) → between (combined_in mode) (word_given (value_of (ascii "from") ps)) (word_given (value_of (ascii "to") ps)) ≡ r
-        → choose (adapt_in mode) r ≡ some c → Well mode c
-    go none e h = absurd (never (cc h))
-    go (some l) e h =
+        → choose (adapt_in mode) r ≡ Some c → Well mode c
+    go None e h = absurd (never (cc h))
+    go (Some l) e h =
         let z : record { operator = adapt_in mode; arguments = l } ≡ c = cc h in
         let k = between-kept (adapt_in mode) (combined_in mode) (in_kept mode) (value_of (ascii "from") ps) (value_of (ascii "to") ps) l e in
         rw (← z) (record { kept = k; of-mode = own-mode mode })
@@ -120,8 +119,8 @@ module _ (mode : Mode) (s : Step) (m : IsMade s) (p : Spelt mode (args s)) where
   adapt-judged e =
       table-judged mode (ascii "adapt") own (marks_of s) (marks-bare s) name-is.Adapt s refl refl refl
       (rw (looked (ascii "adapt") own (marks_of s) (marks-bare s) (ascii "from"), looked (ascii "adapt") own (marks_of s) (marks-bare s) (ascii "to"), p.again)
-      (ap (λ (o : Operator). some (record_of o adapt_table (args s))) (sym e)
-      ∙ ap some (record-again s (ascii "adapt") own (record { no-inv = refl; no-fwd = refl; no-back = refl }) m)))
+      (ap (λ (o : Operator). Some (record_of o adapt_table (args s))) (sym e)
+      ∙ ap Some (record-again s (ascii "adapt") own (record { no-inv = refl; no-fwd = refl; no-back = refl }) m)))
 
   adapt-own : map parameter (arg_words (adapt_in mode) (args s)) ≡ own
   adapt-own =

@@ -1,10 +1,9 @@
 -- `axisswap`: its order, given or not, keeps its rule; the order's text is read as the order; and turning signs is multiplying by 1 and -1, as
 -- the Rust has it.
-use Rattle.std.specs.Prelude.{◌≡◌, ℕ, suc, ◌≤◌, Bool, cond, ◌&&◌, T, eqb, ℤ, pos, nat_abs, Float}
+use Rattle.std.specs.Prelude.{◌≡◌, ℕ, suc, ◌≤◌, Bool, cond, ◌&&◌, T, eqb, ℤ, pos, nat_abs, Float, Option, None, Some}
 use Rattle.std.proofs.Math.Path.{refl, ap}
 use Rattle.std.proofs.Common.{sym, ◌∙◌, arith, leb-true, le-leb}
 use Rattle.std.proofs.Math.Bool.{true, false}
-use Rattle.std.proofs.Math.Option.{Option, none, some}
 use mathlib.Core.List.{List, [], ◌∷◌}
 use Rattle.std.proofs.Math.ListN.{length}
 use Rattle.std.proofs.Math.Dec.{leb, lit≤}
@@ -50,18 +49,18 @@ default-kept : Kept Axisswap (pos 1 ∷ pos 2 ∷ pos 3 ∷ pos 4 ∷ [])
 unfolding is_args is_order is_distinct nine_digits all_of any_of
 default-kept = record { fit = lit≤ tt; nines = refl; rule = refl }
 
-order-kept : (ps : List Parameter) → Short name-is.Axisswap ps → (o : Option Bytes) → value_of (ascii "order") ps ≡ o → (l : List ℤ) → order o ≡ some l → Kept Axisswap l
+order-kept : (ps : List Parameter) → Short name-is.Axisswap ps → (o : Option Bytes) → value_of (ascii "order") ps ≡ o → (l : List ℤ) → order o ≡ Some l → Kept Axisswap l
 unfolding order is_args kind_of kind_in every_key own_keys flag numbered worded same ascii
-order-kept ps short none e l h = let same : pos 1 ∷ pos 2 ∷ pos 3 ∷ pos 4 ∷ [] ≡ l = cc h in rw (← same) default-kept
-order-kept ps short (some v) e l h = wholes-kept name-is.Axisswap ps short Axisswap (ascii "order") v refl e l h
+order-kept ps short None e l h = let same : pos 1 ∷ pos 2 ∷ pos 3 ∷ pos 4 ∷ [] ≡ l = cc h in rw (← same) default-kept
+order-kept ps short (Some v) e l h = wholes-kept name-is.Axisswap ps short Axisswap (ascii "order") v refl e l h
 
 pub axisswap-keeps : KeepsRule name-is.Axisswap
 unfolding choose is_of_mode number_of adapt_in other_mode
 axisswap-keeps mode ps short c h = go (order (value_of (ascii "order") ps)) refl h
   where
-    go : (r : Option (List ℤ)) → order (value_of (ascii "order") ps) ≡ r → choose Axisswap r ≡ some c → Well mode c
-    go none e h = absurd (never (cc h))
-    go (some l) e h =
+    go : (r : Option (List ℤ)) → order (value_of (ascii "order") ps) ≡ r → choose Axisswap r ≡ Some c → Well mode c
+    go None e h = absurd (never (cc h))
+    go (Some l) e h =
         let z : record { operator = Axisswap; arguments = l } ≡ c = cc h in
         rw (← z) (record { kept = order-kept ps short (value_of (ascii "order") ps) refl l e; of-mode = both-modes Axisswap refl refl mode })
 
@@ -102,9 +101,9 @@ module _ (s : Step) (m : IsMade s) where
       table-judged mode (ascii "axisswap") (keyed "order" v ∷ []) (marks_of s) (marks-bare s) name-is.Axisswap s refl
       (rw (list_read "order" x l nines fit)) refl
       (rw (looked (ascii "axisswap") (keyed "order" v ∷ []) (marks_of s) (marks-bare s) (ascii "order"), listing-wholes x l nines is_order r)
-      (ap (λ (a : List ℤ). some (record_of Axisswap (order_table v) a)) (sym z)
-      ∙ ap (λ (o : Operator). some (record_of o (order_table v) (args s))) (sym e)
-      ∙ ap some (record-again s (ascii "axisswap") (keyed "order" v ∷ []) (record { no-inv = refl; no-fwd = refl; no-back = refl }) m)))
+      (ap (λ (a : List ℤ). Some (record_of Axisswap (order_table v) a)) (sym z)
+      ∙ ap (λ (o : Operator). Some (record_of o (order_table v) (args s))) (sym e)
+      ∙ ap Some (record-again s (ascii "axisswap") (keyed "order" v ∷ []) (record { no-inv = refl; no-fwd = refl; no-back = refl }) m)))
 
   order-again : (mode : Mode) → operator s ≡ Axisswap → words_judged mode s (name_word Axisswap) (arg_words Axisswap (args s)) ≡ answers s
   unfolding is_args name_word arg_words

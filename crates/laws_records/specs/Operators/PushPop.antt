@@ -1,12 +1,11 @@
 -- `push` and `pop`: whichever flags are given, their axes are places that rise; and places that rise are a choice of the four axes, whose flags
 -- are read as that choice.
-use Rattle.std.specs.Prelude.{◌≡◌, ℕ, suc, ◌+◌, ◌*◌, ◌≤◌, ◌<◌, Bool, not, ◌&&◌, length, leb, ltb, eqb, ℤ, pos, negsuc}
+use Rattle.std.specs.Prelude.{◌≡◌, ℕ, suc, ◌+◌, ◌*◌, ◌≤◌, ◌<◌, Bool, not, ◌&&◌, length, leb, ltb, eqb, ℤ, pos, negsuc, Option, None, Some}
 use Rattle.std.proofs.Math.Path.{refl, sym, ap}
 use Rattle.std.proofs.Common.{◌∙◌, arith, leb-true, ltb-true, lt-ltb, eqb-true}
 use Prim.Native.String.{String}
 use Rattle.std.proofs.Math.Bool.{true, false, cond}
 use Rattle.std.proofs.lemmas.Bool.{false≢true, eqb-false}
-use Rattle.std.proofs.Math.Option.{Option, none, some}
 use mathlib.Core.List.{List, [], ◌∷◌, ◌++◌, map}
 use Rattle.std.proofs.lemmas.List.{length-map}
 use Rattle.std.proofs.Math.Dec.{lit≤}
@@ -31,7 +30,6 @@ use Rattle.rules.specs.declared.Mode.{Mode}
 use Rattle.rules.specs.declared.Step.{Step}
 use Rattle.rules.specs.declared.Name.{Name}
 use Rattle.rules.specs.declared.Name.TheVariants as name-is
-use Rattle.rules.specs.declared.Named.TheVariants.{Is}
 use Rattle.laws_lists.specs.Tests.{and_left, and_right, below, below_at, both, both_at}
 use Rattle.laws_records.specs.Calm.{known, firm, middle, follows, quiet, end_of, calm, both as and_both}
 use Rattle.laws_records.specs.Settled.{lacks}
@@ -121,11 +119,11 @@ rising-end : (l : List ℤ) → is_rising 4 l ≡ true → l ≡ []
 unfolding is_rising is_place
 rising-end [] h = refl
 rising-end (x ∷ l) h =
-    absurd (none (leb-true (size x) 4 (and_right (leb 1 (size x)) _ (and_right (not (minus x)) _ (and_left (is_place x) _ h))))
+    absurd (None (leb-true (size x) 4 (and_right (leb 1 (size x)) _ (and_right (not (minus x)) _ (and_left (is_place x) _ h))))
     (ltb-true 4 (size x) (and_left (ltb 4 (size x)) _ (and_right (is_place x) _ h))))
   where
-    none : size x ≤ 4 → 4 < size x → ⊥
-    none a b = omega arith
+    None : size x ≤ 4 → 4 < size x → ⊥
+    None a b = omega arith
 
 unfoldable axes_on : Bool → Bool → Bool → Bool → List ℤ
 axes_on a b c d = before a (pos 1) (before b (pos 2) (before c (pos 3) (before d (pos 4) [])))
@@ -194,16 +192,16 @@ module _ (s : Step) (m : IsMade s) (ch : Choice (args s)) where
 
   unmarked : Unmarked own
   unfolding picked axis_flags axis_flag same ascii
-  unmarked = record { no-inv = given-own (ascii "inv") none; no-fwd = given-own (ascii "omit_fwd") none; no-back = given-own (ascii "omit_inv") none }
+  unmarked = record { no-inv = given-own (ascii "inv") None; no-fwd = given-own (ascii "omit_fwd") None; no-back = given-own (ascii "omit_inv") None }
 
-  looks : (w : Bytes) (k : Bytes) → look w own (marks_of s) k ≡ picked k (marks_of s) (picked k flags (cond (same k (ascii "_name")) (some w) none))
+  looks : (w : Bytes) (k : Bytes) → look w own (marks_of s) k ≡ picked k (marks_of s) (picked k flags (cond (same k (ascii "_name")) (Some w) None))
   unfolding look
-  looks w k = ap (picked k (marks_of s)) (given-own k (cond (same k (ascii "_name")) (some w) none))
+  looks w k = ap (picked k (marks_of s)) (given-own k (cond (same k (ascii "_name")) (Some w) None))
 
-  look-name : (w : Bytes) → look w own (marks_of s) (ascii "_name") ≡ some w
+  look-name : (w : Bytes) → look w own (marks_of s) (ascii "_name") ≡ Some w
   look-name w = looks w (ascii "_name") ∙ unfold picked marks_of axis_flags axis_flag same ascii in refl
 
-  is-flag : (w : Bytes) (key : String) (b : Bool) → look w own (marks_of s) (ascii key) ≡ cond b (some (ascii "true")) none → is_given key (table_from w own (marks_of s)) ≡ b
+  is-flag : (w : Bytes) (key : String) (b : Bool) → look w own (marks_of s) (ascii key) ≡ cond b (Some (ascii "true")) None → is_given key (table_from w own (marks_of s)) ≡ b
   unfolding is_given
   is-flag w key b h = rw (looked w own (marks_of s) (marks-bare s) (ascii key), h) (given_back b (ascii "true"))
 
@@ -227,8 +225,8 @@ module _ (s : Step) (m : IsMade s) (ch : Choice (args s)) where
       )
       (all-axes ch.a ch.b ch.c ch.d ∙ sym ch.are)
 
-  axes-judged : (mode : Mode) (n : Name) (o : Operator) (w : Bytes) → name_of w ≡ Is n → faulty n (name w) ≡ false → any_of (λ (f : Flag). faulty n (bare f.word)) flags ≡ false
-      → any_of (λ (f : Flag). faulty n (bare f.word)) (marks_of s) ≡ false → ((ps : List Parameter) → own_rule mode n ps ≡ some (record_of o ps (axes ps)))
+  axes-judged : (mode : Mode) (n : Name) (o : Operator) (w : Bytes) → name_of w ≡ Some n → faulty n (name w) ≡ false → any_of (λ (f : Flag). faulty n (bare f.word)) flags ≡ false
+      → any_of (λ (f : Flag). faulty n (bare f.word)) (marks_of s) ≡ false → ((ps : List Parameter) → own_rule mode n ps ≡ Some (record_of o ps (axes ps)))
       → operator s ≡ o → judged mode (table_from w own (marks_of s)) ≡ answers s
   unfolding named
   axes-judged mode n o w i f g k r e =
@@ -236,7 +234,7 @@ module _ (s : Step) (m : IsMade s) (ch : Choice (args s)) where
       (rw (look-name w) i)
       (unfold any_of in rw f (any-chosen (faulty n) flags (axis-bare ch.a ch.b ch.c ch.d) g))
       k
-      (rw (r (table_from w own (marks_of s)), axes-again w, ← e) (ap some (record-again s w own unmarked m)))
+      (rw (r (table_from w own (marks_of s)), axes-again w, ← e) (ap Some (record-again s w own unmarked m)))
 
   -- its own words are the flags of its axes
   flags-own : map parameter (map flag_of (args s)) ≡ own

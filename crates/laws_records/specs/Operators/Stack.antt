@@ -1,10 +1,9 @@
 -- `stack`: each action that is given chooses arguments that keep its rule; and an action with its numbers is read as that action alone.
-use Rattle.std.specs.Prelude.{◌≡◌, true, false, not, ◌||◌, length, leb, eqb, ltb, ℤ}
+use Rattle.std.specs.Prelude.{◌≡◌, true, false, not, ◌||◌, length, leb, eqb, ltb, ℤ, Option, None, Some}
 use Rattle.std.proofs.Math.Path.{refl}
 use Rattle.std.proofs.Common.{ap}
 use Prim.Native.Nat.{ℕ, suc, ◌+◌, ◌≤◌}
 use Prim.Native.String.{String}
-use Rattle.std.proofs.Math.Option.{Option, none, some}
 use mathlib.Core.List.{List, [], ◌∷◌, map}
 use native.Mathlib.Omega.{arith}
 use borrow.Author.Tests.{eqb-true}
@@ -29,7 +28,6 @@ use Rattle.rules.specs.Pipeline.Write.{name_word, arg_words}
 use Rattle.rules.specs.declared.Mode.{Mode}
 use Rattle.rules.specs.declared.Step.{Step}
 use Rattle.rules.specs.declared.Name.TheVariants.{Stack}
-use Rattle.rules.specs.declared.Named.TheVariants.{Is}
 use Rattle.laws_lists.specs.Lists.{Every}
 use Rattle.laws_lists.specs.Tests.{and_left, and_right, never}
 use Rattle.laws_records.specs.Calm.{known, firm, middle, follows, quiet, end_of, calm}
@@ -46,7 +44,7 @@ use Rattle.laws_records.specs.Owed.{KeepsRule, both-modes, Well, Short, wholes-k
 
 -- a choice, if it is one, is of a mode that makes its operator, and keeps the operator's rule
 abbrev IfKept : Mode → Option Chosen → Type 0
-IfKept mode r = (c : Chosen) → r ≡ some c → Well mode c
+IfKept mode r = (c : Chosen) → r ≡ Some c → Well mode c
 
 module _ (mode : Mode) where
   one_kept : (l : List (Option Chosen)) → Every (IfKept mode) l → IfKept mode (exactly_one l)
@@ -55,18 +53,18 @@ module _ (mode : Mode) where
   one_kept (x ∷ []) a c h = a.0 c h
   one_kept (x ∷ y ∷ l) a c h = absurd (never (cc h))
 
-  choose-kept : (o : Operator) (r : Option (List ℤ)) → is_of_mode mode o ≡ true → ((l : List ℤ) → r ≡ some l → Kept o l) → IfKept mode (choose o r)
+  choose-kept : (o : Operator) (r : Option (List ℤ)) → is_of_mode mode o ≡ true → ((l : List ℤ) → r ≡ Some l → Kept o l) → IfKept mode (choose o r)
   unfolding choose
-  choose-kept o none f k c h = absurd (never (cc h))
-  choose-kept o (some l) f k c h = let e : record { operator = o; arguments = l } ≡ c = cc h in rw (← e) (record { kept = k l refl; of-mode = f })
+  choose-kept o None f k c h = absurd (never (cc h))
+  choose-kept o (Some l) f k c h = let e : record { operator = o; arguments = l } ≡ c = cc h in rw (← e) (record { kept = k l refl; of-mode = f })
 
   action-kept : (a : Action) (v : Option Bytes) (l : List (Option Chosen)) → is_of_mode mode a.operator ≡ true
-      → ((w : Bytes) → v ≡ some w → (m : List ℤ) → a.arguments w ≡ some m → Kept a.operator m) → Every (IfKept mode) l → Every (IfKept mode) (action_then a v l)
+      → ((w : Bytes) → v ≡ Some w → (m : List ℤ) → a.arguments w ≡ Some m → Kept a.operator m) → Every (IfKept mode) l → Every (IfKept mode) (action_then a v l)
   unfolding Every action_then
-  action-kept a none l f h r = r
-  action-kept a (some v) l f h r = (choose-kept a.operator (a.arguments v) f (h v refl), r)
+  action-kept a None l f h r = r
+  action-kept a (Some v) l f h r = (choose-kept a.operator (a.arguments v) f (h v refl), r)
 
-nothing-kept : (o : Operator) → is_args o [] ≡ true → (l : List ℤ) → some [] ≡ some l → Kept o l
+nothing-kept : (o : Operator) → is_args o [] ≡ true → (l : List ℤ) → Some [] ≡ Some l → Kept o l
 unfolding all_of
 nothing-kept o r l h = let e : [] ≡ l = cc h in rw (← e) (record { fit = lit≤ tt; nines = refl; rule = r })
 
@@ -108,24 +106,24 @@ module _ (s : Step) (m : IsMade s) where
   stack-given : (key : String) (v : Bytes) → actions_given (stack_table key v) actions ≡ actions_by (looks key v) actions
   stack-given key v = actions-by _ (stack_table key v) (looked (ascii "stack") (keyed key v ∷ []) (marks_of s) (marks-bare s)) actions
 
-  stack-judged : (mode : Mode) (key : String) (v : Bytes) (o : Operator) → Unmarked (keyed key v ∷ []) → named (looks key v (ascii "_name")) ≡ Is Stack → faulty Stack (keyed key v) ≡ false
-      → exactly_one (actions_by (looks key v) actions) ≡ choose o (some (args s)) → operator s ≡ o → judged mode (stack_table key v) ≡ answers s
+  stack-judged : (mode : Mode) (key : String) (v : Bytes) (o : Operator) → Unmarked (keyed key v ∷ []) → named (looks key v (ascii "_name")) ≡ Some Stack → faulty Stack (keyed key v) ≡ false
+      → exactly_one (actions_by (looks key v) actions) ≡ choose o (Some (args s)) → operator s ≡ o → judged mode (stack_table key v) ≡ answers s
   unfolding own_rule any_of recorded choose
   stack-judged mode key v o u n f g e =
       table-judged mode (ascii "stack") (keyed key v ∷ []) (marks_of s) (marks-bare s) Stack s n
       (rw f (unfold faulty unknown is_lacking misspelt too_long kind_of kind_in every_key own_keys action_keys flag numbered worded name same ascii is_none in refl))
       (unfold faulty unknown is_lacking misspelt too_long kind_of kind_in every_key own_keys action_keys flag numbered worded bare marks_of same ascii is_none in refl)
-      (rw (stack-given key v, g, ← e) (ap some (record-again s (ascii "stack") (keyed key v ∷ []) u m)))
+      (rw (stack-given key v, g, ← e) (ap Some (record-again s (ascii "stack") (keyed key v ∷ []) u m)))
 
   -- ---- an action without numbers
 
   no-args : (l : List ℤ) → is_nothing l ≡ true → l ≡ []
   unfolding is_nothing
   no-args [] h = refl
-  no-args (x ∷ l) h = absurd (none (length l) (eqb-true (suc (length l)) 0 h))
+  no-args (x ∷ l) h = absurd (None (length l) (eqb-true (suc (length l)) 0 h))
     where
-      none : (n : ℕ) → suc n ≡ 0 → ⊥
-      none n e = omega arith
+      None : (n : ℕ) → suc n ≡ 0 → ⊥
+      None n e = omega arith
 
   swap-again : (mode : Mode) → operator s ≡ StackSwap → words_judged mode s (name_word StackSwap) (arg_words StackSwap (args s)) ≡ answers s
   unfolding is_args name_word arg_words keyed latest look picked marks_of named name_of faulty unknown is_lacking misspelt too_long kind_of kind_in every_key
@@ -146,7 +144,7 @@ module _ (s : Step) (m : IsMade s) where
   -- the key is the action's, and of the action's operator: each is computed
   record ListAction (key : String) (o : Operator) : Type 0 where
     unmarked : (v : Bytes) → Unmarked (keyed key v ∷ [])
-    is-stack : (v : Bytes) → named (looks key v (ascii "_name")) ≡ Is Stack
+    is-stack : (v : Bytes) → named (looks key v (ascii "_name")) ≡ Some Stack
     is-series : (v : Bytes) → (is_none (series v) || ltb 8 (length (pieces v))) ≡ false → faulty Stack (keyed key v) ≡ false
     chooses : (v : Bytes) → exactly_one (actions_by (looks key v) actions) ≡ choose o (wholes (is_args o) (series v))
     bare-key : lacks (is "=") (ascii key) ≡ true
@@ -166,7 +164,7 @@ module _ (s : Step) (m : IsMade s) where
           let nines : all_of nine_digits (x ∷ l) ≡ true = rw z at m.keeps.nines in
           let fit : length (x ∷ l) ≤ 8 = rw z at m.keeps.fit in
           let v = listing (x ∷ l) in
-          let g : exactly_one (actions_by (looks key v) actions) ≡ choose o (some (args s)) = rw (a.chooses v, listing-wholes x l nines (is_args o) (rw z at rule), z) in
+          let g : exactly_one (actions_by (looks key v) actions) ≡ choose o (Some (args s)) = rw (a.chooses v, listing-wholes x l nines (is_args o) (rw z at rule), z) in
           rw (z, a.as-stack, a.as-word (x ∷ l))
           (by-list key x l nines mode s (ascii "stack") a.bare-key (stack-judged mode key v o (a.unmarked v) (a.is-stack v) (a.is-series v (list_read key x l nines fit)) g e))
 

@@ -1,18 +1,18 @@
 -- `name_out`: a table with the one part whose key is `_name` and whose value is the whole text is what a text with a separator gives; its
 -- lines are handed out.
-use mathlib.Core.Path.{refl}
-use lib.ListN.{replicate}
-use Rattle.parameters.proofs.Rows.{empty-row}
-use Rattle.parameters.proofs.Tabled.{empty-good}
-use Rattle.parameters.proofs.Replies.{whole-within, name-good, name-so}
+use mathlib.Core.Path.{◌≡◌, ap, ◌∙◌}
+use Rattle.parameters.specs.declared.table.Source.{Source}
+use Rattle.parameters.specs.Parts.{held}
+use Rattle.parameters.specs.Tables.{table_in}
+use Rattle.parameters.proofs.Replies.{whole-within, name-so}
 use Rattle.parameters.proofs.name_out.Goals as goal
 
-pub enter-e-requires : goal.enter-e-requires
-enter-e-requires c = record { good = empty-good _ (empty-row (replicate 128 0) refl); within = whole-within c.requires.spelt }
-
-pub lines_out-requires : goal.lines_out-requires
-lines_out-requires c = record { good = name-good c.requires.spelt (empty-row (replicate 128 0) refl) c.enter-e.ensures; s_len_bound = c.requires.s_len_bound }
+pub enter-requires : goal.enter-requires
+enter-requires c = rw c.new-table.ensures.from (whole-within c.args.source.spelt)
 
 pub returns : goal.returns
 returns c =
-    name-so c.requires.spelt (empty-row (replicate 128 0) refl) c.enter-e.ensures c.lines_out.ensures
+    let here : c.new-table.result.source.s.now ≡ c.args.source.s.now = ap (λ (x : Source). x.s.now) c.new-table.ensures.from in
+    let then : c.enter.new.self.source.s.now ≡ c.args.source.s.now = ap (λ (x : Source). x.s.now) c.enter.ensures.from ∙ here in
+    name-so c.args.source.spelt (held (table_in c.new-table.result)) (held (table_in c.enter.new.self)) c.enter.result c.new-table.ensures.none
+    (rw here at c.enter.ensures.entered) (rw here at c.enter.ensures.full) (rw then at c.lines_out.ensures)

@@ -5,12 +5,12 @@ use Rattle.parameters.proofs.Replies.{text-name, text-step}
 use Rattle.parameters.proofs.text_out.Goals as goal
 
 pub slice_bounds-run_end-end : goal.slice_bounds-run_end-end
-slice_bounds-run_end-end c = spelt-front c.requires.spelt
+slice_bounds-run_end-end c = spelt-front c.args.source.spelt
 
 pub returns-then-e-n : goal.returns-then-e-n
 returns-then-e-n c =
-    text-name c.args.s.now c.args.n (spelt-fits c.requires.spelt) c.run_end-e.ensures c.if-e-n.true c.name_out.ensures
+    text-name c.args.source.s.now c.args.source.n (spelt-fits c.args.source.spelt) c.run_end-e.ensures c.if-e-n.true c.name_out.ensures
 
 pub returns : goal.returns
 returns c =
-    text-step c.args.s.now c.args.n (spelt-fits c.requires.spelt) c.run_end-e.ensures c.if-e-n.false c.step_out.ensures
+    text-step c.args.source.s.now c.args.source.n (spelt-fits c.args.source.spelt) c.run_end-e.ensures c.if-e-n.false c.step_out.ensures

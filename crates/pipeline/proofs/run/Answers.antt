@@ -59,10 +59,6 @@ bounds-steps-k c =
 pub run_step-stood-requires : goal.run_step-stood-requires
 run_step-stood-requires c = record { depth_bound = c.loop-i-2.invariant.2.within; s_value = table-made c.args.table (full (goal.at.run_step-stood-requires c).Start) c.loop-i-2.invariant.0 _ _ c.visited_of-k.ensures.1; tuples_in_bounds = no_room _ c.loop-i-2.no_tuples c.loop-i-2.no_columns c.loop-i-2.invariant.3; tuples_in_bounds_2 = no_room _ c.loop-i-2.no_tuples c.loop-i-2.no_columns c.loop-i-2.invariant.3 }
 
-pub overflow_add-result : goal.overflow_add-result
-overflow_add-result c =
-    omega (arith, c.if-n-gt64.false, c.visited_of-k.ensures.1)
-
 pub returns-then-depth-gt64 : goal.returns-then-depth-gt64
 returns-then-depth-gt64 c =
     past-18 c.args.direction (listed c.args.table) c.args.tuples.now c.args.columns.now _ _ _ c.loop-i-2.invariant.0
@@ -71,18 +67,12 @@ returns-then-depth-gt64 c =
     (table-over c.args.table (full (goal.at.returns-then-depth-gt64 c).Start) c.loop-i-2.invariant.0 c.args.direction c.loop-i-2.depth c.loop-i-2.deepest c.loop-i-2.i _ _ c.loop-i-2.invariant.2 c.loop-i-2-test.true c.visited_of-k.ensures.0 c.visited_of-k.ensures.1 _ c.run_step-stood.ensures.deep
     c.if-depth-gt64.true)))
 
-pub overflow_add-i-in-loop-i-2 : goal.overflow_add-i-in-loop-i-2
-overflow_add-i-in-loop-i-2 c = omega arith
-
-pub loop-i-2-smaller : goal.loop-i-2-smaller
-loop-i-2-smaller c = omega arith
-
 pub loop-i-2-preserved : goal.loop-i-2-preserved
 loop-i-2-preserved c = (
   c.loop-i-2.invariant.0,
   c.loop-i-2.invariant.1,
   table-turn c.args.table (full (goal.at.loop-i-2-preserved c).Start) c.loop-i-2.invariant.0 c.args.direction c.loop-i-2.depth c.loop-i-2.deepest c.loop-i-2.i _ _ c.loop-i-2.invariant.2 c.loop-i-2-test.true c.visited_of-k.ensures.0 c.visited_of-k.ensures.1 _ c.run_step-stood.ensures.deep _
-      c.if-depth-gt64.false c.max_of-deepest.ensures,
+      c.if-depth-gt64.false (search rules),
   c.run_step-stood.auto.tuples ∙ c.loop-i-2.invariant.3,
   c.run_step-stood.auto.columns ∙ c.loop-i-2.invariant.4,
 )
@@ -125,12 +115,6 @@ run_step-stood-requires-in-loop-i-3 c = record {
   tuples_in_bounds_2 = table-after c.args.table (full (goal.at.run_step-stood-requires-in-loop-i-3 c).Start) c.loop-i-3.invariant.0 c.args.direction c.loop-i-2.deepest c.args.tuples.now c.args.columns.now c.loop-i-3.tuples c.loop-i-3.columns c.loop-i-3.count c.loop-i-3.left c.loop-i-3.i _ _ c.loop-i-3.invariant.4
       c.loop-i-3-test.true c.visited_of-k-in-loop-i-3.ensures.0 c.visited_of-k-in-loop-i-3.ensures.1 c.if-columns-used.false;
 }
-
-pub overflow_add-i-in-loop-i-3 : goal.overflow_add-i-in-loop-i-3
-overflow_add-i-in-loop-i-3 c = omega arith
-
-pub loop-i-3-smaller : goal.loop-i-3-smaller
-loop-i-3-smaller c = omega arith
 
 pub loop-i-3-preserved : goal.loop-i-3-preserved
 loop-i-3-preserved c =

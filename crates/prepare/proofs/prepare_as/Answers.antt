@@ -6,13 +6,13 @@ use Rattle.prepare.proofs.prepare_as.Goals as goal
 
 pub named-requires : goal.named-requires
 named-requires c =
-    counts-records c.args.reading _ _ _ c.prepare_in-p.ensures c.in-Steps.is
+    counts-records c.args.reading _ _ _ c.prepare_in-p.ensures c.in-Ok.is
 
-pub returns-in-Steps : goal.returns-in-Steps
-returns-in-Steps c =
+pub returns-in-Ok : goal.returns-in-Ok
+returns-in-Ok c =
     answers-named c.args.reading _ _ _ c.prepare_in-p.ensures
-    c.in-Steps.is c.named.ensures
+    c.in-Ok.is c.named.ensures
 
-pub returns-in-Refused : goal.returns-in-Refused
-returns-in-Refused c =
-    c.refusing.ensures ∙ refuses-named c.args.reading _ _ _ c.prepare_in-p.ensures c.in-Refused.is
+pub returns-in-Err : goal.returns-in-Err
+returns-in-Err c =
+    refuses-named c.args.reading _ _ _ c.prepare_in-p.ensures c.in-Err.is

@@ -1,9 +1,8 @@
 use mathlib.Core.Path.{sym, ◌∙◌}
 use native.Mathlib.Omega.{arith}
-use lib.Seq.{length-take-le}
 use borrow.Author.Rules.{rules}
 use Rattle.laws_text.specs.Walk.{walk-ahead}
-use Rattle.prepare.proofs.StepByStep.{line-some, line-within}
+use Rattle.prepare.proofs.StepByStep.{line-some}
 use Rattle.prepare.proofs.StepByStep.{reaches-none, reaches_end, reaches-room, reaches-only, reaches-line, reaches-refused}
 use Rattle.prepare.proofs.StepByStep.{reaches-many, reaches-short, reaches-roomy, reaches_more}
 use Rattle.prepare.proofs.prepare_steps.Goals as goal
@@ -12,124 +11,80 @@ pub loop-from-init : goal.loop-from-init
 loop-from-init c =
     reaches-none _ _ _ _ _ _ c.requires.bare c.requires.steps_len c.requires.roomy c.requires.normal_in_bounds
 
-pub overflow_add-n : goal.overflow_add-n
-overflow_add-n c = omega (arith, c.loop-from.invariant.walked.few, c.loop-from.invariant.walked.within)
-
 pub slice_bounds-line_at-count : goal.slice_bounds-line_at-count
 slice_bounds-line_at-count c =
-    let h = walk-ahead _ _ _ _ _ (sym c.next_from-found.ensures ∙ c.in-Step.is) in
+    let h = walk-ahead _ _ _ _ _ (sym c.next_from-found.ensures ∙ c.in-Some.is) in
     omega (arith, h.longer)
 
 pub slice_bounds-line_at-start : goal.slice_bounds-line_at-start
 slice_bounds-line_at-start c =
-    let h = walk-ahead _ _ _ _ _ (sym c.next_from-found.ensures ∙ c.in-Step.is) in
+    let h = walk-ahead _ _ _ _ _ (sym c.next_from-found.ensures ∙ c.in-Some.is) in
     search (rules, h)
 
 pub slice_bounds-line_at-end : goal.slice_bounds-line_at-end
 slice_bounds-line_at-end c =
-    let h = walk-ahead _ _ _ _ _ (sym c.next_from-found.ensures ∙ c.in-Step.is) in
+    let h = walk-ahead _ _ _ _ _ (sym c.next_from-found.ensures ∙ c.in-Some.is) in
     search (rules, h)
 
 pub line_at-line-requires : goal.line_at-line-requires
 line_at-line-requires c =
-    reaches-room c.loop-from.invariant (sym c.next_from-found.ensures ∙ c.in-Step.is)
-
-pub shape_of-a-in_default-line : goal.shape_of-a-in_default-line
-shape_of-a-in_default-line c =
-    c.loop-from.invariant.room-a
-
-pub shape_of-b-in_default-line : goal.shape_of-b-in_default-line
-shape_of-b-in_default-line c =
-    c.loop-from.invariant.room-b
-
-pub shape_of-c-in_default-line : goal.shape_of-c-in_default-line
-shape_of-c-in_default-line c =
-    c.line_at-line.auto.dst ∙ c.loop-from.invariant.room-c
+    reaches-room c.loop-from.invariant (sym c.next_from-found.ensures ∙ c.in-Some.is)
 
 pub returns-in_default-line : goal.returns-in_default-line
 returns-in_default-line c =
-    reaches-only c.loop-from.invariant (sym c.next_from-found.ensures ∙ c.in-Step.is) _ _ c.line_at-line.ensures c.in_default-line.is c.refusing.ensures
+    reaches-only c.loop-from.invariant (sym c.next_from-found.ensures ∙ c.in-Some.is) _ _ c.line_at-line.ensures c.in_default-line.is c.refusing.ensures
 
 pub loop-from-smaller-then-number-ne0 : goal.loop-from-smaller-then-number-ne0
 loop-from-smaller-then-number-ne0 c =
-    let h = walk-ahead _ _ _ _ _ (sym c.next_from-found.ensures ∙ c.in-Step.is) in
+    let h = walk-ahead _ _ _ _ _ (sym c.next_from-found.ensures ∙ c.in-Some.is) in
     omega (arith, h.ahead, h.longer, h.within, h.goes_on)
 
 pub loop-from-preserved-then-number-ne0 : goal.loop-from-preserved-then-number-ne0
 loop-from-preserved-then-number-ne0 c =
-    let step = sym c.next_from-found.ensures ∙ c.in-Step.is in
+    let step = sym c.next_from-found.ensures ∙ c.in-Some.is in
     let line = reaches-line c.loop-from.invariant step _ _ c.line_at-line.ensures c.in-To.is in
     reaches-refused c.loop-from.invariant step line c.line_at-line.auto.dst c.if-number-ne0.true
 
 pub loop-from-smaller-then-n-gt64 : goal.loop-from-smaller-then-n-gt64
 loop-from-smaller-then-n-gt64 c =
-    let h = walk-ahead _ _ _ _ _ (sym c.next_from-found.ensures ∙ c.in-Step.is) in
+    let h = walk-ahead _ _ _ _ _ (sym c.next_from-found.ensures ∙ c.in-Some.is) in
     omega (arith, h.ahead, h.longer, h.within, h.goes_on)
 
 pub loop-from-preserved-then-n-gt64 : goal.loop-from-preserved-then-n-gt64
 loop-from-preserved-then-n-gt64 c =
-    let step = sym c.next_from-found.ensures ∙ c.in-Step.is in
+    let step = sym c.next_from-found.ensures ∙ c.in-Some.is in
     let line = reaches-line c.loop-from.invariant step _ _ c.line_at-line.ensures c.in-To.is in
     reaches-many c.loop-from.invariant step line c.line_at-line.auto.dst c.if-n-gt64.true
 
 pub overflow_sub-length : goal.overflow_sub-length
 overflow_sub-length c =
-    let step = sym c.next_from-found.ensures ∙ c.in-Step.is in
+    let step = sym c.next_from-found.ensures ∙ c.in-Some.is in
     let line = reaches-line c.loop-from.invariant step _ _ c.line_at-line.ensures c.in-To.is in
     line-some _ line.wrote
 
-pub slice_bounds-prepare_step-end : goal.slice_bounds-prepare_step-end
-slice_bounds-prepare_step-end c =
-    let step = sym c.next_from-found.ensures ∙ c.in-Step.is in
-    let line = reaches-line c.loop-from.invariant step _ _ c.line_at-line.ensures c.in-To.is in
-    line-within _ line.wrote
-
-pub slice_bounds-prepare_step-end-in-loop-from : goal.slice_bounds-prepare_step-end-in-loop-from
-slice_bounds-prepare_step-end-in-loop-from c =
-    let step = sym c.next_from-found.ensures ∙ c.in-Step.is in
-    let line = reaches-line c.loop-from.invariant step _ _ c.line_at-line.ensures c.in-To.is in
-    sym (length-take-le _ _ (line-within _ line.wrote))
-
 pub prepare_step-judged-requires : goal.prepare_step-judged-requires
 prepare_step-judged-requires c =
-    let step = sym c.next_from-found.ensures ∙ c.in-Step.is in
+    let step = sym c.next_from-found.ensures ∙ c.in-Some.is in
     let line = reaches-line c.loop-from.invariant step _ _ c.line_at-line.ensures c.in-To.is in let all = reaches-roomy c.loop-from.invariant step line in record { text_in_bounds = all.0; roomy = all.1 }
 
 -- what the reader found lies within the text, and so much is not passed; nor by the step's text as it is written out
 pub spanned-requires : goal.spanned-requires
 spanned-requires c =
-    let step = sym c.next_from-found.ensures ∙ c.in-Step.is in
+    let step = sym c.next_from-found.ensures ∙ c.in-Some.is in
     let line = reaches-line c.loop-from.invariant step _ _ c.line_at-line.ensures c.in-To.is in
     let h = walk-ahead _ _ _ _ _ step in record { from_le_to = omega (arith, h.longer); to_bound = omega (arith, h.within, c.requires.normal_len_bound, reaches-short c.loop-from.invariant step line) }
 
-pub offset_bounds-steps-i : goal.offset_bounds-steps-i
-offset_bounds-steps-i c =
-    search (rules, c.if-n-gt64.false)
-
-pub bounds-steps-i : goal.bounds-steps-i
-bounds-steps-i c =
-    omega (arith, c.if-n-gt64.false)
-
 pub loop-from-smaller : goal.loop-from-smaller
 loop-from-smaller c =
-    let h = walk-ahead _ _ _ _ _ (sym c.next_from-found.ensures ∙ c.in-Step.is) in
+    let h = walk-ahead _ _ _ _ _ (sym c.next_from-found.ensures ∙ c.in-Some.is) in
     omega (arith, h.ahead, h.longer, h.within, h.goes_on)
 
 pub loop-from-preserved : goal.loop-from-preserved
 loop-from-preserved c =
-    let step = sym c.next_from-found.ensures ∙ c.in-Step.is in
+    let step = sym c.next_from-found.ensures ∙ c.in-Some.is in
     let line = reaches-line c.loop-from.invariant step _ _ c.line_at-line.ensures c.in-To.is in
     reaches_more c.loop-from.invariant step line c.if-number-ne0.false c.if-n-gt64.false _ c.prepare_step-judged.ensures c.spanned.ensures c.prepare_step-judged.auto.a c.prepare_step-judged.auto.b
     c.line_at-line.auto.dst
-
-pub shape_of-a : goal.shape_of-a
-shape_of-a c = c.loop-from.invariant.room-a
-
-pub shape_of-b : goal.shape_of-b
-shape_of-b c = c.loop-from.invariant.room-b
-
-pub shape_of-c : goal.shape_of-c
-shape_of-c c = c.loop-from.invariant.room-c
 
 pub returns : goal.returns
 returns c =

@@ -1,45 +1,24 @@
-use native.Mathlib.Omega.{arith}
-use Rattle.proj.proofs.Flaws.{flawing-start, flawing-end, flawing-here, flawing-next}
-use Rattle.proj_words.proofs.Pieces.{step-at, step-none}
-use borrow.Author.Rules.{rules}
+use Rattle.std.proofs.Common.{ap, ◌∙◌, ⊎_elim, arith}
+use Rattle.proj.proofs.Flaws.{flawing-end, flawing-here, flawing-next}
+use Rattle.proj.proofs.Laid.{took-as, ended-as}
 use Rattle.proj.proofs.flaw_of.Goals as goal
 
-pub loop-from-init : goal.loop-from-init
-loop-from-init c = flawing-start c.requires
+pub returns-in-Some-step_flaw : goal.returns-in-Some-step_flaw
+returns-in-Some-step_flaw c =
+    let took = c.in-Some.ensures.steps in
+    flawing-here (rw (← took.0.0) at c.loop-place.invariant.3) (took-as c.loop-place.invariant.2 took.1.0) c.step_flaw.ensures c.in-Some-step_flaw.is
 
-pub next_proj-found-requires : goal.next_proj-found-requires
-next_proj-found-requires c = c.loop-from.invariant.within
+pub loop-place-preserved : goal.loop-place-preserved
+loop-place-preserved c =
+    let took = c.in-Some.ensures.steps in (
+      (tt, tt),
+      tt,
+      ap (λ t. t.now) took.1.1 ∙ c.loop-place.invariant.2,
+      rw took.0.1 (flawing-next (rw (← took.0.0) at c.loop-place.invariant.3) (took-as c.loop-place.invariant.2 took.1.0) c.step_flaw.ensures c.in_default.is),
+    )
 
-pub returns-in-End : goal.returns-in-End
-returns-in-End c = flawing-end c.loop-from.invariant (step-none c.next_proj-found.ensures c.in-End.is)
-
-pub slice_bounds-step_flaw-count : goal.slice_bounds-step_flaw-count
-slice_bounds-step_flaw-count c = let s = step-at c.next_proj-found.ensures c.in-Step.is in omega (arith, s.ahead)
-
-pub slice_bounds-step_flaw-start : goal.slice_bounds-step_flaw-start
-slice_bounds-step_flaw-start c = let s = step-at c.next_proj-found.ensures c.in-Step.is in search (rules, s)
-
-pub slice_bounds-step_flaw-end : goal.slice_bounds-step_flaw-end
-slice_bounds-step_flaw-end c = let s = step-at c.next_proj-found.ensures c.in-Step.is in search (rules, s)
-
-pub step_flaw-number-requires : goal.step_flaw-number-requires
-step_flaw-number-requires c = let s = step-at c.next_proj-found.ensures c.in-Step.is in s.worded
-
-pub returns-then-number-ne0 : goal.returns-then-number-ne0
-returns-then-number-ne0 c =
-    let s = step-at c.next_proj-found.ensures c.in-Step.is in
-    flawing-here c.loop-from.invariant s c.step_flaw-number.ensures c.if-number-ne0.true
-
-pub overflow_add-place : goal.overflow_add-place
-overflow_add-place c =
-    omega (arith, c.loop-from.invariant.few, c.loop-from.invariant.within, c.loop-from.invariant.small)
-
-pub loop-from-smaller : goal.loop-from-smaller
-loop-from-smaller c =
-    let s = step-at c.next_proj-found.ensures c.in-Step.is in
-    omega (arith, s.further, s.ends)
-
-pub loop-from-preserved : goal.loop-from-preserved
-loop-from-preserved c =
-    let s = step-at c.next_proj-found.ensures c.in-Step.is in
-    flawing-next c.loop-from.invariant s c.step_flaw-number.ensures c.if-number-ne0.false
+-- the places do not end before the steps
+pub returns : goal.returns
+returns c =
+    let i = c.loop-place.invariant.3 in
+    ⊎_elim (λ x. absurd (omega (arith, x.1.0, i.few, i.within, i.small))) (λ x. flawing-end i (ended-as _ c.loop-place.invariant.2 x.1.0)) c.in-None.ensures.steps

@@ -1,69 +1,30 @@
 -- `pipe_of`: the first step is looked at: if it is the pipeline's, its globals are written and its `inv` is told; else, or with no step,
 -- there are none, and nothing is inverted.
-use native.Mathlib.Omega.{arith}
-use Rattle.proj.proofs.Pipes.{pipe-step-room, pipe-none, pipe-other, pipe-here}
-use Rattle.proj_words.proofs.Pieces.{step-at, step-none}
-use borrow.Author.Rules.{rules}
+use Rattle.std.proofs.Common.{arith, ap, length}
+use Rattle.text.proofs.Wrote.{wrote-front}
+use Rattle.laws_proj.specs.Bounds.{globals-length}
+use Rattle.proj.proofs.Pipes.{nothing-global, pipe-none, pipe-other, pipe-here, pipe-global}
 use Rattle.proj.proofs.pipe_of.Goals as goal
 
-pub slice_bounds-head_of-count : goal.slice_bounds-head_of-count
-slice_bounds-head_of-count c = let s = step-at c.next_proj-found.ensures c.in-Step.is in omega (arith, s.ahead)
+pub invariant_of-result : goal.invariant_of-result
+invariant_of-result c = record { global = nothing-global }
 
-pub slice_bounds-head_of-start : goal.slice_bounds-head_of-start
-slice_bounds-head_of-start c = let s = step-at c.next_proj-found.ensures c.in-Step.is in search (rules, s)
+pub returns-in_default : goal.returns-in_default
+returns-in_default c = record { few = omega arith; is = pipe-none c.in_default.ensures.steps.0 }
 
-pub slice_bounds-head_of-end : goal.slice_bounds-head_of-end
-slice_bounds-head_of-end c = let s = step-at c.next_proj-found.ensures c.in-Step.is in search (rules, s)
+pub invariant_of-result-then-not-head : goal.invariant_of-result-then-not-head
+invariant_of-result-then-not-head c = record { global = nothing-global }
 
-pub head_of-head-requires : goal.head_of-head-requires
-head_of-head-requires c = let s = step-at c.next_proj-found.ensures c.in-Step.is in s.worded
+pub returns-then-not-head : goal.returns-then-not-head
+returns-then-not-head c = record { few = omega arith; is = pipe-other c.in-Some.step.text.now c.in-Some.ensures.steps.0.here c.head_of-head.ensures c.if-not-head.true }
 
-pub slice_bounds-marks_of-count : goal.slice_bounds-marks_of-count
-slice_bounds-marks_of-count c =
-    let s = step-at c.next_proj-found.ensures c.in-Step.is in
-    omega (arith, s.ahead)
+pub invariant_of-result-2 : goal.invariant_of-result-2
+invariant_of-result-2 c = record {
+  global = pipe-global c.in-Some.step.text.now c.in-Some.ensures.steps.0.here c.head_of-head.ensures c.if-not-head.false c.marks_of.ensures (wrote-front c.globals_into-m.ensures);
+}
 
-pub slice_bounds-marks_of-start : goal.slice_bounds-marks_of-start
-slice_bounds-marks_of-start c =
-    let s = step-at c.next_proj-found.ensures c.in-Step.is in
-    search (rules, s)
-
-pub slice_bounds-marks_of-end : goal.slice_bounds-marks_of-end
-slice_bounds-marks_of-end c =
-    let s = step-at c.next_proj-found.ensures c.in-Step.is in
-    search (rules, s)
-
-pub marks_of-marks-requires : goal.marks_of-marks-requires
-marks_of-marks-requires c = c.head_of-head.ensures
-
-pub slice_bounds-globals_into-count : goal.slice_bounds-globals_into-count
-slice_bounds-globals_into-count c =
-    let s = step-at c.next_proj-found.ensures c.in-Step.is in
-    omega (arith, s.ahead)
-
-pub slice_bounds-globals_into-start : goal.slice_bounds-globals_into-start
-slice_bounds-globals_into-start c =
-    let s = step-at c.next_proj-found.ensures c.in-Step.is in
-    search (rules, s)
-
-pub slice_bounds-globals_into-end : goal.slice_bounds-globals_into-end
-slice_bounds-globals_into-end c =
-    let s = step-at c.next_proj-found.ensures c.in-Step.is in
-    search (rules, s)
-
-pub globals_into-m-requires : goal.globals_into-m-requires
-globals_into-m-requires c =
-    let s = step-at c.next_proj-found.ensures c.in-Step.is in record { head = c.head_of-head.ensures; s_in_bounds = pipe-step-room s c.requires }
-
-pub returns-then-head : goal.returns-then-head
-returns-then-head c =
-    let s = step-at c.next_proj-found.ensures c.in-Step.is in
-    pipe-here s c.head_of-head.ensures c.if-head.true c.marks_of-marks.ensures c.globals_into-m.ensures
-
-pub returns-in-End : goal.returns-in-End
-returns-in-End c = pipe-none _ _ (step-none c.next_proj-found.ensures c.in-End.is)
-
-pub returns-else-head : goal.returns-else-head
-returns-else-head c =
-    let s = step-at c.next_proj-found.ensures c.in-Step.is in
-    pipe-other s c.head_of-head.ensures _ c.if-head.false
+pub returns : goal.returns
+returns c = record {
+  few = omega (arith, ap length (wrote-front c.globals_into-m.ensures), globals-length c.in-Some.step.text.now, c.in-Some.ensures.steps.0.short);
+  is = pipe-here c.in-Some.step.text.now c.in-Some.ensures.steps.0.here c.head_of-head.ensures c.if-not-head.false c.marks_of.ensures (wrote-front c.globals_into-m.ensures);
+}

@@ -1,13 +1,18 @@
-use Rattle.std.proofs.Common.{◌<◌, sym, ◌∙◌, length, arith, add-one}
-use Rattle.rows.specs.Row.{blanks}
-use Rattle.rows.specs.LaidRow.{length-blanks, laid_none, laid_one}
+-- `load`: as many of the row's records as have room are copied over blank ones (`laid`).
+use mathlib.Core.Path.{◌≡◌, ap, ◌∙◌}
+use mathlib.Core.List.{List, ◌++◌}
+use Prim.Native.Nat.{ℕ, min}
+use borrow.Author.Rules.{rules}
+use lib.ListN.{length, take, drop}
+use Rattle.rules.specs.declared.Step.{Step}
+use Rattle.rules.specs.declared.Table.{Table}
+use Rattle.rows.specs.Row.{blanks, tabled, laid, loaded}
 use Rattle.rows.proofs.load.Goals as goal
 
-pub loop-i-init : goal.loop-i-init
-loop-i-init c = record { few = omega arith; copied = c.blank_row-blank.ensures ∙ sym (laid_none _ _) }
+loaded-so : (row : List Step) {front blank : List Step} {held : ℕ} {t : Table} → t ≡ tabled (front ++ drop held blank) (length row) → held ≡ min (length row) 64 → front ≡ take held row → blank ≡ blanks
+    → t ≡ loaded row
+unfolding laid
+loaded-so row e h f b = rw (e, f, h, b)
 
-pub loop-i-preserved : goal.loop-i-preserved
-loop-i-preserved c =
-    let within : c.loop-i.i < length c.args.table.now = omega arith in
-    let spare : c.loop-i.i < length blanks = omega (arith, length-blanks) in
-    record { few = omega arith; copied = rw (c.loop-i.invariant.copied, add-one) (laid_one _ _ _ _ within spare) }
+pub returns : goal.returns
+returns c = loaded-so _ c.table_of.ensures (search rules) c.copy_from_slice.ensures.after c.blank_row-blank.ensures

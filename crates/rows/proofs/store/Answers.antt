@@ -1,13 +1,11 @@
-use Rattle.std.proofs.Common.{◌≡◌, ◌<◌, sym, length, arith, add-one, rules}
-use Rattle.rows.specs.LaidRow.{laid_none, laid_one}
+-- `store`: the first n records are copied over those of the row, and the others are as they were (`laid`).
+use mathlib.Core.Path.{ap}
+use mathlib.Core.List.{List, ◌++◌}
+use lib.ListN.{drop}
+use Rattle.rules.specs.declared.Step.{Step}
+use Rattle.rows.specs.Row.{laid}
 use Rattle.rows.proofs.store.Goals as goal
 
-pub loop-i-init : goal.loop-i-init
-loop-i-init c = record { few = omega arith; written = sym (laid_none _ _) }
-
-pub loop-i-preserved : goal.loop-i-preserved
-loop-i-preserved c =
-    let full : length c.args.steps ≡ 64 = search rules in
-    let held : c.loop-i.i < length c.args.steps = omega (arith, c.requires.held) in
-    let room : c.loop-i.i < length c.args.table.now = omega (arith, c.requires.room) in
-    record { few = omega arith; written = rw (c.loop-i.invariant.written, add-one) (laid_one _ _ _ _ held room) }
+pub returns : goal.returns
+unfolding laid
+returns c = ap (λ (l : List Step). l ++ drop c.args.n c.args.table.now) c.copy_from_slice.ensures.after

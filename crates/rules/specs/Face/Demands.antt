@@ -1,5 +1,7 @@
 -- The words of the release's demands: what the page of promises says of a result, and of lent storage before and after.
-use Rattle.std.specs.Prelude.{◌≡◌, ℕ, ◌+◌, ◌-◌, ◌*◌, ◌^◌, ◌≤◌, ◌<◌, Bool, true, false, cond, ◌||◌, leb, eqb, length, drop, get_or, ℤ, Float}
+use Rattle.rules.specs.declared.Refusal.{Refusal}
+use Rattle.rules.specs.declared.Finished.{Finished}
+use Rattle.std.specs.Prelude.{◌≡◌, ℕ, ◌+◌, ◌-◌, ◌*◌, ◌^◌, ◌≤◌, ◌<◌, Bool, true, false, cond, ◌||◌, leb, eqb, length, drop, get_or, ℤ, Float, Option, Some, None, Result, Ok}
 use mathlib.Core.List.{List, [], ◌∷◌, ◌++◌, map, flat_map}
 use Rattle.std.specs.Float.{nan, binary64}
 use Rattle.std.specs.Float.Ieee.{neg, nan_bits, of_bits}
@@ -16,31 +18,24 @@ use Rattle.rules.specs.Operators.Documented.{carries_angle}
 use Rattle.rules.specs.Pipeline.Running.{Numbered}
 use Rattle.rules.specs.Pipeline.Columns.{takes, after}
 use Rattle.rules.specs.Pipeline.Tuples.{acted}
-use Rattle.rules.specs.Pipeline.Run.{start}
+use Rattle.rules.specs.Pipeline.Run.{start, done}
 use Rattle.rules.specs.Pipeline.Keys.{kind_of}
 use Rattle.rules.specs.Pipeline.Offsets.{cut_text}
 use Rattle.rules.specs.Pipeline.Prepare.{named}
 use Rattle.rules.specs.Text.Bytes.{Bytes, Words, same, words}
-use Rattle.rules.specs.Text.Refusal.{Reply, Promised, Writes}
+use Rattle.rules.specs.Text.Refusal.{Reply, Promised, Writes, refusal}
 use Rattle.rules.specs.Face.Plain.{plain_written, replied}
 use Rattle.rules.specs.Text.Reader.{step, next, part}
 use Rattle.rules.specs.Pipeline.Record.{span_end, spanless}
 use Rattle.rules.specs.declared.Span.{Span}
 use Rattle.rules.specs.declared.Step.{Step}
-use Rattle.rules.specs.declared.Written.{Written}
-use Rattle.rules.specs.declared.Written.TheVariants as written_is
 use Rattle.rules.specs.declared.Answer.{Answer}
 use Rattle.rules.specs.declared.Found.{Found}
-use Rattle.rules.specs.declared.Found.TheVariants.{End}
 use Rattle.rules.specs.declared.Foretold.{Foretold}
 use Rattle.rules.specs.declared.Verdict.TheVariants as verdict-is
 use Rattle.rules.specs.declared.Kind.{Kind}
 use Rattle.rules.specs.declared.Kind.TheVariants.{Flag, Series}
 use Rattle.rules.specs.declared.Name.{Name}
-use Rattle.rules.specs.declared.Named.TheVariants.{Is}
-use Rattle.rules.specs.declared.Number.TheVariants.{Not}
-use Rattle.rules.specs.declared.Ran.{Ran}
-use Rattle.rules.specs.declared.Ran.TheVariants.{Done, Refused}
 
 -- ---- demand 1
 
@@ -58,14 +53,14 @@ pub data Ends {A R : Type 0} (answer : ℕ → R) (refusal : ℕ → ℕ → ℕ
       → Ends answer refusal numbers storage result storage'
 
 -- a text call's refusal, in which there is no offset
-abbrev pub text_refusal : ℕ → ℕ → ℕ → Written
-text_refusal number place offset = written_is.Refused number place
+abbrev pub text_refusal : ℕ → ℕ → ℕ → Result ℕ Refusal
+text_refusal number place offset = refusal number place
 
 -- The same of a run, which is lent a list and a store, and uses the store up to a place.
-pub data RunEnds (numbers : List ℕ) (used : ℕ) (xs store : List Float) (result : Ran) (xs' store' : List Float) : Type 0 where
-  answers : (count left : ℕ) → result ≡ Done count left → length xs' ≡ length xs → length store' ≡ length store → drop used store' ≡ drop used store
+pub data RunEnds (numbers : List ℕ) (used : ℕ) (xs store : List Float) (result : Result Finished Refusal) (xs' store' : List Float) : Type 0 where
+  answers : (count left : ℕ) → result ≡ done count left → length xs' ≡ length xs → length store' ≡ length store → drop used store' ≡ drop used store
       → RunEnds numbers used xs store result xs' store'
-  refuses : (number place : ℕ) → result ≡ Refused number place → OneOf numbers number → xs' ≡ xs → store' ≡ store
+  refuses : (number place : ℕ) → result ≡ refusal number place → OneOf numbers number → xs' ≡ xs → store' ≡ store
       → RunEnds numbers used xs store result xs' store'
 
 -- the check, which is lent nothing to write into: a pass, a step and what is wrong with it, or refusal 18
@@ -76,15 +71,15 @@ pub data CheckEnds (f : Foretold) : Type 0 where
   refuses : (k : ℕ) → f.verdict ≡ verdict-is.Refused 18 k → CheckEnds f
 
 -- the reader, which is lent nothing to write into: the end, or a step of at least one byte, at its place or further on
-pub data NextEnds (text : Bytes) (at : ℕ) (r : Found) : Type 0 where
-  ends : r ≡ End → NextEnds text at r
+pub data NextEnds (text : Bytes) (at : ℕ) (r : Option Found) : Type 0 where
+  ends : r ≡ None → NextEnds text at r
   finds : (from to : ℕ) → r ≡ step from to → at ≤ from → from < to → to ≤ length text → NextEnds text at r
 
 -- A text call for C and Rust: behind its answer there is one of the call that it exports, with the same buffer afterwards, and number 0
 -- is an answer, of that length.
 abbrev pub ExportsText : (Bytes → Reply Bytes) → Type 0
 ExportsText own = (text out : Bytes) (r : Answer) (out' : Bytes) → Promised replied own text out r out'
-    → (w : Written) × Writes own text out w out' × (r ≡ plain_written w) × (r.number ≡ 0 → w ≡ written_is.Wrote r.length)
+    → (w : Result ℕ Refusal) × Writes own text out w out' × (r ≡ plain_written w) × (r.number ≡ 0 → w ≡ Ok r.length)
 
 -- ---- demand 3: the steps of a run, in running order
 
@@ -173,9 +168,9 @@ pub record Gives (ws : Words) (word : Bytes) (from : ℕ) : Type 0 where
 
 -- What refusal 12 is for, by what the word's key takes, and at which byte of the word: a flag's value that is not `true`, where the value begins; or "a series element
 -- not in decimal form", behind the elements in front of it and their commas.
-pub data Breaks (kind : Kind) (word bad : Bytes) (at : ℕ) : Type 0 where
-  flag : kind ≡ Flag → bad ≡ (parameter word).value → (bad ≡ ascii "true" → ⊥) → at ≡ value_in word → Breaks kind word bad at
-  element : kind ≡ Series → (front rest : List Bytes) → pieces (parameter word).value ≡ front ++ (bad ∷ rest) → decimal bad ≡ Not
+pub data Breaks (kind : Option Kind) (word bad : Bytes) (at : ℕ) : Type 0 where
+  flag : kind ≡ Some Flag → bad ≡ (parameter word).value → (bad ≡ ascii "true" → ⊥) → at ≡ value_in word → Breaks kind word bad at
+  element : kind ≡ Some Series → (front rest : List Bytes) → pieces (parameter word).value ≡ front ++ (bad ∷ rest) → decimal bad ≡ None
       → at ≡ value_in word + taken (ascii ",") front → Breaks kind word bad at
 
 -- that there is such a fault at a byte of the step's text
@@ -204,7 +199,7 @@ pub record FirstFault (text : Bytes) (place offset : ℕ) : Type 0 where
   pub in_order : map step_text (steps text) ≡ before ++ (step ∷ rest)
   pub at_place : place ≡ length before + 1
   pub operator : Name
-  pub has-name : named (value_of (ascii "_name") (table_of (words (normal step)))) ≡ Is operator
+  pub has-name : named (value_of (ascii "_name") (table_of (words (normal step)))) ≡ Some operator
   pub at-fault : FaultAt operator (turned (words (normal step))) offset
   pub none_before : (other : ℕ) → FaultAt operator (turned (words (normal step))) other → offset ≤ other
   pub stands : any_of (is "=") at-fault.word ≡ true → StandsAt (cut_text step) offset at-fault.bad
@@ -223,7 +218,7 @@ Rise most end (s ∷ l) = (end ≤ s.span.from) × (0 < s.span.length) × (span_
 
 -- The walk over the steps: from the reader's place on it finds the first record's text at its span, from there on the next one's, and behind the last one none.
 unfoldable pub Walk : Bytes → ℕ → List Step → Type 0
-Walk normalised at [] = next normalised at ≡ End
+Walk normalised at [] = next normalised at ≡ None
 Walk normalised at (s ∷ l) = (next normalised at ≡ step s.span.from (span_end s.span)) × Walk normalised (span_end s.span) l
 
 -- "differ only there": two tables with the same records, spans aside

@@ -1,25 +1,20 @@
 -- The answers of the public calls as plain records, which C and Rust can hold: "a definition gives this paper's number and values for
 -- each of its cases". And what the exports promise in these words.
-use Rattle.std.specs.Prelude.{◌≡◌, cond, List, ℕ, eqb, Float}
+use Rattle.rules.specs.declared.Refusal.{Refusal}
+use Rattle.rules.specs.declared.Finished.{Finished}
+use Rattle.std.specs.Prelude.{◌≡◌, cond, List, ℕ, eqb, Float, Option, Some, None, Result, Ok, Err}
 use Rattle.rules.specs.Text.Refusal.{Reply, written, prepared}
 use Rattle.rules.specs.Pipeline.Check.{check}
 use Rattle.rules.specs.Pipeline.Run.{Outcome, runs}
 use Rattle.rules.specs.declared.Mode.{Mode}
 use Rattle.rules.specs.declared.Mode.TheVariants as mode
-use Rattle.rules.specs.declared.Written.{Written}
-use Rattle.rules.specs.declared.Written.TheVariants.{Wrote, Refused}
-use Rattle.rules.specs.declared.Prepared.{Prepared}
-use Rattle.rules.specs.declared.Prepared.TheVariants as prepared-is
 use Rattle.rules.specs.declared.Step.{Step}
 use Rattle.rules.specs.declared.Found.{Found}
-use Rattle.rules.specs.declared.Found.TheVariants as found-is
 use Rattle.rules.specs.declared.Direction.{Direction}
 use Rattle.rules.specs.declared.Direction.TheVariants.{Forward, Inverse}
 use Rattle.rules.specs.declared.Verdict.{Verdict}
 use Rattle.rules.specs.declared.Verdict.TheVariants as verdict-is
 use Rattle.rules.specs.declared.Foretold.{Foretold}
-use Rattle.rules.specs.declared.Ran.{Ran}
-use Rattle.rules.specs.declared.Ran.TheVariants as ran-is
 use Rattle.rules.specs.declared.Answer.{Answer}
 use Rattle.rules.specs.declared.Part.{Part}
 use Rattle.rules.specs.declared.Said.{Said}
@@ -29,9 +24,9 @@ use Rattle.rules.specs.declared.Done.{Done}
 -- ---- texts
 
 -- number 0 for an answer, and its length
-unfoldable pub plain_written : Written → Answer
-plain_written (Wrote n) = record { number = 0; place = 0; length = n; offset = 0 }
-plain_written (Refused number place) = record { number = number; place = place; length = 0; offset = 0 }
+unfoldable pub plain_written : Result ℕ Refusal → Answer
+plain_written (Ok n) = record { number = 0; place = 0; length = n; offset = 0 }
+plain_written (Err r) = record { number = r.number; place = r.place; length = 0; offset = 0 }
 
 abbrev pub replied : Reply ℕ → Answer
 replied r = plain_written (written r)
@@ -39,16 +34,16 @@ replied r = plain_written (written r)
 -- ---- the walk over the steps
 
 -- 1 for a step, 0 for the end
-unfoldable pub plain_found : Found → Part
-plain_found (found-is.Step from to then) = record { found = 1; from = from; to = to; then = then.at }
-plain_found found-is.End = record { found = 0; from = 0; to = 0; then = 0 }
+unfoldable pub plain_found : Option Found → Part
+plain_found (Some found) = record { found = 1; from = found.from; to = found.to; then = found.then.at }
+plain_found None = record { found = 0; from = 0; to = 0; then = 0 }
 
 -- ---- step tables
 
 -- number 0 for an answer, and how many records it has; of a refusal its offset too
-unfoldable pub plain_prepared : Prepared → Answer
-plain_prepared (prepared-is.Steps n) = record { number = 0; place = 0; length = n; offset = 0 }
-plain_prepared (prepared-is.Refused number place offset) = record { number = number; place = place; length = 0; offset = offset }
+unfoldable pub plain_prepared : Result ℕ Refusal → Answer
+plain_prepared (Ok n) = record { number = 0; place = 0; length = n; offset = 0 }
+plain_prepared (Err r) = record { number = r.number; place = r.place; length = 0; offset = r.offset }
 
 abbrev pub record_count : Reply ℕ → Answer
 record_count r = plain_prepared (prepared r)
@@ -85,9 +80,9 @@ plain_check f =
 pub record PlainChecks (inverse : ℕ) (t : List Step) (result : Checked) : Type 0 where
   pub exactly : result ≡ plain_check (check (direction_of inverse) t)
 
-unfoldable pub plain_ran : Ran → Done
-plain_ran (ran-is.Done count left) = record { number = 0; place = 0; count = count; left = left }
-plain_ran (ran-is.Refused number place) = record { number = number; place = place; count = 0; left = 0 }
+unfoldable pub plain_ran : Result Finished Refusal → Done
+plain_ran (Ok f) = record { number = 0; place = 0; count = f.count; left = f.left }
+plain_ran (Err r) = record { number = r.number; place = r.place; count = 0; left = 0 }
 
 -- what a run answers, and what it leaves in the list and in the store
 pub record PlainOutcome : Type 0 where

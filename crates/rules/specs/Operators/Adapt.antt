@@ -1,8 +1,7 @@
 -- `adapt`: "words such as `neuf_deg`", the eight arguments that two of them make, and what they do to a coordinate. (Its documented mode
 -- is in Documented.)
-use Rattle.std.specs.Prelude.{ℕ, zero, suc, ◌+◌, ◌-◌, ◌*◌, ◌/◌, ◌%◌, Bool, true, false, cond, not, ◌&&◌, ◌||◌, List, [], ◌∷◌, ◌++◌, map, length, take, drop, get_or, leb, ltb, eqb, ℤ, pos, negsuc, Float}
+use Rattle.std.specs.Prelude.{ℕ, zero, suc, ◌+◌, ◌-◌, ◌*◌, ◌/◌, ◌%◌, Bool, true, false, cond, not, ◌&&◌, ◌||◌, List, [], ◌∷◌, ◌++◌, map, length, take, drop, get_or, leb, ltb, eqb, ℤ, pos, negsuc, Float, Option, None, Some}
 use Rattle.std.proofs.Math.Bool.{xor}
-use Rattle.std.proofs.Math.Option.{Option, none, some}
 use Rattle.std.specs.Float.{fin, binary64}
 use Rattle.std.specs.Float.Ieee.{mul, div, eq}
 use Rattle.rules.specs.Text.Ascii.{ascii}
@@ -40,14 +39,14 @@ axis b =
 -- the source's endings; without one, and with `_rad` or `_any`, the angle is in radians
 unfoldable pub ending : Bytes → Option ℕ
 ending t =
-    cond (same t (ascii "_deg")) (some 1)
-    (cond (same t (ascii "_gon")) (some 2)
-    (cond (same t [] || (same t (ascii "_rad") || same t (ascii "_any"))) (some 0)
-    none))
+    cond (same t (ascii "_deg")) (Some 1)
+    (cond (same t (ascii "_gon")) (Some 2)
+    (cond (same t [] || (same t (ascii "_rad") || same t (ascii "_any"))) (Some 0)
+    None))
 
 unfoldable pub word_of : List ℤ → Option ℕ → Option Word
-word_of l none = none
-word_of l (some angle) = cond (eqb (length l) 4 && is_order l) (some (record { axes = l; angle = angle })) none
+word_of l None = None
+word_of l (Some angle) = cond (eqb (length l) 4 && is_order l) (Some (record { axes = l; angle = angle })) None
 
 -- "words .. as the source has them, `pass` included": four letters, each axis once, and an ending or none; `pass` is
 -- `enuf`
@@ -58,8 +57,8 @@ word t =
 
 -- a word that is not given is `enuf`, as in the source
 unfoldable pub word_given : Option Bytes → Option Word
-word_given none = word (ascii "enuf")
-word_given (some value) = word value
+word_given None = word (ascii "enuf")
+word_given (Some value) = word value
 
 -- ---- its arguments
 
@@ -94,9 +93,9 @@ combined from to =
 
 -- what two words make, if both are words
 unfoldable pub between : (Word → Word → List ℤ) → Option Word → Option Word → Option (List ℤ)
-between make none to = none
-between make (some from) none = none
-between make (some from) (some to) = some (make from to)
+between make None to = None
+between make (Some from) None = None
+between make (Some from) (Some to) = Some (make from to)
 
 -- the code of a factor's size: 0, or that of two angles of which neither is the other (4 and 8 would be 1 again)
 unfoldable pub is_code : ℤ → Bool

@@ -1,7 +1,6 @@
 -- A step's parameters and arguments, as every operator's rule reads them and its text has them.
-use Rattle.std.specs.Prelude.{ℕ, ◌-◌, Bool, true, cond, not, ◌&&◌, List, [], ◌∷◌, ◌++◌, map, length, get_or, eqb, leb, ℤ, pos, nat_abs}
+use Rattle.std.specs.Prelude.{ℕ, ◌-◌, Bool, true, cond, not, ◌&&◌, List, [], ◌∷◌, ◌++◌, map, length, get_or, eqb, leb, ℤ, pos, nat_abs, Option, None, Some}
 use Prim.Native.String.{String}
-use Rattle.std.proofs.Math.Option.{Option, none, some}
 use Rattle.rules.specs.Text.Ascii.{ascii}
 use Rattle.rules.specs.Text.Lists.{all_of, any_of, is_none}
 use Rattle.rules.specs.Text.Bytes.{Bytes, same, joined_by}
@@ -14,8 +13,8 @@ use Rattle.rules.specs.declared.Decimal.{Decimal}
 
 -- the value of a key, if it is given
 unfoldable pub value_of : Bytes → List Parameter → Option Bytes
-value_of key [] = none
-value_of key (p ∷ ps) = cond (same key p.key) (some p.value) (value_of key ps)
+value_of key [] = None
+value_of key (p ∷ ps) = cond (same key p.key) (Some p.value) (value_of key ps)
 
 unfoldable pub is_given : String → List Parameter → Bool
 is_given key ps = not (is_none (value_of (ascii key) ps))
@@ -51,8 +50,8 @@ is_order l =
 
 -- the numbers of a series, if they are whole and keep the rule
 unfoldable pub wholes : (List ℤ → Bool) → Option (List Decimal) → Option (List ℤ)
-wholes rule none = none
-wholes rule (some ds) = cond (all_of is_whole ds && rule (map whole_of ds)) (some (map whole_of ds)) none
+wholes rule None = None
+wholes rule (Some ds) = cond (all_of is_whole ds && rule (map whole_of ds)) (Some (map whole_of ds)) None
 
 -- ---- their text
 

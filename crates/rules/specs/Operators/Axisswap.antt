@@ -1,6 +1,5 @@
 -- `axisswap`: "signed reordering of axes".
-use Rattle.std.specs.Prelude.{ℕ, suc, Bool, true, false, List, [], ◌∷◌, ℤ, pos}
-use Rattle.std.proofs.Math.Option.{Option, none, some}
+use Rattle.std.specs.Prelude.{ℕ, suc, Bool, true, false, List, [], ◌∷◌, ℤ, pos, Option, None, Some}
 use Rattle.rules.specs.Text.Ascii.{ascii}
 use Rattle.rules.specs.Text.Bytes.{Bytes}
 use Rattle.rules.specs.Text.Decimal.{minus, series}
@@ -15,8 +14,8 @@ use Rattle.rules.specs.declared.Coord.{Coord}
 
 -- the arguments that the value of its key gives; "Default 1,2,3,4."
 unfoldable pub order : Option Bytes → Option (List ℤ)
-order none = some (pos 1 ∷ pos 2 ∷ pos 3 ∷ pos 4 ∷ [])
-order (some value) = wholes is_order (series value)
+order None = Some (pos 1 ∷ pos 2 ∷ pos 3 ∷ pos 4 ∷ [])
+order (Some value) = wholes is_order (series value)
 
 -- ---- what it does. The check reorders its four places in the same way, so it is written for any four things: `at` reads
 -- one, `with` stores one, `turns` turns its sign.

@@ -1,7 +1,6 @@
 -- What the rest of the rules asks of an operator. Each operator's own file answers it, by its number and by its name.
-use Rattle.std.specs.Prelude.{ℕ, Bool, List, ℤ}
+use Rattle.std.specs.Prelude.{ℕ, Bool, List, ℤ, Option, None, Some}
 use Prim.Native.String.{String}
-use Rattle.std.proofs.Math.Option.{Option, none, some}
 use Rattle.rules.specs.Text.Bytes.{Words}
 use Rattle.rules.specs.Text.Parameters.{Parameter}
 use Rattle.rules.specs.Operators.Acts.{Act}
@@ -33,8 +32,8 @@ pub record Chosen : Type 0 where
   pub arguments : List ℤ
 
 unfoldable pub choose : Operator → Option (List ℤ) → Option Chosen
-choose o none = none
-choose o (some l) = some (record { operator = o; arguments = l })
+choose o None = None
+choose o (Some l) = Some (record { operator = o; arguments = l })
 
 -- an operator, as a text has it
 pub record Wording : Type 0 where

@@ -1,7 +1,6 @@
 -- "`push`, `pop` with flags `v_1` to `v_4`".
-use Rattle.std.specs.Prelude.{ℕ, ◌+◌, Bool, true, false, cond, ◌&&◌, List, [], ◌∷◌, ◌++◌, map, reverse, ltb, ℤ, pos}
+use Rattle.std.specs.Prelude.{ℕ, ◌+◌, Bool, true, false, cond, ◌&&◌, List, [], ◌∷◌, ◌++◌, map, reverse, ltb, ℤ, pos, Some}
 use Prim.Native.String.{String}
-use Rattle.std.proofs.Math.Option.{some}
 use Rattle.rules.specs.Text.Ascii.{ascii}
 use Rattle.rules.specs.Text.Bytes.{Bytes}
 use Rattle.rules.specs.Text.Parameters.{Parameter}
@@ -60,7 +59,7 @@ pop =
     }
 
 abbrev pub push_wording : Wording
-push_wording = record { name = push.name; keys = axis_keys; chosen = λ mode ps. choose Push (some (axes ps)) }
+push_wording = record { name = push.name; keys = axis_keys; chosen = λ mode ps. choose Push (Some (axes ps)) }
 
 abbrev pub pop_wording : Wording
-pop_wording = record { name = pop.name; keys = axis_keys; chosen = λ mode ps. choose Pop (some (axes ps)) }
+pop_wording = record { name = pop.name; keys = axis_keys; chosen = λ mode ps. choose Pop (Some (axes ps)) }

@@ -1,7 +1,6 @@
 -- `stack`: "the seven stack actions".
-use Rattle.std.specs.Prelude.{◌+◌, ◌-◌, Bool, false, cond, not, ◌&&◌, List, [], ◌∷◌, reverse, leb, ltb, eqb, length, ℤ}
+use Rattle.std.specs.Prelude.{◌+◌, ◌-◌, Bool, false, cond, not, ◌&&◌, List, [], ◌∷◌, reverse, leb, ltb, eqb, length, ℤ, Option, None, Some}
 use Prim.Native.String.{String}
-use Rattle.std.proofs.Math.Option.{Option, none, some}
 use Rattle.rules.specs.Text.Ascii.{ascii}
 use Rattle.rules.specs.Text.Lists.{all_of}
 use Rattle.rules.specs.Text.Bytes.{Bytes}
@@ -141,14 +140,14 @@ actions =
     ∷ record { key = "flip"; operator = StackFlip; arguments = λ value. wholes is_places (series value) }
     ∷ record { key = "roll"; operator = StackRoll; arguments = λ value. wholes is_roll (series value) }
     ∷ record { key = "unroll"; operator = StackUnroll; arguments = λ value. wholes is_roll (series value) }
-    ∷ record { key = "swap"; operator = StackSwap; arguments = λ value. some [] }
-    ∷ record { key = "drop"; operator = StackDrop; arguments = λ value. some [] }
+    ∷ record { key = "swap"; operator = StackSwap; arguments = λ value. Some [] }
+    ∷ record { key = "drop"; operator = StackDrop; arguments = λ value. Some [] }
     ∷ []
 
 -- what each action that is given chooses, none where its rule is broken
 unfoldable pub action_then : Action → Option Bytes → List (Option Chosen) → List (Option Chosen)
-action_then a none l = l
-action_then a (some value) l = choose a.operator (a.arguments value) ∷ l
+action_then a None l = l
+action_then a (Some value) l = choose a.operator (a.arguments value) ∷ l
 
 unfoldable pub actions_given : List Parameter → List Action → List (Option Chosen)
 actions_given ps [] = []
@@ -156,9 +155,9 @@ actions_given ps (a ∷ l) = action_then a (value_of (ascii a.key) ps) (actions_
 
 -- "exactly one action"
 unfoldable pub exactly_one : List (Option Chosen) → Option Chosen
-exactly_one [] = none
+exactly_one [] = None
 exactly_one (c ∷ []) = c
-exactly_one (c ∷ d ∷ l) = none
+exactly_one (c ∷ d ∷ l) = None
 
 abbrev pub stack_wording : Wording
 stack_wording = record { name = "stack"; keys = action_keys; chosen = λ mode ps. exactly_one (actions_given ps actions) }

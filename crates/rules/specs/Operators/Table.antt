@@ -1,6 +1,6 @@
 -- All operators: which is which by its number in a record, and by its name in a text. What the general definitions ask of an operator
 -- is asked here.
-use Rattle.std.specs.Prelude.{ℕ, Bool, cond, not, List, [], ◌∷◌, eqb, ℤ}
+use Rattle.std.specs.Prelude.{ℕ, Bool, cond, not, List, [], ◌∷◌, eqb, ℤ, Some, None, Option}
 use Rattle.rules.specs.Text.Ascii.{ascii}
 use Rattle.rules.specs.Text.Bytes.{Bytes, same}
 use Rattle.rules.specs.Operators.Acts.{Act}
@@ -14,8 +14,6 @@ use Rattle.rules.specs.declared.Mode.{Mode}
 use Rattle.rules.specs.declared.Mode.TheVariants as mode
 use Rattle.rules.specs.declared.Name.{Name}
 use Rattle.rules.specs.declared.Name.TheVariants as name
-use Rattle.rules.specs.declared.Named.{Named}
-use Rattle.rules.specs.declared.Named.TheVariants.{Is, Not}
 
 -- ---- by number
 
@@ -98,10 +96,10 @@ unfoldable pub names : List Name
 names = name.Push ∷ name.Pop ∷ name.Stack ∷ name.Axisswap ∷ name.Adapt ∷ []
 
 -- "one of the five", or not
-unfoldable pub name_in : List Name → Bytes → Named
-name_in [] t = Not
-name_in (n ∷ ns) t = cond (same t (ascii (wording_of n).name)) (Is n) (name_in ns t)
+unfoldable pub name_in : List Name → Bytes → Option Name
+name_in [] t = None
+name_in (n ∷ ns) t = cond (same t (ascii (wording_of n).name)) (Some n) (name_in ns t)
 
-unfoldable pub name_of : Bytes → Named
+unfoldable pub name_of : Bytes → Option Name
 unfolding name_in names
 name_of t = name_in names t

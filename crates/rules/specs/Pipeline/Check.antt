@@ -1,7 +1,6 @@
 -- The check: the steps run on signed places instead of numbers.
-use Rattle.std.specs.Prelude.{◌≡◌, ℕ, ◌-◌, Bool, true, false, cond, not, List, [], ◌∷◌, ◌++◌, length, get_or, replicate, ltb, eqb}
+use Rattle.std.specs.Prelude.{◌≡◌, ℕ, ◌-◌, Bool, true, false, cond, not, List, [], ◌∷◌, ◌++◌, length, get_or, replicate, ltb, eqb, Option, None, Some}
 use Rattle.std.proofs.Math.Bool.{xor}
-use Rattle.std.proofs.Math.Option.{Option, none, some}
 use Rattle.rules.specs.Text.Lists.{any_of}
 use Rattle.rules.specs.Pipeline.Record.{no_span, blank, refusal18}
 use Rattle.rules.specs.Operators.Axisswap.{reordered}
@@ -136,8 +135,8 @@ answered (TooMany k) t l = only (TooMany k) (span_at k t)
 answered (Refused number k) t l = only (Refused number k) no_span
 
 unfoldable pub checked : Option ℕ → List Step → List Numbered → Foretold
-checked (some k) t l = only (Refused 18 k) no_span
-checked none t l = answered (verdict l begin) t l
+checked (Some k) t l = only (Refused 18 k) no_span
+checked None t l = answered (verdict l begin) t l
 
 -- the check of a step table in a direction
 unfoldable pub check : Direction → List Step → Foretold

@@ -1,7 +1,7 @@
 -- Preparing: from a text to its step records, or the refusal.
-use Rattle.std.specs.Prelude.{ℕ, suc, cond, List, [], ◌∷◌, map, length, ltb, ℤ}
+use Rattle.rules.specs.declared.Refusal.{Refusal}
+use Rattle.std.specs.Prelude.{ℕ, suc, cond, List, [], ◌∷◌, map, length, ltb, ℤ, Option, None, Some, Result}
 use Prim.Native.String.{String}
-use Rattle.std.proofs.Math.Option.{Option, none, some}
 use Rattle.rules.specs.Text.Ascii.{ascii}
 use Rattle.rules.specs.Text.Lists.{any_of}
 use Rattle.rules.specs.Text.Bytes.{Bytes, Words, words}
@@ -21,9 +21,6 @@ use Rattle.rules.specs.declared.Mode.{Mode}
 use Rattle.rules.specs.declared.Mode.TheVariants as mode
 use Rattle.rules.specs.declared.Step.{Step}
 use Rattle.rules.specs.declared.Name.{Name}
-use Rattle.rules.specs.declared.Named.{Named}
-use Rattle.rules.specs.declared.Named.TheVariants.{Is, Not}
-use Rattle.rules.specs.declared.Prepared.{Prepared}
 
 -- ---- the record of one step
 
@@ -35,8 +32,8 @@ unfoldable pub record_of : Operator → List Parameter → List ℤ → Step
 record_of o ps l = step_with (number_of o) l (mark "inv" ps) (mark "omit_fwd" ps) (mark "omit_inv" ps)
 
 unfoldable pub recorded : List Parameter → Option Chosen → Option Step
-recorded ps none = none
-recorded ps (some c) = some (record_of c.operator ps c.arguments)
+recorded ps None = None
+recorded ps (Some c) = Some (record_of c.operator ps c.arguments)
 
 -- the record that the operator's own rule gives; none for 14, "the operator's own rule is broken"
 unfoldable pub own_rule : Mode → Name → List Parameter → Option Step
@@ -46,8 +43,8 @@ own_rule m n ps = recorded ps ((wording_of n).chosen m ps)
 
 -- "judging 14 only if no other applies"
 unfoldable pub judged14 : Option Step → Reply Step
-judged14 none = refuses 14 0
-judged14 (some s) = answers s
+judged14 None = refuses 14 0
+judged14 (Some s) = answers s
 
 -- "its lowest number of .. 9 to 14": 11, 12, 13, then 14
 unfoldable pub judged11 : Mode → Name → List Parameter → Reply Step
@@ -58,13 +55,13 @@ judged11 m n ps =
     (judged14 (own_rule m n ps))))
 
 -- 10: "no operator name, or not one of the five"
-unfoldable pub named : Option Bytes → Named
-named none = Not
-named (some value) = name_of value
+unfoldable pub named : Option Bytes → Option Name
+named None = None
+named (Some value) = name_of value
 
-unfoldable pub judged10 : Mode → Named → List Parameter → Reply Step
-judged10 m Not ps = refuses 10 0
-judged10 m (Is n) ps = judged11 m n ps
+unfoldable pub judged10 : Mode → Option Name → List Parameter → Reply Step
+judged10 m None ps = refuses 10 0
+judged10 m (Some n) ps = judged11 m n ps
 
 unfoldable pub judged : Mode → List Parameter → Reply Step
 judged m ps = judged10 m (named (value_of (ascii "_name") ps)) ps
@@ -113,8 +110,8 @@ unfoldable pub prepare_as : Reading → Mode → Bytes → Reply (List Step)
 prepare_as r m t = and_then (prepare_in m t) (λ l. answers (map (in_reading r) l))
 
 -- what preparing promises: the answer, and the lent step table afterwards
-abbrev pub Prepares : Bytes → List Step → Prepared → List Step → Type 0
+abbrev pub Prepares : Bytes → List Step → Result ℕ Refusal → List Step → Type 0
 Prepares text table result table' = Promised prepared prepare text table result table'
 
-abbrev pub PreparesAs : Reading → Mode → Bytes → List Step → Prepared → List Step → Type 0
+abbrev pub PreparesAs : Reading → Mode → Bytes → List Step → Result ℕ Refusal → List Step → Type 0
 PreparesAs r m text table result table' = Promised prepared (prepare_as r m) text table result table'

@@ -1,7 +1,6 @@
 -- Step records: one is made in one place, `step_with`, named for its reading, and told where its text stands; the records that a preparation
 -- makes, by one test; and a table of them.
-use Rattle.std.specs.Prelude.{ℕ, suc, ◌+◌, ◌-◌, Bool, cond, ◌&&◌, List, [], ◌∷◌, ◌++◌, length, take, drop, replicate, leb, ltb, eqb, ℤ, pos}
-use Rattle.std.proofs.Math.Option.{Option, none, some}
+use Rattle.std.specs.Prelude.{ℕ, suc, ◌+◌, ◌-◌, Bool, cond, ◌&&◌, List, [], ◌∷◌, ◌++◌, length, take, drop, replicate, leb, ltb, eqb, ℤ, pos, Option, None, Some}
 use Rattle.rules.specs.Text.Lists.{all_of}
 use Rattle.rules.specs.Operators.Arguments.{size}
 use Rattle.rules.specs.Operators.Descriptions.{Operator}
@@ -139,12 +138,12 @@ good_in reading end s = made s && (eqb s.reading reading && good_span end s.span
 
 -- the first bad record, counted from k, of records in that reading, behind one whose span ends there
 unfoldable pub first_bad : ℕ → ℕ → ℕ → List Step → Option ℕ
-first_bad reading end k [] = none
-first_bad reading end k (s ∷ l) = cond (good_in reading end s) (first_bad reading (span_end s.span) (suc k) l) (some k)
+first_bad reading end k [] = None
+first_bad reading end k (s ∷ l) = cond (good_in reading end s) (first_bad reading (span_end s.span) (suc k) l) (Some k)
 
 -- "18 is 0 for over 64 records, else the first bad record": the place of refusal 18, if it is given
 unfoldable pub refusal18 : List Step → Option ℕ
-refusal18 l = cond (ltb 64 (length l)) (some 0) (first_bad (table_reading l) 0 1 l)
+refusal18 l = cond (ltb 64 (length l)) (Some 0) (first_bad (table_reading l) 0 1 l)
 
 -- ---- a table by value
 

@@ -1,7 +1,6 @@
 -- The text of a step record: the operator's name, its arguments, its marks, with one space between. And the call `write`.
-use Rattle.std.specs.Prelude.{ℕ, suc, ◌+◌, cond, List, [], ◌∷◌, ◌++◌, map, length, ℤ}
+use Rattle.std.specs.Prelude.{ℕ, suc, ◌+◌, cond, List, [], ◌∷◌, ◌++◌, map, length, ℤ, Option, None, Some}
 use Prim.Native.String.{String}
-use Rattle.std.proofs.Math.Option.{Option, none, some}
 use Rattle.rules.specs.Text.Ascii.{ascii}
 use Rattle.rules.specs.Text.Bytes.{Bytes, Words, joined_by, joined}
 use Rattle.rules.specs.Text.Refusal.{Reply, answers, refuses}
@@ -53,8 +52,8 @@ written_spans l = spans_in_turn 0 (map writing l)
 
 -- 18 at its place, and else the text
 unfoldable pub written_unless18 : Option ℕ → Bytes → Reply Bytes
-written_unless18 none text = answers text
-written_unless18 (some place) text = refuses 18 place
+written_unless18 None text = answers text
+written_unless18 (Some place) text = refuses 18 place
 
 unfoldable pub write : List Step → Reply Bytes
 write l = written_unless18 (refusal18 l) (table_writing l)

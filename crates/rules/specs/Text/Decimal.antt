@@ -1,12 +1,9 @@
 -- Numbers in decimal form, series of them, and whole numbers.
-use Rattle.std.specs.Prelude.{ℕ, zero, suc, ◌+◌, ◌-◌, ◌*◌, ◌^◌, Bool, true, false, cond, not, ◌&&◌, ◌||◌, List, [], ◌∷◌, length, leb, eqb, ℤ, pos, negsuc}
-use Rattle.std.proofs.Math.Option.{Option, none, some}
+use Rattle.std.specs.Prelude.{ℕ, zero, suc, ◌+◌, ◌-◌, ◌*◌, ◌^◌, Bool, true, false, cond, not, ◌&&◌, ◌||◌, List, [], ◌∷◌, length, leb, eqb, ℤ, pos, negsuc, Option, None, Some}
 use Rattle.rules.specs.Text.Ascii.{is}
 use Rattle.rules.specs.Text.Lists.{any_of, all_of}
 use Rattle.rules.specs.Text.Bytes.{Bytes, before, behind, cut}
 use Rattle.rules.specs.declared.Decimal.{Decimal}
-use Rattle.rules.specs.declared.Number.{Number}
-use Rattle.rules.specs.declared.Number.TheVariants.{Is, Not}
 
 -- ---- decimal form
 
@@ -27,19 +24,19 @@ unfoldable pub plain_form : Bytes → Bool
 plain_form t = digits_to 9 (before (is ".") t) && (not (any_of (is ".") t) || digits_to 6 (behind (is ".") t))
 
 -- its exact value: whole, and the fraction in millionths
-unfoldable pub plain : Bool → Bytes → Number
+unfoldable pub plain : Bool → Bytes → Option Decimal
 plain minus t =
     cond (plain_form t)
-    (Is (record {
+    (Some (record {
       minus = minus;
       whole = spelled 0 (before (is ".") t);
       millionths = spelled 0 (behind (is ".") t) * 10 ^ (6 - length (behind (is ".") t));
     }))
-    Not
+    None
 
 -- "Decimal form: optional minus, 1 to 9 digits, optionally a point and 1 to 6 digits."
-unfoldable pub decimal : Bytes → Number
-decimal [] = Not
+unfoldable pub decimal : Bytes → Option Decimal
+decimal [] = None
 decimal (b ∷ t) = cond (is "-" b) (plain true t) (plain false (b ∷ t))
 
 -- ---- series
@@ -49,13 +46,13 @@ unfoldable pub pieces : Bytes → List Bytes
 pieces value = cut (is ",") value
 
 -- one number more in front, if it is one
-unfoldable pub number_then : Number → Option (List Decimal) → Option (List Decimal)
-number_then Not r = none
-number_then (Is d) none = none
-number_then (Is d) (some ds) = some (d ∷ ds)
+unfoldable pub number_then : Option Decimal → Option (List Decimal) → Option (List Decimal)
+number_then None r = None
+number_then (Some d) None = None
+number_then (Some d) (Some ds) = Some (d ∷ ds)
 
 unfoldable pub all_numbers : List Bytes → Option (List Decimal)
-all_numbers [] = some []
+all_numbers [] = Some []
 all_numbers (p ∷ ps) = number_then (decimal p) (all_numbers ps)
 
 -- the numbers of a series; none if an element is not in decimal form ("an empty piece or value is not in decimal form")
@@ -63,9 +60,9 @@ unfoldable pub series : Bytes → Option (List Decimal)
 series value = all_numbers (pieces value)
 
 -- is it a number?
-unfoldable pub is_number : Number → Bool
-is_number (Is d) = true
-is_number Not = false
+unfoldable pub is_number : Option Decimal → Bool
+is_number (Some d) = true
+is_number None = false
 
 -- where the first piece of a series begins that "breaks decimal form": behind those before it, and their commas
 unfoldable pub broken_from : List Bytes → ℕ

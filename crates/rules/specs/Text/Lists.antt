@@ -1,6 +1,5 @@
 -- Tests on lists: what the definitions on texts, words and steps share.
-use Rattle.std.specs.Prelude.{ℕ, suc, Bool, true, false, cond, ◌&&◌, ◌||◌, List, [], ◌∷◌}
-use Rattle.std.proofs.Math.Option.{Option, none, some}
+use Rattle.std.specs.Prelude.{ℕ, suc, Bool, true, false, cond, ◌&&◌, ◌||◌, List, [], ◌∷◌, Option, None, Some}
 
 module _ {A : Type 0} where
   -- does one of them pass the test?
@@ -30,5 +29,5 @@ module _ {A : Type 0} where
 
   -- is there none?
   unfoldable pub is_none : Option A → Bool
-  is_none none = true
-  is_none (some x) = false
+  is_none None = true
+  is_none (Some x) = false

@@ -1,5 +1,5 @@
 -- The walk over the steps: "a reader that knows the normalised text and its place in it". And where the steps stand.
-use Rattle.std.specs.Prelude.{ℕ, suc, ◌+◌, ◌-◌, cond, List, [], ◌∷◌, length, take, drop}
+use Rattle.std.specs.Prelude.{ℕ, suc, ◌+◌, ◌-◌, cond, List, [], ◌∷◌, length, take, drop, Option, Some, None}
 use Rattle.rules.specs.Text.Ascii.{is}
 use Rattle.rules.specs.Text.Lists.{non_empty}
 use Rattle.rules.specs.Text.Bytes.{Bytes, Steps, cut, words}
@@ -8,20 +8,24 @@ use Rattle.rules.specs.Text.Normal.{normal}
 use Rattle.rules.specs.Text.Comments.{stripped}
 use Rattle.rules.specs.Text.Split.{steps_of}
 use Rattle.rules.specs.declared.Span.{Span}
+use Rattle.rules.specs.declared.Cursor.{Cursor}
 use Rattle.rules.specs.declared.Found.{Found}
-use Rattle.rules.specs.declared.Found.TheVariants.{Step, End}
 
--- a step that is found, from its first byte's place up to the place after its last: the reader's place is then that one
-abbrev pub step : ℕ → ℕ → Found
-step from to = Step from to (record { at = to })
+-- a step that is found, from its first byte's place up to the place after its last, and where to go on
+abbrev pub step_then : ℕ → ℕ → Cursor → Option Found
+step_then from to then = Some (record { from = from; to = to; then = then })
+
+-- in the walk the reader's place is then the one after its last byte
+abbrev pub step : ℕ → ℕ → Option Found
+step from to = step_then from to (record { at = to })
 
 -- of pieces that follow each other from a place on, the first that is not empty
-unfoldable pub found : ℕ → List Bytes → Found
-found place [] = End
+unfoldable pub found : ℕ → List Bytes → Option Found
+found place [] = None
 found place (p ∷ ps) = cond (non_empty (words p)) (step place (place + length p)) (found (place + suc (length p)) ps)
 
 -- the next step from the reader's place on
-unfoldable pub next : Bytes → ℕ → Found
+unfoldable pub next : Bytes → ℕ → Option Found
 next normalised place = found place (cut (is "|") (drop place normalised))
 
 -- the bytes from one place up to another
@@ -29,9 +33,9 @@ abbrev pub part : ℕ → ℕ → Bytes → Bytes
 part from to t = take (to - from) (drop from t)
 
 -- The steps that a find tells of: the one found, and all from there on. They are the steps from the reader's place on.
-unfoldable pub walked : Bytes → Found → Steps
-walked normalised End = []
-walked normalised (Step from to then) = words (part from to normalised) ∷ steps_of (drop then.at normalised)
+unfoldable pub walked : Bytes → Option Found → Steps
+walked normalised None = []
+walked normalised (Some f) = words (part f.from f.to normalised) ∷ steps_of (drop f.then.at normalised)
 
 -- ---- spans
 

@@ -1,10 +1,7 @@
 -- Answers and refusals, and what a call that reads a text leaves in the storage that it is lent.
-use Rattle.std.specs.Prelude.{◌≡◌, ℕ, cond, not, List, ◌++◌, length, drop, ltb}
+use Rattle.std.specs.Prelude.{◌≡◌, ℕ, cond, not, List, ◌++◌, length, drop, ltb, Result, Ok, Err}
 use Rattle.rules.specs.Text.Bytes.{Bytes, in_domain}
-use Rattle.rules.specs.declared.Written.{Written}
-use Rattle.rules.specs.declared.Written.TheVariants as written_is
-use Rattle.rules.specs.declared.Prepared.{Prepared}
-use Rattle.rules.specs.declared.Prepared.TheVariants as prepared-is
+use Rattle.rules.specs.declared.Refusal.{Refusal}
 
 -- a reply: an answer; or "A refusal returns its number and a place"; or refusal 12, at a place and an offset: "12 gains the offset"
 pub data Reply (A : Type 0) : Type 0 where
@@ -47,25 +44,36 @@ module _ {A R : Type 0} (in_words : Reply ℕ → R) where
   pub record Promised (own : Bytes → Reply (List A)) (text : Bytes) (storage : List A) (result : R) (storage' : List A) : Type 0 where
     pub exactly : ◌≡◌ {A = R × List A} (result, storage') (outcome own text storage)
 
+-- a refusal with this number and place, and no offset
+abbrev pub told : ℕ → ℕ → Refusal
+told number place = record { number = number; place = place; offset = 0 }
+
+-- the answer that is a refusal; and one with an offset
+abbrev pub refusal : {A : Type 0} → ℕ → ℕ → Result A Refusal
+refusal number place = Err (told number place)
+
+abbrev pub refusal_at : {A : Type 0} → ℕ → ℕ → ℕ → Result A Refusal
+refusal_at number place offset = Err (record { number = number; place = place; offset = offset })
+
 -- "Where an answer is an enum, a definition gives this paper's number and values for each of its cases, and the promises
 -- use that definition": a text call's answer, and preparing's. Only preparing refuses 12; of any other refusal the offset is 0.
-unfoldable pub written : Reply ℕ → Written
-written (answers n) = written_is.Wrote n
-written (refuses number place) = written_is.Refused number place
-written (refuses12 place offset) = written_is.Refused 12 place
+unfoldable pub written : Reply ℕ → Result ℕ Refusal
+written (answers n) = Ok n
+written (refuses number place) = refusal number place
+written (refuses12 place offset) = refusal 12 place
 
-unfoldable pub prepared : Reply ℕ → Prepared
-prepared (answers n) = prepared-is.Steps n
-prepared (refuses number place) = prepared-is.Refused number place 0
-prepared (refuses12 place offset) = prepared-is.Refused 12 place offset
+unfoldable pub prepared : Reply ℕ → Result ℕ Refusal
+prepared (answers n) = Ok n
+prepared (refuses number place) = refusal number place
+prepared (refuses12 place offset) = refusal_at 12 place offset
 
 -- what a text call promises, by its own rule
-abbrev pub Writes : (Bytes → Reply Bytes) → Bytes → Bytes → Written → Bytes → Type 0
+abbrev pub Writes : (Bytes → Reply Bytes) → Bytes → Bytes → Result ℕ Refusal → Bytes → Type 0
 Writes own text buffer result buffer' = Promised written own text buffer result buffer'
 
 -- what a call that reads no text promises: its reply, brought into the lent buffer
-pub record Lends (reply : Reply Bytes) (buffer : Bytes) (result : Written) (buffer' : Bytes) : Type 0 where
-  pub exactly : ◌≡◌ {A = Written × Bytes} (result, buffer') (lent written reply buffer)
+pub record Lends (reply : Reply Bytes) (buffer : Bytes) (result : Result ℕ Refusal) (buffer' : Bytes) : Type 0 where
+  pub exactly : ◌≡◌ {A = Result ℕ Refusal × Bytes} (result, buffer') (lent written reply buffer)
 
 -- What a function leaves in a buffer that has room for it: the text stands at the front, the rest is as it was, and the text's length
 -- is returned.

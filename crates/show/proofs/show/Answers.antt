@@ -10,21 +10,21 @@ use Rattle.show.proofs.show.Goals as goal
 
 pub slice_bounds-show_translation-end : goal.slice_bounds-show_translation-end
 slice_bounds-show_translation-end c =
-    called-fits c.in-Wrote.is c.translate-written.ensures
+    called-fits c.in-Ok.is c.translate-written.ensures
 
-pub slice_bounds-show_translation-end-in-Wrote : goal.slice_bounds-show_translation-end-in-Wrote
-slice_bounds-show_translation-end-in-Wrote c =
-    called-counts c.in-Wrote.is c.translate-written.ensures
+pub slice_bounds-show_translation-end-in-Ok : goal.slice_bounds-show_translation-end-in-Ok
+slice_bounds-show_translation-end-in-Ok c =
+    called-counts c.in-Ok.is c.translate-written.ensures
 
 pub show_translation-requires : goal.show_translation-requires
 show_translation-requires c = record {
   b_len = c.requires.b_len;
   text_in_bounds = room-so (shown c.args.reading c.args.mode c.args.text.now)
-      (translated_line (take c.in-Wrote.n c.translate-written.new.out) ++ shown_steps
+      (translated_line (take c.in-Ok.n c.translate-written.new.out) ++ shown_steps
       c.args.reading c.args.mode
-      (take c.in-Wrote.n c.translate-written.new.out)) c.args.out.now 0
+      (take c.in-Ok.n c.translate-written.new.out)) c.args.out.now 0
       (text-wrote c.args.reading c.args.mode c.args.text.now
-      (called-wrote c.in-Wrote.is c.translate-written.ensures c.requires.a_len
+      (called-wrote c.in-Ok.is c.translate-written.ensures c.requires.a_len
       c.translate-written.auto.out))
       (shown-room c.args.reading c.args.mode c.args.text.now c.args.out.now c.requires.in_bounds);
 }
@@ -32,29 +32,29 @@ show_translation-requires c = record {
 pub say_refusal-requires : goal.say_refusal-requires
 say_refusal-requires c =
     room-so (shown c.args.reading c.args.mode c.args.text.now)
-    (line (refusal_text c.in-Refused.number c.in-Refused.place)) c.args.out.now 0
+    (line (refusal_text c.in-Err.refusal.number c.in-Err.refusal.place)) c.args.out.now 0
     (text-refused c.args.reading c.args.mode c.args.text.now
-    (called-refused (translate-other c.args.text.now) c.in-Refused.is c.translate-written.ensures c.requires.a_len))
+    (called-refused (translate-other c.args.text.now) c.in-Err.is c.translate-written.ensures c.requires.a_len))
     (shown-room c.args.reading c.args.mode c.args.text.now c.args.out.now c.requires.in_bounds)
 
-pub returns-in-Wrote : goal.returns-in-Wrote
-returns-in-Wrote c =
+pub returns-in-Ok : goal.returns-in-Ok
+returns-in-Ok c =
     front-so (said-so (shown c.args.reading c.args.mode c.args.text.now)
-    (translated_line (take c.in-Wrote.n
+    (translated_line (take c.in-Ok.n
     c.translate-written.new.out) ++ shown_steps
     c.args.reading c.args.mode
-    (take c.in-Wrote.n
+    (take c.in-Ok.n
     c.translate-written.new.out)) c.args.out.now 0
     (text-wrote c.args.reading c.args.mode c.args.text.now
-    (called-wrote c.in-Wrote.is
+    (called-wrote c.in-Ok.is
     c.translate-written.ensures c.requires.a_len
     c.translate-written.auto.out)) c.show_translation.ensures)
 
-pub returns-in-Refused : goal.returns-in-Refused
-returns-in-Refused c =
+pub returns-in-Err : goal.returns-in-Err
+returns-in-Err c =
     front-so (said-so (shown c.args.reading c.args.mode c.args.text.now)
-    (line (refusal_text c.in-Refused.number c.in-Refused.place)) c.args.out.now 0
+    (line (refusal_text c.in-Err.refusal.number c.in-Err.refusal.place)) c.args.out.now 0
     (text-refused c.args.reading c.args.mode c.args.text.now
-    (called-refused (translate-other c.args.text.now) c.in-Refused.is
+    (called-refused (translate-other c.args.text.now) c.in-Err.is
     c.translate-written.ensures c.requires.a_len))
     c.say_refusal.ensures)

@@ -12,54 +12,54 @@ say_checks-requires c =
     (checks-told c.args.reading c.args.mode c.args.text.now
     (prepare-steps c.args.reading c.args.mode c.args.text.now c.empty.ensures
     c.prepare_as-p.ensures
-    c.in-Steps.is c.first_of-steps.ensures)) c.requires
+    c.in-Ok.is c.first_of-steps.ensures)) c.requires
 
 pub say_offset-requires : goal.say_offset-requires
 say_offset-requires c =
     room-so (shown_checks c.args.reading c.args.mode c.args.text.now)
-    (line (offset_text c.in-Refused.place c.in-Refused.offset))
+    (line (offset_text c.in-Err.refusal.place c.in-Err.refusal.offset))
     c.args.out.now c.args.at
     (checks-located c.args.reading c.args.mode c.args.text.now
     (prepare-faulty c.args.reading c.args.mode c.args.text.now c.empty.ensures
     c.prepare_as-p.ensures
-    c.in-Refused.is c.if-number-eq12.true)) c.requires
+    c.in-Err.is c.if-refusal-eq12.true)) c.requires
 
-pub returns-then-number-eq12 : goal.returns-then-number-eq12
-returns-then-number-eq12 c =
+pub returns-then-refusal-eq12 : goal.returns-then-refusal-eq12
+returns-then-refusal-eq12 c =
     said-so (shown_checks c.args.reading c.args.mode c.args.text.now)
-    (line (offset_text c.in-Refused.place c.in-Refused.offset))
+    (line (offset_text c.in-Err.refusal.place c.in-Err.refusal.offset))
     c.args.out.now c.args.at
     (checks-located c.args.reading c.args.mode c.args.text.now
     (prepare-faulty c.args.reading c.args.mode c.args.text.now c.empty.ensures
     c.prepare_as-p.ensures
-    c.in-Refused.is c.if-number-eq12.true)) c.say_offset.ensures
+    c.in-Err.is c.if-refusal-eq12.true)) c.say_offset.ensures
 
 pub say_refusal-requires : goal.say_refusal-requires
 say_refusal-requires c =
     room-so (shown_checks c.args.reading c.args.mode c.args.text.now)
-    (line (refusal_text c.in-Refused.number c.in-Refused.place))
+    (line (refusal_text c.in-Err.refusal.number c.in-Err.refusal.place))
     c.args.out.now c.args.at
     (checks-refused c.args.reading c.args.mode c.args.text.now
     (prepare-refused c.args.reading c.args.mode c.args.text.now c.empty.ensures
     c.prepare_as-p.ensures
-    c.in-Refused.is c.if-number-eq12.false)) c.requires
+    c.in-Err.is c.if-refusal-eq12.false)) c.requires
 
-pub returns-in-Steps : goal.returns-in-Steps
-returns-in-Steps c =
+pub returns-in-Ok : goal.returns-in-Ok
+returns-in-Ok c =
     said-so (shown_checks c.args.reading c.args.mode c.args.text.now) (both_checks (listed c.first_of-steps.result))
     c.args.out.now c.args.at
     (checks-told c.args.reading c.args.mode c.args.text.now
     (prepare-steps c.args.reading c.args.mode c.args.text.now
     c.empty.ensures
-    c.prepare_as-p.ensures c.in-Steps.is
+    c.prepare_as-p.ensures c.in-Ok.is
     c.first_of-steps.ensures)) c.say_checks.ensures
 
-pub returns-else-number-eq12 : goal.returns-else-number-eq12
-returns-else-number-eq12 c =
+pub returns-else-refusal-eq12 : goal.returns-else-refusal-eq12
+returns-else-refusal-eq12 c =
     said-so (shown_checks c.args.reading c.args.mode c.args.text.now)
-    (line (refusal_text c.in-Refused.number c.in-Refused.place))
+    (line (refusal_text c.in-Err.refusal.number c.in-Err.refusal.place))
     c.args.out.now c.args.at
     (checks-refused c.args.reading c.args.mode c.args.text.now
     (prepare-refused c.args.reading c.args.mode c.args.text.now c.empty.ensures
     c.prepare_as-p.ensures
-    c.in-Refused.is c.if-number-eq12.false)) c.say_refusal.ensures
+    c.in-Err.is c.if-refusal-eq12.false)) c.say_refusal.ensures

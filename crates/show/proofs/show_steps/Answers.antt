@@ -10,45 +10,45 @@ use Rattle.show.proofs.show_steps.Goals as goal
 
 pub slice_bounds-show_lines-end : goal.slice_bounds-show_lines-end
 slice_bounds-show_lines-end c =
-    called-fits c.in-Wrote.is c.split-written.ensures
+    called-fits c.in-Ok.is c.split-written.ensures
 
-pub slice_bounds-show_lines-end-in-Wrote : goal.slice_bounds-show_lines-end-in-Wrote
-slice_bounds-show_lines-end-in-Wrote c =
-    called-counts c.in-Wrote.is c.split-written.ensures
+pub slice_bounds-show_lines-end-in-Ok : goal.slice_bounds-show_lines-end-in-Ok
+slice_bounds-show_lines-end-in-Ok c =
+    called-counts c.in-Ok.is c.split-written.ensures
 
 pub show_lines-requires : goal.show_lines-requires
 show_lines-requires c =
     room-so (shown_steps c.args.reading c.args.mode c.args.text.now)
-    (headed 1 false (take c.in-Wrote.n c.split-written.new.out) ++ shown_checks
+    (headed 1 false (take c.in-Ok.n c.split-written.new.out) ++ shown_checks
     c.args.reading c.args.mode c.args.text.now) c.args.out.now c.args.at
     (steps-wrote c.args.reading c.args.mode c.args.text.now
-    (called-wrote c.in-Wrote.is c.split-written.ensures c.requires.b_len
+    (called-wrote c.in-Ok.is c.split-written.ensures c.requires.b_len
     c.split-written.auto.out)) c.requires.text_in_bounds
 
 pub say_refusal-requires : goal.say_refusal-requires
 say_refusal-requires c =
     room-so (shown_steps c.args.reading c.args.mode c.args.text.now)
-    (line (refusal_text c.in-Refused.number c.in-Refused.place))
+    (line (refusal_text c.in-Err.refusal.number c.in-Err.refusal.place))
     c.args.out.now c.args.at
     (steps-refused c.args.reading c.args.mode c.args.text.now
-    (called-refused (split-other c.args.text.now) c.in-Refused.is c.split-written.ensures c.requires.b_len))
+    (called-refused (split-other c.args.text.now) c.in-Err.is c.split-written.ensures c.requires.b_len))
     c.requires.text_in_bounds
 
-pub returns-in-Wrote : goal.returns-in-Wrote
-returns-in-Wrote c =
+pub returns-in-Ok : goal.returns-in-Ok
+returns-in-Ok c =
     said-so (shown_steps c.args.reading c.args.mode c.args.text.now)
-    (headed 1 false (take c.in-Wrote.n
+    (headed 1 false (take c.in-Ok.n
     c.split-written.new.out) ++ shown_checks c.args.reading c.args.mode
     c.args.text.now) c.args.out.now c.args.at
     (steps-wrote c.args.reading c.args.mode c.args.text.now
-    (called-wrote c.in-Wrote.is c.split-written.ensures
+    (called-wrote c.in-Ok.is c.split-written.ensures
     c.requires.b_len c.split-written.auto.out)) c.show_lines.ensures
 
-pub returns-in-Refused : goal.returns-in-Refused
-returns-in-Refused c =
+pub returns-in-Err : goal.returns-in-Err
+returns-in-Err c =
     said-so (shown_steps c.args.reading c.args.mode c.args.text.now)
-    (line (refusal_text c.in-Refused.number c.in-Refused.place)) c.args.out.now c.args.at
+    (line (refusal_text c.in-Err.refusal.number c.in-Err.refusal.place)) c.args.out.now c.args.at
     (steps-refused c.args.reading c.args.mode c.args.text.now
-    (called-refused (split-other c.args.text.now) c.in-Refused.is
+    (called-refused (split-other c.args.text.now) c.in-Err.is
     c.split-written.ensures c.requires.b_len))
     c.say_refusal.ensures

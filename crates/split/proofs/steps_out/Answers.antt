@@ -1,20 +1,12 @@
 -- `steps_out`: `lines_of` leaves splitting's reply in b (`Lined`). A refusal is returned as it is, and out is untouched; an answer is handed
 -- out from b, which refuses 7.
-use mathlib.Core.Path.{sym}
-use lib.Seq.{length-take-le}
-use Rattle.split.proofs.Laws.{out-refused, out-fits, out-answer}
+use mathlib.Core.Path.{◌≡◌}
+use borrow.Author.Rules.{rules}
+use Rattle.std.specs.Prelude.{Err}
+use Rattle.split.proofs.Laws.{out-refused}
 use Rattle.split.proofs.steps_out.Goals as goal
 
-pub slice_bounds-hand_out-end : goal.slice_bounds-hand_out-end
-slice_bounds-hand_out-end c = out-fits c.lines_of-lined.ensures c.in-Wrote.is
-
-pub slice_bounds-hand_out-end-in-Wrote : goal.slice_bounds-hand_out-end-in-Wrote
-slice_bounds-hand_out-end-in-Wrote c =
-    sym (length-take-le _ _ (out-fits c.lines_of-lined.ensures c.in-Wrote.is))
-
-pub returns-in-Refused : goal.returns-in-Refused
-returns-in-Refused c = out-refused c.lines_of-lined.ensures c.in-Refused.is
-
-pub returns-in-Wrote : goal.returns-in-Wrote
-returns-in-Wrote c =
-    out-answer c.lines_of-lined.ensures c.in-Wrote.is c.hand_out.ensures
+pub returns-in_err-m : goal.returns-in_err-m
+returns-in_err-m c =
+    let e : c.from_residual.result ≡ Err c.in_err-m.field-0.0 = search rules in
+    rw e (out-refused c.lines_of.ensures c.in_err-m.was)

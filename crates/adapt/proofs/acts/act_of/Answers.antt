@@ -1,13 +1,13 @@
--- `act_of`: each arm knows its direction: forward the act adapts, inverse it adapts back, in the mode and with the same arguments.
+-- `act_of`: forward the act adapts, inverse it adapts back, in the mode and with the same arguments.
 use mathlib.Core.Path.{sym}
 use Rattle.rules.specs.Pipeline.Running.{act_of}
 use Rattle.columns.specs.Doings.{does, doing, able}
 use Rattle.adapt.proofs.ActIn.{forward-in, inverse-in}
 use Rattle.adapt.proofs.acts.act_of.Goals as goal
 
-pub returns-in-Forward : goal.returns-in-Forward
+pub returns-in_default : goal.returns-in_default
 unfolding act_of doing does able
-returns-in-Forward c = rw c.in-Forward.is (record { same = sym (forward-in _ _); slots = c.requires.n_bound; rule = c.requires.args_value })
+returns-in_default c = rw c.in_default.is (record { same = sym (forward-in _ _); slots = c.requires.n_bound; rule = c.requires.args_value })
 
 pub returns-in-Inverse : goal.returns-in-Inverse
 unfolding act_of doing does able

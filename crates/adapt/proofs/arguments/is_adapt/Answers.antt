@@ -1,25 +1,23 @@
--- `is_adapt`: the code asks the same as `is_adapt`, an order of four and four factors; the first test that fails decides.
+-- `is_adapt`: the code asks the same as `is_adapt`, an order of four and four factors.
+use Rattle.std.proofs.Common.{arith, ◌≡◌, ◌∙◌, ap, drop}
+use Rattle.std.proofs.lemmas.Bool.Decides.{nat_tests}
 use Rattle.numbers.proofs.Rest.{rest_of}
-use mathlib.Core.Path.{refl, sym, ap, ◌∙◌}
-use native.Mathlib.Omega.{arith}
-use borrow.Author.Tests.{ne_eqb}
-use lib.ListN.{length-take}
-use Rattle.rules.specs.Operators.Adapt.{is_adapt}
-use Rattle.laws_lists.specs.Tests.{not_so, not_left}
 use Rattle.adapt.specs.Arguments.{are_factors}
-use Rattle.adapt.proofs.AdaptTest.{adapt-tests}
+use Rattle.adapt.proofs.AdaptTest.{adapt-tests, adapt-short}
 use Rattle.adapt.proofs.arguments.is_adapt.Goals as goal
+use Rattle.adapt.proofs.arguments.is_adapt.Goals.{then-l-eq8, else-l-eq8}
 
-pub returns-then-l-ne8 : goal.returns-then-l-ne8
-unfolding is_adapt
-returns-then-l-ne8 c = rw (ne_eqb _ _ c.if-l-ne8.true) refl
+pub returns-then-is_order : goal.returns-then-is_order
+returns-then-is_order c =
+    let r : c.are_factors.result ≡ are_factors (drop 4 c.args.l.now) = c.are_factors.ensures ∙ ap are_factors (rest_of c.args.l.now 4) in
+    elim c.if-l-eq8.branch [
+      | then-l-eq8 w ↦ let t = adapt-tests c.args.l.now w.if-l-eq8.true in grind (arith, nat_tests)
+      | else-l-eq8 w ↦ let t = adapt-short c.args.l.now w.if-l-eq8.false in grind (arith, nat_tests)
+    ]
 
-pub slice_bounds-is_order-end : goal.slice_bounds-is_order-end
-slice_bounds-is_order-end c = rw length-take (omega (arith, c.if-l-ne8.false))
-
-pub returns-then-not-is_order : goal.returns-then-not-is_order
-returns-then-not-is_order c = rw (adapt-tests _ c.if-l-ne8.false, sym c.is_order.ensures ∙ not_so c.if-not-is_order.true-raw) refl
-
-pub returns : goal.returns
-returns c =
-    rw (adapt-tests _ c.if-l-ne8.false, sym c.is_order.ensures ∙ not_left c.if-not-is_order.false-raw) (c.are_factors.ensures ∙ ap are_factors (rest_of c.args.l.now 4))
+pub returns-else-is_order : goal.returns-else-is_order
+returns-else-is_order c =
+    elim c.if-l-eq8.branch [
+      | then-l-eq8 w ↦ let t = adapt-tests c.args.l.now w.if-l-eq8.true in grind (arith, nat_tests)
+      | else-l-eq8 w ↦ let t = adapt-short c.args.l.now w.if-l-eq8.false in grind (arith, nat_tests)
+    ]

@@ -13,5 +13,5 @@ slice_bounds-slots_of-end c =
 pub returns : goal.returns
 returns c =
     c.scale_all.ensures
-    ∙ all-by-axis c.args.args c.requires _ _ (tuples c.args.xs.now) c.slots_of-o.ensures.1 c.mults_of-m.ensures c.args.back _
+    ∙ all-by-axis c.args.args c.requires _ _ (tuples c.args.xs.now) c.slots_of-o.ensures c.mults_of-m.ensures c.args.back _
     c.factors_by_axis.ensures

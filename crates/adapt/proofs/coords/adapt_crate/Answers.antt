@@ -12,10 +12,10 @@ slice_bounds-slots_of-end c =
 
 pub returns-then-is_noop : goal.returns-then-is_noop
 returns-then-is_noop c =
-    all-still c.args.args c.requires _ _ _ (tuples c.args.xs.now) c.slots_of-o.ensures.1 c.mults_of-m.ensures c.is_noop.ensures c.args.back c.if-is_noop.true
+    all-still c.args.args c.requires _ _ _ (tuples c.args.xs.now) c.slots_of-o.ensures c.mults_of-m.ensures c.is_noop.ensures c.args.back c.if-is_noop.true
 
 pub returns : goal.returns
 returns c =
     c.scale_all.ensures
-    ∙ all-scaled c.args.args c.requires _ _ _ (tuples c.args.xs.now) c.slots_of-o.ensures.1 c.mults_of-m.ensures c.is_noop.ensures
+    ∙ all-scaled c.args.args c.requires _ _ _ (tuples c.args.xs.now) c.slots_of-o.ensures c.mults_of-m.ensures c.is_noop.ensures
     c.args.back _ c.if-is_noop.false c.factors_for.ensures

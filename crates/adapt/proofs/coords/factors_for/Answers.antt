@@ -8,7 +8,7 @@ use Rattle.adapt.proofs.coords.factors_for.Goals as goal
 pub returns-then-back : goal.returns-then-back
 unfolding factors_for
 returns-then-back c =
-    rw c.if-back.true (c.pick.ensures ∙ ap (picked c.args.o) c.overs_of.ensures)
+    rw c.if-back.true (c.pick.ensures ∙ ap (picked c.args.o.at) c.overs_of.ensures)
 
 pub returns : goal.returns
 unfolding factors_for

@@ -8,7 +8,7 @@ use Rattle.adapt.proofs.coords.scaled.Goals as goal
 pub returns-then-back : goal.returns-then-back
 unfolding scaled_if unscaled
 returns-then-back c =
-    rw c.if-back.true (c.place.ensures ∙ ap (λ (v : Coord). placed c.args.o v c.args.c) c.scaled_by.ensures)
+    rw c.if-back.true (c.place.ensures ∙ ap (λ (v : Coord). placed c.args.o.at v c.args.c) c.scaled_by.ensures)
 
 pub returns : goal.returns
 unfolding scaled_if scaled

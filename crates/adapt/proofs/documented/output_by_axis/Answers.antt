@@ -1,5 +1,6 @@
 -- `output_by_axis`: the place is that of the axis of `to` among those of `from`, where it stands since each word has each axis once; its sign is
 -- turned where just one of the two words has it turned.
+use Rattle.std.proofs.Common.{rules, get_or, pos, SFits, w32, to_z-of_z, ◌-◌}
 use mathlib.Core.Path.{◌∙◌}
 use native.Mathlib.Omega.{arith}
 use Rattle.laws_lists.specs.Signed.{given_is}
@@ -9,12 +10,11 @@ use Rattle.adapt.proofs.documented.output_by_axis.Goals as goal
 
 pub overflow_sub-at : goal.overflow_sub-at
 overflow_sub-at c =
-    place-some c.args.from c.args.to c.requires.ready c.requires.ready_2 c.args.i c.requires.i_bound c.size_at.ensures c.position_of-place.ensures
+    let g : SFits w32 (get_or c.args.to.axes c.args.i (pos 0)) = search rules in
+    place-some c.args.from c.args.to c.requires.ready c.requires.ready_2 c.args.i c.requires.i_bound (simp (to_z-of_z g) at c.size_of.ensures) c.position_of-place.ensures
 
-pub minus_at-requires : goal.minus_at-requires
-minus_at-requires c =
-    let few = place-few c.args.from c.requires.ready c.size_at.result c.position_of-place.ensures in
-    omega (arith, few, c.requires.ready.four, c.requires.i_bound)
+pub bounds-a-at : goal.bounds-a-at
+bounds-a-at c = omega (arith, place-few c.args.from c.requires.ready c.size_of.result c.position_of-place.ensures, c.requires.ready.four)
 
 pub signed-requires : goal.signed-requires
 signed-requires c =
@@ -22,5 +22,10 @@ signed-requires c =
 
 pub returns : goal.returns
 returns c =
-    let made = axis-so c.args.from c.args.to c.args.i c.size_at.ensures c.position_of-place.ensures in
-    given_is c.signed.type_inv (c.signed.ensures ∙ made c.minus_at.ensures c.minus_at-2.ensures)
+    let f : SFits w32 (get_or c.args.from.axes (c.position_of-place.result - 1) (pos 0)) = search rules in
+    let g : SFits w32 (get_or c.args.to.axes c.args.i (pos 0)) = search rules in
+    let made = axis-so c.args.from c.args.to c.args.i (simp (to_z-of_z g) at c.size_of.ensures) c.position_of-place.ensures in
+    given_is c.signed.type_inv (c.signed.ensures ∙ made (simp (to_z-of_z f) at c.is_minus.ensures) (simp (to_z-of_z g) at c.is_minus-2.ensures))
+
+pub offset_bounds-a-at : goal.offset_bounds-a-at
+offset_bounds-a-at c = record { fits = omega (arith, place-few c.args.from c.requires.ready c.size_of.result c.position_of-place.ensures, c.requires.ready.four) }

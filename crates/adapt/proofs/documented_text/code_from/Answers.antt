@@ -1,4 +1,5 @@
 -- `code_from`: a place among four is at most 4, so the code behind the four outputs is one of the eight arguments.
+use Rattle.std.proofs.Common.{rules, ◌+◌, get_or, pos, SFits, w32, to_z-of_z}
 use mathlib.Core.Path.{sym}
 use native.Mathlib.Omega.{arith}
 use lib.Seq.{length-take-le}
@@ -12,10 +13,14 @@ pub overflow_add-position_of : goal.overflow_add-position_of
 overflow_add-position_of c =
     record { fits = omega (arith, place-four c.args.l.now c.args.p (omega (arith, c.requires)) c.position_of.ensures) }
 
-pub size_at-requires : goal.size_at-requires
-size_at-requires c =
+pub bounds-l-position_of : goal.bounds-l-position_of
+bounds-l-position_of c =
     omega (arith, c.requires, place-four c.args.l.now c.args.p (omega (arith, c.requires)) c.position_of.ensures)
 
 pub returns : goal.returns
 returns c =
-    code-so c.args.l.now c.args.p c.position_of.ensures c.size_at.ensures
+    let f : SFits w32 (get_or c.args.l.now (3 + c.position_of.result) (pos 0)) = search rules in
+    code-so c.args.l.now c.args.p c.position_of.ensures (simp (to_z-of_z f) at c.size_of.ensures)
+
+pub offset_bounds-l-position_of : goal.offset_bounds-l-position_of
+offset_bounds-l-position_of c = record { fits = omega (arith, place-four c.args.l.now c.args.p (omega (arith, c.requires)) c.position_of.ensures) }

@@ -1,17 +1,17 @@
--- `angle_of`: the two tests are those of `angle`, in its order, and the literals are its numbers.
+-- `angle_of`: the arms are those of `angle`, in its order, and the literals are its numbers.
+use Rattle.std.proofs.Common.{refl, rules, tests}
 use lib.Ieee.{of_bits}
-use borrow.Author.Tests.{eq-eqb, ne_eqb}
 use Rattle.rules.specs.Operators.Adapt.{angle}
 use Rattle.adapt.proofs.factors.angle_of.Goals as goal
 
-pub returns-then-k-eq0 : goal.returns-then-k-eq0
+pub returns-in-0 : goal.returns-in-0
 unfolding angle of_bits
-returns-then-k-eq0 c = simp (eq-eqb _ _ c.if-k-eq0.true)
+returns-in-0 c = rw c.in-0.is refl
 
-pub returns-then-k-eq1 : goal.returns-then-k-eq1
+pub returns-in-1 : goal.returns-in-1
 unfolding angle of_bits
-returns-then-k-eq1 c = simp (ne_eqb _ _ c.if-k-eq0.false, eq-eqb _ _ c.if-k-eq1.true)
+returns-in-1 c = rw c.in-1.is refl
 
-pub returns-else-k-eq1 : goal.returns-else-k-eq1
+pub returns-in_default : goal.returns-in_default
 unfolding angle of_bits
-returns-else-k-eq1 c = simp (ne_eqb _ _ c.if-k-eq0.false, ne_eqb _ _ c.if-k-eq1.false)
+returns-in_default c = search (rules, tests)

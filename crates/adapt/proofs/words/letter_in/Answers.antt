@@ -1,19 +1,19 @@
-use mathlib.Core.Path.{sym}
-use borrow.Author.Tests.{eq-eqb, ne_eqb}
-use Rattle.numbers.proofs.Rest.{rest_all}
-use Rattle.adapt.proofs.FirstPlace.{finds-letter, place_here, place-on, place_none}
+-- `letter_in`: the place, counted from 1, is one more than the library's (`found`).
+use Rattle.std.proofs.Common.{rules, tests, ◌≡◌, eqb}
+use Rattle.std.specs.List.{position}
+use Rattle.std.proofs.lemmas.Iterator.{YieldsList-from_slice}
+use Rattle.std.proofs.lemmas.Iterator.Search.{position_from_yields_List}
+use Rattle.adapt.proofs.FirstPlace.{finds-letter, found, not_found}
 use Rattle.adapt.proofs.words.letter_in.Goals as goal
 
-pub loop-i-init : goal.loop-i-init
-loop-i-init c = rest_all _ _
+pub returns-in-Some : goal.returns-in-Some
+returns-in-Some c =
+    let e : c.position.result ≡ position (eqb c.args.b) c.args.letters.now =
+    position_from_yields_List (eqb c.args.b) _ _ _ c.position.ensures.ran (YieldsList-from_slice c.args.letters.now cc) (λ x b q k. search (rules, tests)) in
+    found (finds-letter c.args.b) e c.in-Some.is
 
-pub returns-then-letters-i : goal.returns-then-letters-i
-returns-then-letters-i c =
-    place_here (finds-letter _) 0 c.loop-i.invariant c.loop-i-test.true (eq-eqb _ _ (sym c.if-letters-i.true))
-
-pub loop-i-preserved : goal.loop-i-preserved
-loop-i-preserved c =
-    place-on (finds-letter _) 0 c.loop-i.invariant c.loop-i-test.true (ne_eqb _ _ (λ e. c.if-letters-i.false (sym e)))
-
-pub returns : goal.returns
-returns c = place_none (finds-letter _) c.loop-i.invariant c.loop-i-test.false
+pub returns-in-None : goal.returns-in-None
+returns-in-None c =
+    let e : c.position.result ≡ position (eqb c.args.b) c.args.letters.now =
+    position_from_yields_List (eqb c.args.b) _ _ _ c.position.ensures.ran (YieldsList-from_slice c.args.letters.now cc) (λ x b q k. search (rules, tests)) in
+    not_found (finds-letter c.args.b) e c.in-None.is

@@ -12,12 +12,12 @@ pub returns-then-not-is_order : goal.returns-then-not-is_order
 returns-then-not-is_order c =
     word-unordered c.args.t.now c.if-t-lt4.false c.axes_of-axes.ensures (sym c.is_order.ensures ∙ not_so c.if-not-is_order.true-raw)
 
-pub returns-in-Angle : goal.returns-in-Angle
-returns-in-Angle c =
+pub returns-in-Some : goal.returns-in-Some
+returns-in-Some c =
     word-so c.args.t.now c.if-t-lt4.false c.axes_of-axes.ensures (sym c.is_order.ensures ∙ not_left c.if-not-is_order.false-raw)
-    (rest_of c.args.t.now 4) c.ending_of-ending.ensures c.in-Angle.is
+    (rest_of c.args.t.now 4) c.ending_of.ensures c.in-Some.is
 
-pub returns-in-Other : goal.returns-in-Other
-returns-in-Other c =
+pub returns-in-None : goal.returns-in-None
+returns-in-None c =
     word-unended c.args.t.now c.if-t-lt4.false c.axes_of-axes.ensures (sym c.is_order.ensures ∙ not_left c.if-not-is_order.false-raw)
-    (rest_of c.args.t.now 4) c.ending_of-ending.ensures c.in-Other.is
+    (rest_of c.args.t.now 4) c.ending_of.ensures c.in-None.is

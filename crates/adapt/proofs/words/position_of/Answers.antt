@@ -1,22 +1,20 @@
-use mathlib.Core.Path.{sym, ◌∙◌}
-use borrow.Author.Tests.{eq-eqb, ne_eqb}
-use lib.IntN.{pos}
-use Rattle.numbers.proofs.Rest.{rest_all}
-use Rattle.adapt.proofs.FirstPlace.{finds-size, place_here, place-on, place_none}
+-- `position_of`: the place, counted from 1, is one more than the library's (`found`).
+use Rattle.std.proofs.Common.{rules, tests, ◌≡◌, eqb}
+use Rattle.std.specs.List.{position}
+use Rattle.std.proofs.lemmas.Iterator.{YieldsList-from_slice}
+use Rattle.std.proofs.lemmas.Iterator.Search.{position_from_yields_List}
+use Rattle.rules.specs.Operators.Arguments.{size}
+use Rattle.adapt.proofs.FirstPlace.{finds-size, found, not_found}
 use Rattle.adapt.proofs.words.position_of.Goals as goal
 
-pub loop-i-init : goal.loop-i-init
-loop-i-init c = rest_all _ _
+pub returns-in-Some : goal.returns-in-Some
+returns-in-Some c =
+    let e : c.position.result ≡ position (λ z. eqb c.args.size (size z)) c.args.l.now =
+    position_from_yields_List (λ z. eqb c.args.size (size z)) _ _ _ c.position.ensures.ran (YieldsList-from_slice c.args.l.now cc) (λ x b q k. search (rules, tests)) in
+    found (finds-size c.args.size) e c.in-Some.is
 
-pub returns-then-size_at-size : goal.returns-then-size_at-size
-returns-then-size_at-size c =
-    let same = sym c.if-size_at-size.true ∙ c.size_at.ensures in
-    place_here (finds-size _) (pos 0) c.loop-i.invariant c.loop-i-test.true (eq-eqb _ _ same)
-
-pub loop-i-preserved : goal.loop-i-preserved
-loop-i-preserved c =
-    place-on (finds-size _) (pos 0) c.loop-i.invariant c.loop-i-test.true
-    (ne_eqb _ _ (λ e. c.if-size_at-size.false (c.size_at.ensures ∙ sym e)))
-
-pub returns : goal.returns
-returns c = place_none (finds-size _) c.loop-i.invariant c.loop-i-test.false
+pub returns-in-None : goal.returns-in-None
+returns-in-None c =
+    let e : c.position.result ≡ position (λ z. eqb c.args.size (size z)) c.args.l.now =
+    position_from_yields_List (λ z. eqb c.args.size (size z)) _ _ _ c.position.ensures.ran (YieldsList-from_slice c.args.l.now cc) (λ x b q k. search (rules, tests)) in
+    not_found (finds-size c.args.size) e c.in-None.is

@@ -1,28 +1,31 @@
-use Rattle.adapt.proofs.Spelt.{letters-rest}
-use Rattle.numbers.proofs.EachInTurn.{going_start, going-room, going-turn, going-length, going_end}
+use Rattle.std.proofs.Common.{rules, false, get_or, pos, SFits, w32, to_z-of_z}
+use Rattle.numbers.specs.Axes.{is_axis}
+use Rattle.numbers.proofs.Listed.{all-at}
+use Rattle.numbers.proofs.EachInTurn.{going_start, going-room, going-turn, going_end}
 use Rattle.adapt.specs.Text.{lettered}
-use mathlib.Core.Bool.{false}
-use lib.IntN.{pos}
+use Rattle.adapt.proofs.Spelt.{letters-rest}
 use Rattle.adapt.proofs.writing.letters.Goals as goal
 
-pub loop-i-init : goal.loop-i-init
-loop-i-init c = going_start lettered _ (letters-rest false _) c.requires.room
+pub loop-x-init : goal.loop-x-init
+loop-x-init c = going_start lettered _ (letters-rest false _) c.requires.room
 
-pub letter-b-requires : goal.letter-b-requires
-letter-b-requires c = record { i_in_bounds = c.loop-i-test.true; l_value = c.requires.l_value }
+pub letter-requires : goal.letter-requires
+letter-requires c =
+    let f : SFits w32 (get_or c.args.l.now c.loop-x.x-index (pos 0)) = search rules in
+    rw (to_z-of_z f) (all-at is_axis _ _ (pos 0) c.loop-x-test.true c.requires.l_value)
 
 pub put_byte-e-requires : goal.put_byte-e-requires
 unfolding lettered
 put_byte-e-requires c =
-    rw c.letter-b.ensures (going-room c.loop-i.invariant (pos 0) c.loop-i-test.true)
+    let f : SFits w32 (get_or c.args.l.now c.loop-x.x-index (pos 0)) = search rules in
+    rw (simp (to_z-of_z f) at c.letter.ensures) (going-room c.loop-x.invariant (pos 0) c.loop-x-test.true)
 
-pub loop-i-preserved : goal.loop-i-preserved
+pub loop-x-preserved : goal.loop-x-preserved
 unfolding lettered
-loop-i-preserved c =
-    going-turn c.loop-i.invariant (pos 0) c.loop-i-test.true (rw c.letter-b.ensures at c.put_byte-e.ensures)
-
-pub shape_of-out : goal.shape_of-out
-shape_of-out c = going-length c.loop-i.invariant
+loop-x-preserved c =
+    let f : SFits w32 (get_or c.args.l.now c.loop-x.x-index (pos 0)) = search rules in
+    let e = simp (to_z-of_z f) at c.letter.ensures in
+    going-turn c.loop-x.invariant (pos 0) c.loop-x-test.true (rw e at c.put_byte-e.ensures)
 
 pub returns : goal.returns
-returns c = going_end c.loop-i.invariant c.loop-i-test.false
+returns c = going_end c.loop-x.invariant c.loop-x-test.false

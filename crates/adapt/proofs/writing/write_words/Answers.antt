@@ -1,4 +1,5 @@
 -- `write_words`: both words by the code of the first factor; the first four arguments are the outputs, which are axes.
+use Rattle.std.proofs.Common.{rules, get_or, pos, SFits, w32, to_z-of_z}
 use mathlib.Core.Path.{refl, sym}
 use native.Mathlib.Omega.{arith}
 use lib.Seq.{length-take-le}
@@ -8,8 +9,8 @@ use Rattle.numbers.proofs.InTurn.{room_as, as_written}
 use Rattle.adapt.proofs.Spelt.{adapt-is, adapt-long, adapt-axes}
 use Rattle.adapt.proofs.writing.write_words.Goals as goal
 
-pub size_at-requires : goal.size_at-requires
-size_at-requires c = omega (arith, adapt-long _ c.requires.l_value)
+pub bounds-l-4 : goal.bounds-l-4
+bounds-l-4 c = omega (arith, adapt-long _ c.requires.l_value)
 
 pub slice_bounds-words-end-2 : goal.slice_bounds-words-end-2
 slice_bounds-words-end-2 c =
@@ -17,7 +18,11 @@ slice_bounds-words-end-2 c =
 
 pub words-requires : goal.words-requires
 unfolding all_of is_axis
-words-requires c = record { from_value = refl; to_value = adapt-axes _ c.requires.l_value; room = room_as (sym (adapt-is _ c.size_at.ensures)) c.requires.room }
+words-requires c =
+    let f : SFits w32 (get_or c.args.l.now 4 (pos 0)) = search rules in
+    record { from_value = refl; to_value = adapt-axes _ c.requires.l_value; room = room_as (sym (adapt-is _ (simp (to_z-of_z f) at c.size_of.ensures))) c.requires.room }
 
 pub returns : goal.returns
-returns c = as_written (adapt-is _ c.size_at.ensures) c.words.ensures
+returns c =
+    let f : SFits w32 (get_or c.args.l.now 4 (pos 0)) = search rules in
+    as_written (adapt-is _ (simp (to_z-of_z f) at c.size_of.ensures)) c.words.ensures

@@ -8,4 +8,4 @@ use Rattle.axisswap.proofs.coords.inverse.Goals as goal
 pub returns : goal.returns
 unfolding unordered
 returns c =
-    c.place.ensures ∙ ap (λ (v : Coord). placed c.args.o v c.args.c) c.turned_by.ensures
+    c.place.ensures ∙ ap (λ (v : Coord). placed c.args.o.at v c.args.c) c.turned_by.ensures

@@ -6,6 +6,6 @@ pub returns-then-back : goal.returns-then-back
 unfolding ordered_by
 returns-then-back c = rw c.if-back.true c.inverse.ensures
 
-pub returns : goal.returns
+pub returns-else-back : goal.returns-else-back
 unfolding ordered_by
-returns c = rw c.if-back.false c.forward.ensures
+returns-else-back c = rw c.if-back.false c.forward.ensures

@@ -3,4 +3,4 @@ use Rattle.axisswap.proofs.OrderedPlaces.{order-so}
 use Rattle.axisswap.proofs.places.order_places.Goals as goal
 
 pub returns : goal.returns
-returns c = order-so c.requires.whole c.reordered-out.ensures
+returns c = order-so c.requires.whole c.reordered.ensures

@@ -11,5 +11,5 @@ returns-then-back c = rw c.if-back.true c.unordered.ensures
 pub ordered-requires : goal.ordered-requires
 ordered-requires c = let others = order-axes _ c.requires.l_value in record { tuple_len = c.requires.tuple_len; l_value = others.0; l_len_bound = others.1 }
 
-pub returns : goal.returns
-returns c = rw c.if-back.false c.ordered.ensures
+pub returns-else-back : goal.returns-else-back
+returns-else-back c = rw c.if-back.false c.ordered.ensures

@@ -1,38 +1,28 @@
-use Rattle.rules.specs.declared.Coord.{Coord}
-use lib.Seq.{paste, paste-zero}
-use Rattle.laws_steps.specs.Lengths.{tuples-length}
-use Rattle.columns.proofs.OneNumber.{column-length, copy-turn, store-end, not_yet, flip-tuples, flip-number}
+use Rattle.std.proofs.Common.{arith, ap, ◌∙◌}
+use lib.Ieee.{Float}
 use Rattle.rules.specs.Operators.Numbers.{number, put}
-use Rattle.rules.specs.Pipeline.Tuples.{tuples, column}
-use Rattle.columns.proofs.Firsts.{firsts-none}
-use lib.Ieee.{nan}
-use native.Mathlib.Omega.{arith}
-use lib.ListN.{length, get_or, set, length-set}
-use Prim.Native.Nat.{◌+◌, ◌/◌}
-use mathlib.Core.Path.{◌≡◌, refl, sym, ap, ◌∙◌}
+use Rattle.rules.specs.Pipeline.Tuples.{tuples}
+use Rattle.laws_steps.specs.Lengths.{tuples-length}
+use Rattle.columns.proofs.EachTuple.{each_none, each_turn}
+use Rattle.columns.proofs.OneNumber.{column-at, column-length, stored-end, not_yet, copied_none, copied_turn, copied-end}
 use Rattle.columns.proofs.column.flip_column.Goals as goal
 
 pub loop-k-init : goal.loop-k-init
-loop-k-init c =
-    (sym (firsts-none 0 _ _), refl, paste-zero c.args.store.now c.args.at (column c.args.i (tuples c.args.xs.now)), refl, omega arith)
+loop-k-init c = (each_none _ _, copied_none _ _)
 
 pub loop-k-preserved : goal.loop-k-preserved
 loop-k-preserved c =
-    let ts = tuples c.loop-k.xs in
-    let v = column c.args.i (tuples c.args.xs.now) in
-    let was = not_yet c.args.store.now c.loop-k.store c.args.at v c.loop-k.k c.loop-k.invariant.2 (omega arith) (omega (arith, column-length c.args.i c.args.xs.now)) in (
-      flip-tuples (length c.args.xs.now / 4) c.args.at c.args.i c.loop-k.k c.args.store.now c.loop-k.store (tuples c.args.xs.now) ts _ c.loop-k.invariant.0 (omega arith) (omega (arith, tuples-length c.args.xs.now)) was
-          (c.set_coord.ensures ∙ ap (λ (z : Coord). set ts c.loop-k.k z) (c.with_number.ensures ∙ ap (put c.args.i (get_or c.loop-k.store (c.args.at + c.loop-k.k) nan)) c.get_coord-c.ensures)),
-      c.set_coord.auto.xs ∙ c.loop-k.invariant.1,
-      copy-turn c.args.store.now c.loop-k.store c.args.at v c.loop-k.k _ c.loop-k.invariant.2 (omega arith) (omega (arith, column-length c.args.i c.args.xs.now))
-          (flip-number _ c.args.i c.loop-k.k (tuples c.args.xs.now) ts _ c.loop-k.invariant.0 (omega (arith, tuples-length c.args.xs.now)) (c.number_of.ensures ∙ ap (number c.args.i) c.get_coord-c.ensures)),
-      length-set c.loop-k.store (c.args.at + c.loop-k.k) _ ∙ c.loop-k.invariant.3,
-      omega arith,
+    let i = c.args.i in
+    let k = c.loop-k.k in
+    let same = not_yet c.loop-k.invariant.0 in
+    let x = c.loop-k.invariant.1.rest k (omega arith) in (
+      each_turn c.loop-k.invariant.0 (omega arith) c.get_coord-c.ensures (c.with_number.ensures ∙ ap (λ (z : Float). put i z c.get_coord-c.result) x) c.set_coord.auto.xs c.set_coord.ensures,
+      copied_turn c.loop-k.invariant.1 (omega arith)
+          (c.number_of.ensures ∙ ap (number i) (c.get_coord-c.ensures ∙ same) ∙ column-at i k (tuples c.args.xs.now) (omega (arith, tuples-length c.args.xs.now))),
     )
 
 pub returns : goal.returns
-returns c =
-    let e : c.loop-k.k ≡ length c.args.xs.now / 4 = omega arith in (
-      store-end (length c.args.xs.now / 4) c.args.at c.args.i c.loop-k.k c.args.store.now (tuples c.args.xs.now) _ c.loop-k.invariant.0 (tuples-length c.args.xs.now) (omega arith) (omega arith),
-      c.loop-k.invariant.2 ∙ ap (paste c.args.store.now c.args.at (column c.args.i (tuples c.args.xs.now))) e,
-    )
+returns c = record {
+  tuples = stored-end c.args.i c.args.with.now c.loop-k.invariant.0 c.requires (omega arith);
+  column = copied-end c.loop-k.invariant.1 (omega (arith, column-length c.args.i c.args.xs.now)) (omega arith);
+}

@@ -1,20 +1,20 @@
--- `with_number`: the three tests are those of `put`, in its order; the first that holds decides, and else it is the fourth number.
-use borrow.Author.Tests.{eq-eqb, ne_eqb}
+-- `with_number`: the arms are those of `put`, in its order.
+use Rattle.std.proofs.Common.{refl, rules, tests}
 use Rattle.rules.specs.Operators.Numbers.{put}
 use Rattle.columns.proofs.coordinate.with_number.Goals as goal
 
-pub returns-then-i-eq1 : goal.returns-then-i-eq1
+pub returns-in-1 : goal.returns-in-1
 unfolding put
-returns-then-i-eq1 c = simp (eq-eqb _ _ c.if-i-eq1.true)
+returns-in-1 c = rw c.in-1.is refl
 
-pub returns-then-i-eq2 : goal.returns-then-i-eq2
+pub returns-in-2 : goal.returns-in-2
 unfolding put
-returns-then-i-eq2 c = simp (ne_eqb _ _ c.if-i-eq1.false, eq-eqb _ _ c.if-i-eq2.true)
+returns-in-2 c = rw c.in-2.is refl
 
-pub returns-then-i-eq3 : goal.returns-then-i-eq3
+pub returns-in-3 : goal.returns-in-3
 unfolding put
-returns-then-i-eq3 c = simp (ne_eqb _ _ c.if-i-eq1.false, ne_eqb _ _ c.if-i-eq2.false, eq-eqb _ _ c.if-i-eq3.true)
+returns-in-3 c = rw c.in-3.is refl
 
-pub returns-else-i-eq3 : goal.returns-else-i-eq3
+pub returns-in_default : goal.returns-in_default
 unfolding put
-returns-else-i-eq3 c = simp (ne_eqb _ _ c.if-i-eq1.false, ne_eqb _ _ c.if-i-eq2.false, ne_eqb _ _ c.if-i-eq3.false)
+returns-in_default c = search (rules, tests)

@@ -1,5 +1,6 @@
 -- `counts_none`: each arm knows which acts it has: an exchange of the two top columns counts none where there is no column, a drop never
 -- counts any, and each other act counts none where it finds too few.
+use borrow.Author.Rules.{rules}
 use mathlib.Core.Path.{refl, ap, ◌∙◌}
 use Prim.Native.Nat.{ℕ}
 use lib.Dec.{ltb}
@@ -19,4 +20,4 @@ returns-in-Drops c = rw c.in-Drops.is refl
 pub returns-in_default : goal.returns-in_default
 unfolding doing
 returns-in_default c =
-    ap (λ (n : ℕ). ltb c.args.depth n) c.takes.ensures ∙ counts-few _ c.args.depth c.args.d.act c.in_default.in_default-own.keys3
+    ap (λ (n : ℕ). ltb c.args.depth n) c.takes.ensures ∙ counts-few _ c.args.depth c.args.d.act (search rules)

@@ -24,4 +24,4 @@ returns-in-Rolls c = rw c.in-Rolls.is refl
 
 pub returns-in_default : goal.returns-in_default
 unfolding doing
-returns-in_default c = takes_none _ c.args.d.act c.in_default.in_default-own.keys3
+returns-in_default c = takes_none _ c.args.d.act (search rules)

@@ -1,7 +1,6 @@
--- `place`: a coordinate is an array of four numbers, and each slot is below four; to store at the slots one after the other is what
--- `placed` does (`place-so`).
-use Rattle.columns.proofs.Four.{place-so}
+-- `place`: a coordinate is an array of four numbers, and each slot is below four (`place-so`).
+use Rattle.columns.proofs.FourNumbers.{place-so}
 use Rattle.columns.proofs.slots.place.Goals as goal
 
 pub returns : goal.returns
-returns c = place-so c.args.o c.requires c.args.c c.args.v
+returns c = place-so c.args.o.at c.args.o.within c.args.c c.args.v

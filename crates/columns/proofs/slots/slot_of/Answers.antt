@@ -1,21 +1,20 @@
--- `slot_of`: the three tests are those of `slot`, in its order; each slot is below four.
-use native.Mathlib.Omega.{arith}
-use borrow.Author.Tests.{eq-eqb, ne_eqb}
+-- `slot_of`: the arms are those of `slot`, in its order.
+use Rattle.std.proofs.Common.{refl, rules, tests}
 use Rattle.columns.specs.Coords.{slot}
 use Rattle.columns.proofs.slots.slot_of.Goals as goal
 
-pub returns-then-i-eq1 : goal.returns-then-i-eq1
+pub returns-in-1-clause-named : goal.returns-in-1-clause-named
 unfolding slot
-returns-then-i-eq1 c = (omega arith, simp (eq-eqb _ _ c.if-i-eq1.true))
+returns-in-1-clause-named c = rw c.in-1.is refl
 
-pub returns-then-i-eq2 : goal.returns-then-i-eq2
+pub returns-in-2-clause-named : goal.returns-in-2-clause-named
 unfolding slot
-returns-then-i-eq2 c = (omega arith, simp (ne_eqb _ _ c.if-i-eq1.false, eq-eqb _ _ c.if-i-eq2.true))
+returns-in-2-clause-named c = rw c.in-2.is refl
 
-pub returns-then-i-eq3 : goal.returns-then-i-eq3
+pub returns-in-3-clause-named : goal.returns-in-3-clause-named
 unfolding slot
-returns-then-i-eq3 c = (omega arith, simp (ne_eqb _ _ c.if-i-eq1.false, ne_eqb _ _ c.if-i-eq2.false, eq-eqb _ _ c.if-i-eq3.true))
+returns-in-3-clause-named c = rw c.in-3.is refl
 
-pub returns-else-i-eq3 : goal.returns-else-i-eq3
+pub returns-in_default-clause-named : goal.returns-in_default-clause-named
 unfolding slot
-returns-else-i-eq3 c = (omega arith, simp (ne_eqb _ _ c.if-i-eq1.false, ne_eqb _ _ c.if-i-eq2.false, ne_eqb _ _ c.if-i-eq3.false))
+returns-in_default-clause-named c = search (rules, tests)

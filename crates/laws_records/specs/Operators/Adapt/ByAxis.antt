@@ -1,11 +1,10 @@
 -- The documented mode of `adapt`: two words make arguments that keep its rule, and the two words of a record are read as its arguments.
 -- What rests on the sizes of the outputs and on the codes alone is a finite table, which is computed.
-use Rattle.std.specs.Prelude.{◌≡◌, Bool, false, cond, ◌&&◌, length, get_or, take, drop, leb, eqb, ℤ, negsuc}
+use Rattle.std.specs.Prelude.{◌≡◌, Bool, false, cond, ◌&&◌, length, get_or, take, drop, leb, eqb, ℤ, negsuc, Some}
 use Rattle.std.proofs.Math.Path.{refl, ap}
 use Rattle.std.proofs.Common.{sym, ap₂, ◌∙◌, mod-lt, mod-eq_of_lt, div-lt_iff_lt-mul, arith, eqb-true, take-append-drop, length-take, length-drop, lit≤}
 use Prim.Native.Nat.{ℕ, zero, suc, ◌+◌, ◌-◌, ◌/◌, ◌%◌, ◌≤◌, ◌<◌}
 use Rattle.std.proofs.Math.Bool.{true, xor}
-use Rattle.std.proofs.Math.Option.{some}
 use mathlib.Core.List.{List, [], ◌∷◌, ◌++◌, map}
 use Rattle.std.proofs.Math.IntN.{pos}
 use Rattle.rules.specs.Text.Ascii.{ascii}
@@ -242,14 +241,14 @@ module _ {t : Bytes} {n : ℕ} {a b c d : ℤ} {e f g h : ℕ} (p : Serves t n a
         angle-again t n d h p.fourth,
       )
 
-  between-again : between combined_by_axis (word (to_word (n / 3) (axes_of t))) (word (to_word n out_axes)) ≡ some (listed a b c d e f g h)
+  between-again : between combined_by_axis (word (to_word (n / 3) (axes_of t))) (word (to_word n out_axes)) ≡ Some (listed a b c d e f g h)
   unfolding between
   between-again =
       rw (
         to-read (pos (axis_at t 1)) (pos (axis_at t 2)) (pos (axis_at t 3)) (pos (axis_at t 4)) p.ordered (n / 3) (mod-lt (n / 3) (lit≤ tt)),
         to-read (axis_of t a) (axis_of t b) (axis_of t c) (axis_of t d) out-order n (mod-lt n (lit≤ tt)),
       )
-      (ap some combined-again)
+      (ap Some combined-again)
 
 -- ---- a record by its parts
 
@@ -364,5 +363,5 @@ spelt-by-axis l h =
       from-short = to-short _ _ _ _ _ p.ordered;
       to-firm = to-firm _ _ _ _ _ (out-order p);
       to-short = to-short _ _ _ _ _ (out-order p);
-      again = between-again p ∙ ap some (sym q.are);
+      again = between-again p ∙ ap Some (sym q.are);
     }

@@ -1,12 +1,11 @@
 -- The two words of a record of `adapt` are read as the axes in their order and the record's outputs, and make its eight arguments; and how
 -- long the words are, and of which bytes.
-use Rattle.std.specs.Prelude.{◌≡◌, Bool, cond, ◌&&◌, List, [], ◌∷◌, ◌++◌, map, length, take, drop, leb, ℤ, pos, negsuc}
+use Rattle.std.specs.Prelude.{◌≡◌, Bool, cond, ◌&&◌, List, [], ◌∷◌, ◌++◌, map, length, take, drop, leb, ℤ, pos, negsuc, Some}
 use Rattle.std.proofs.Math.Path.{refl}
 use Rattle.std.proofs.Common.{sym, ap, ◌∙◌, mod-lt, div-lt_iff_lt-mul, lit≤}
 use Prim.Native.Nat.{ℕ, zero, suc, ◌+◌, ◌*◌, ◌/◌, ◌%◌, ◌≤◌, ◌<◌}
 use Rattle.std.proofs.Math.Bool.{true, false, not, xor}
 use Rattle.std.proofs.lemmas.Bool.{false≢true}
-use Rattle.std.proofs.Math.Option.{some}
 use native.Mathlib.Omega.{arith}
 use borrow.Author.Tests.{leb-true, eqb-true, not-true}
 use Rattle.std.proofs.Math.Dec.{eqb}
@@ -68,7 +67,7 @@ letters-so q a (negsuc (suc (suc (suc (suc n))))) h = absurd (too-big n h.most)
 
 -- ---- endings
 
-ending-again : (k : ℕ) → k < 3 → ending (ending_of k) ≡ some k
+ending-again : (k : ℕ) → k < 3 → ending (ending_of k) ≡ Some k
 unfolding ending ending_of same ascii
 ending-again zero h = refl
 ending-again (suc zero) h = refl
@@ -83,17 +82,17 @@ ending-again (suc (suc (suc k))) h = absurd (none h)
 abbrev plain_axes : List ℤ
 plain_axes = pos 1 ∷ pos 2 ∷ pos 3 ∷ pos 4 ∷ []
 
-from-read : (code : ℕ) → code / 3 < 3 → word (from_word code) ≡ some (record { axes = plain_axes; angle = code / 3 })
+from-read : (code : ℕ) → code / 3 < 3 → word (from_word code) ≡ Some (record { axes = plain_axes; angle = code / 3 })
 unfolding word from_word
 from-read code h = go (code / 3) h
   where
     go : (k : ℕ) → k < 3
         → (let letters = cond (same (ascii "enuf" ++ ending_of k) (ascii "pass")) (ascii "enuf") (ascii "enuf" ++ ending_of k) in
-        word_of (map axis (take 4 letters)) (ending (drop 4 letters))) ≡ some (record { axes = plain_axes; angle = k })
+        word_of (map axis (take 4 letters)) (ending (drop 4 letters))) ≡ Some (record { axes = plain_axes; angle = k })
     go k h = unfold same ascii axis place_in signed word_of is_order is_distinct all_of any_of in rw (ending-again k h)
 
 module _ (a b c d : ℤ) (o : is_order (a ∷ b ∷ c ∷ d ∷ []) ≡ true) where
-  pub to-read : (code : ℕ) → code % 3 < 3 → word (to_word code (a ∷ b ∷ c ∷ d ∷ [])) ≡ some (record { axes = a ∷ b ∷ c ∷ d ∷ []; angle = code % 3 })
+  pub to-read : (code : ℕ) → code % 3 < 3 → word (to_word code (a ∷ b ∷ c ∷ d ∷ [])) ≡ Some (record { axes = a ∷ b ∷ c ∷ d ∷ []; angle = code % 3 })
   unfolding word to_word same ascii word_of
   to-read code h =
       let z = order-sized a b c d o in
@@ -217,14 +216,14 @@ module _ {l : List ℤ} (p : Adapts l) where
       let z = order-sized p.a p.b p.c p.d p.ordered in
       rw (output-again p.a z.0.most, output-again p.b z.1.most, output-again p.c z.2.most, output-again p.d z.3.most, code-again p.code p.coded) (sym p.are)
 
-  between-again : between combined (word (from_word p.code)) (word (to_word p.code outputs)) ≡ some l
+  between-again : between combined (word (from_word p.code)) (word (to_word p.code outputs)) ≡ Some l
   unfolding between
   between-again =
       rw (
         from-read p.code ((div-lt_iff_lt-mul {k = 3} {x = p.code} {y = 3} (lit≤ tt)).1 (omega (arith, code-small p.code p.coded))),
         to-read p.a p.b p.c p.d p.ordered p.code (mod-lt p.code (lit≤ tt)),
       )
-      (ap some combined-again)
+      (ap Some combined-again)
 
 -- ---- the bytes of the words
 

@@ -23,13 +23,12 @@ use Rattle.rules.specs.Pipeline.Record.{reading_of, operator, args, is_set, made
 use Rattle.rules.specs.Pipeline.Running.{opposite, turns, directed, act_of, act, omitted, ordered, running_from, running}
 use Rattle.rules.specs.Pipeline.Columns.{takes, too_few, moved, after}
 use Rattle.rules.specs.Pipeline.Tuples.{tuples, numbers, acted_if, acted}
-use Rattle.rules.specs.Pipeline.Run.{start, runs}
+use Rattle.rules.specs.Pipeline.Run.{start, runs, done}
 use Rattle.rules.specs.declared.Coord.{Coord}
 use Rattle.rules.specs.declared.Mode.TheVariants as mode-is
 use Rattle.rules.specs.declared.Step.{Step}
 use Rattle.rules.specs.declared.Direction.{Direction}
 use Rattle.rules.specs.declared.Direction.TheVariants.{Forward, Inverse}
-use Rattle.rules.specs.declared.Ran.TheVariants.{Done}
 use Rattle.laws_lists.specs.Tests.{and_left, and_right, never, below}
 use Rattle.laws_records.specs.Calm.{so, so-at}
 use Rattle.laws_steps.specs.Runs.{answered, fourfold}
@@ -333,8 +332,8 @@ module _ (s : Step) (r : RunsBothWays s) where
   rule : is_documented (args s) ≡ true
   rule = unfold is_args in (rw r.is-documented at (made_so s r.is_made).rule)
 
-  pub restores : EachUnit (args s) → (d : Direction) (xs store : List Float) (c n : ℕ) → (runs d (s ∷ []) xs store).answer ≡ Done c n
-      → (store₂ : List Float) (c₂ n₂ : ℕ) → (runs (opposite d) (s ∷ []) (runs d (s ∷ []) xs store).list store₂).answer ≡ Done c₂ n₂
+  pub restores : EachUnit (args s) → (d : Direction) (xs store : List Float) (c n : ℕ) → (runs d (s ∷ []) xs store).answer ≡ done c n
+      → (store₂ : List Float) (c₂ n₂ : ℕ) → (runs (opposite d) (s ∷ []) (runs d (s ∷ []) xs store).list store₂).answer ≡ done c₂ n₂
       → (i : ℕ) → i < length xs / 4 → (j : ℕ) → 1 ≤ j → j ≤ 4 → T (fits binary64 (number_at xs i j))
       → number_at (runs (opposite d) (s ∷ []) (runs d (s ∷ []) xs store).list store₂).list i j ≡ number_at xs i j
   restores u d xs store c n done store₂ c₂ n₂ done₂ i h j a b fit =

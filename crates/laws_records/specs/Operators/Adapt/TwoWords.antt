@@ -1,6 +1,5 @@
 -- What the text of `adapt` rests on, in either mode: the two words of its arguments, and that they are read as these arguments.
-use Rattle.std.specs.Prelude.{◌≡◌, ◌≤◌, List, [], ◌∷◌, length, ℤ}
-use Rattle.std.proofs.Math.Option.{some}
+use Rattle.std.specs.Prelude.{◌≡◌, ◌≤◌, List, [], ◌∷◌, length, ℤ, Some}
 use Rattle.rules.specs.Text.Bytes.{Bytes}
 use Rattle.rules.specs.Operators.Arguments.{key_value}
 use Rattle.rules.specs.Operators.Adapt.{word, between}
@@ -19,4 +18,4 @@ pub record Spelt (mode : Mode) (l : List ℤ) : Type 0 where
   pub to-firm : Firmly to
   pub to-short : length to ≤ 8
   -- the two are read as the arguments
-  pub again : between (combined_in mode) (word from) (word to) ≡ some l
+  pub again : between (combined_in mode) (word from) (word to) ≡ Some l

@@ -1,9 +1,8 @@
 -- Two words of `adapt` make eight arguments that keep their rule: the places of one order of four in another are an order
 -- of four again. Of the sizes alone that is a finite table, which is computed.
-use Rattle.std.specs.Prelude.{◌≡◌, refl, ℕ, suc, ◌+◌, ◌*◌, ◌≤◌, false, cond, not, ◌&&◌, ◌||◌, List, [], ◌∷◌, length, eqb, pos}
+use Rattle.std.specs.Prelude.{◌≡◌, refl, ℕ, suc, ◌+◌, ◌*◌, ◌≤◌, false, cond, not, ◌&&◌, ◌||◌, List, [], ◌∷◌, length, eqb, pos, Option, None, Some}
 use Rattle.std.proofs.Math.Bool.{Bool, true}
 use Rattle.std.proofs.lemmas.Bool.{false≢true}
-use Rattle.std.proofs.Math.Option.{Option, none, some}
 use Rattle.std.proofs.Common.{arith, leb-true, le-leb, eqb-true, eq-eqb, lit≤}
 use Rattle.std.proofs.Math.Dec.{leb}
 use Rattle.std.proofs.Math.IntN.{ℤ}
@@ -145,10 +144,10 @@ four-list (a ∷ []) h = absurd (never (cc h))
 four-list (a ∷ b ∷ []) h = absurd (never (cc h))
 four-list (a ∷ b ∷ c ∷ []) h = absurd (never (cc h))
 four-list (a ∷ b ∷ c ∷ d ∷ []) h = (a, b, c, d, refl)
-four-list (a ∷ b ∷ c ∷ d ∷ e ∷ l) h = absurd (none (length l) h)
+four-list (a ∷ b ∷ c ∷ d ∷ e ∷ l) h = absurd (None (length l) h)
   where
-    none : (n : ℕ) → suc (suc (suc (suc (suc n)))) ≡ 4 → ⊥
-    none n h = omega arith
+    None : (n : ℕ) → suc (suc (suc (suc (suc n)))) ≡ 4 → ⊥
+    None n h = omega arith
 
 -- the places of one word's axes in the other are an order
 pub words-order : (v w : Word) → IsWord v → IsWord w
@@ -202,43 +201,43 @@ combined-kept v w p q =
 
 -- ---- every word that is read
 
-ending-small : (t : Bytes) (k : ℕ) → ending t ≡ some k → k ≤ 2
+ending-small : (t : Bytes) (k : ℕ) → ending t ≡ Some k → k ≤ 2
 unfolding ending
 ending-small t k h = go (same t (ascii "_deg")) (same t (ascii "_gon")) (same t [] || (same t (ascii "_rad") || same t (ascii "_any"))) h
   where
-    go : (a b c : Bool) → cond a (some 1) (cond b (some 2) (cond c (some 0) none)) ≡ some k → k ≤ 2
+    go : (a b c : Bool) → cond a (Some 1) (cond b (Some 2) (cond c (Some 0) None)) ≡ Some k → k ≤ 2
     go true b c h = let e : 1 ≡ k = cc h in omega arith
     go false true c h = let e : 2 ≡ k = cc h in omega arith
     go false false true h = let e : 0 ≡ k = cc h in omega arith
     go false false false h = absurd (never (cc h))
 
-word_of-is : (l : List ℤ) (o : Option ℕ) → ((k : ℕ) → o ≡ some k → k ≤ 2) → (w : Word) → word_of l o ≡ some w → IsWord w
+word_of-is : (l : List ℤ) (o : Option ℕ) → ((k : ℕ) → o ≡ Some k → k ≤ 2) → (w : Word) → word_of l o ≡ Some w → IsWord w
 unfolding word_of
-word_of-is l none f w h = absurd (never (cc h))
-word_of-is l (some k) f w h = go (eqb (length l) 4 && is_order l) refl h
+word_of-is l None f w h = absurd (never (cc h))
+word_of-is l (Some k) f w h = go (eqb (length l) 4 && is_order l) refl h
   where
-    go : (b : Bool) → (eqb (length l) 4 && is_order l) ≡ b → cond b (some (record { axes = l; angle = k })) none ≡ some w → IsWord w
+    go : (b : Bool) → (eqb (length l) 4 && is_order l) ≡ b → cond b (Some (record { axes = l; angle = k })) None ≡ Some w → IsWord w
     go true e h =
         let same : record { axes = l; angle = k } ≡ w = cc h in
         rw (← same) (record { four = eqb-true (length l) 4 (and_left (eqb (length l) 4) (is_order l) e); ordered = and_right (eqb (length l) 4) (is_order l) e; angle-small = f k refl })
     go false e h = absurd (never (cc h))
 
-word-is : (t : Bytes) (w : Word) → word t ≡ some w → IsWord w
+word-is : (t : Bytes) (w : Word) → word t ≡ Some w → IsWord w
 unfolding word
 word-is t w h = word_of-is _ _ (ending-small _) w h
 
-given_is : (o : Option Bytes) (w : Word) → word_given o ≡ some w → IsWord w
+given_is : (o : Option Bytes) (w : Word) → word_given o ≡ Some w → IsWord w
 unfolding word_given
-given_is none w h = word-is _ w h
-given_is (some v) w h = word-is v w h
+given_is None w h = word-is _ w h
+given_is (Some v) w h = word-is v w h
 
 -- What two words make keeps a rule, if it does so for every two that are read.
 pub between-kept : (a : Operator) (make : Word → Word → List ℤ) → ((v w : Word) → IsWord v → IsWord w → Kept a (make v w))
-    → (o r : Option Bytes) (l : List ℤ) → between make (word_given o) (word_given r) ≡ some l → Kept a l
+    → (o r : Option Bytes) (l : List ℤ) → between make (word_given o) (word_given r) ≡ Some l → Kept a l
 unfolding between
 between-kept a make kept o r l h = go (word_given o) (word_given r) (given_is o) (given_is r) h
   where
-    go : (x y : Option Word) → ((w : Word) → x ≡ some w → IsWord w) → ((w : Word) → y ≡ some w → IsWord w) → between make x y ≡ some l → Kept a l
-    go none y p q h = absurd (never (cc h))
-    go (some v) none p q h = absurd (never (cc h))
-    go (some v) (some w) p q h = let same : make v w ≡ l = cc h in rw (← same) (kept v w (p v refl) (q w refl))
+    go : (x y : Option Word) → ((w : Word) → x ≡ Some w → IsWord w) → ((w : Word) → y ≡ Some w → IsWord w) → between make x y ≡ Some l → Kept a l
+    go None y p q h = absurd (never (cc h))
+    go (Some v) None p q h = absurd (never (cc h))
+    go (Some v) (Some w) p q h = let same : make v w ≡ l = cc h in rw (← same) (kept v w (p v refl) (q w refl))

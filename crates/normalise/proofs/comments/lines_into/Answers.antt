@@ -1,20 +1,48 @@
--- `lines_into`: every line stands after a space, the first too: behind that first space `lines_from` writes the text as from within a line
--- (`lined-is`).
-use mathlib.Core.Path.{◌∙◌}
-use Prim.Native.Nat.{ℕ}
-use lib.ListN.{length-set}
-use Rattle.normalise.proofs.Lined.{lines-place, lines-room, lines-done}
+use mathlib.Core.Path.{◌≡◌}
+use Prim.Native.Nat.{◌<◌}
+use native.Mathlib.Omega.{arith}
+use lib.ListN.{length, get_or}
+use Rattle.std.proofs.Common.{rules, tests}
+use Rattle.std.proofs.lemmas.List.{length_push}
+use Rattle.std.proofs.lemmas.Iterator.Splits.{YieldsList-from_slice_split}
+use Rattle.std.proofs.lemmas.Iterator.Consumers.{YieldsList-turn, YieldsList-end}
+use Rattle.rules.specs.Text.Ascii.{is}
+use Rattle.rules.specs.Text.Bytes.{cut}
+use Rattle.text.proofs.Squeezed.{cut-is}
+use Rattle.normalise.proofs.Lined.{lining-none, lining-room, lining-line, lining-end}
 use Rattle.normalise.proofs.comments.lines_into.Goals as goal
+use Rattle.normalise.proofs.comments.lines_into.Goals.{In-Some}
 
-pub bounds-dst-0 : goal.bounds-dst-0
-bounds-dst-0 c = lines-place c.args.src.now c.args.dst.now c.requires
+-- a turn's line is the next of those of src
+line : (c : In-Some)
+    → let ls = cut (is "\n") c.args.src.now in
+    (length c.loop-line.yielded < length ls) × (c.in-Some.line.now ≡ get_or ls (length c.loop-line.yielded) c.in-Some.line.now)
+line c =
+    let h = c.into_iter-line-iterator.ensures in
+    let t =
+    YieldsList-turn
+    (YieldsList-from_slice_split {s = c.into_iter-line-iterator.result} _ (is "\n") c.args.src.now (cc) (cc) (cc) (λ x b q k. search (rules, tests)))
+    c.loop-line.yielded _ c.loop-line.yielded_by _ _ c.in-Some.line c.in-Some.is c.next.ensures.steps in
+    rw (cut-is (is "\n") c.args.src.now) at t
 
-pub lines_from-requires : goal.lines_from-requires
-lines_from-requires c = lines-room c.args.src.now c.args.dst.now c.requires
+pub loop-line-init : goal.loop-line-init
+loop-line-init c = lining-none c.requires
 
-pub shape_of-dst : goal.shape_of-dst
-shape_of-dst c = c.lines_from.auto.dst ∙ length-set {A = ℕ} c.args.dst.now 0 32
+pub add_line-o-requires : goal.add_line-o-requires
+add_line-o-requires c =
+    let u = line (goal.at.add_line-o-requires c).In-Some in lining-room c.loop-line.invariant u.0 u.1
+
+pub loop-line-preserved : goal.loop-line-preserved
+loop-line-preserved c =
+    let u = line (goal.at.loop-line-preserved c).In-Some in
+    lining-line c.loop-line.invariant u.0 u.1 c.add_line-o.ensures (length_push c.loop-line.yielded c.in-Some.line)
 
 pub returns : goal.returns
 returns c =
-    lines-done c.args.src.now c.args.dst.now c.requires c.lines_from.ensures
+    let h = c.into_iter-line-iterator.ensures in
+    let t =
+    YieldsList-end
+    (YieldsList-from_slice_split {s = c.into_iter-line-iterator.result} _ (is "\n") c.args.src.now (cc) (cc) (cc) (λ x b q k. search (rules, tests)))
+    c.loop-line.yielded _ c.loop-line.yielded_by _ _ c.in-None.is c.next.ensures.steps in
+    let u = rw (cut-is (is "\n") c.args.src.now) at t in
+    lining-end c.loop-line.invariant (omega (arith, u.1))

@@ -1,12 +1,8 @@
 -- `newlines_into`: where `find` finds no carriage return, the text has its newlines already; else the two replacements are those of
 -- `newlines`, and neither makes a text heavier.
 use native.Mathlib.Omega.{arith}
-use Rattle.text.proofs.Wrote.{wrote-fits}
 use Rattle.normalise.proofs.Stripped.{none-room, none-wrote, once-room, twice-room, twice-wrote}
 use Rattle.normalise.proofs.comments.newlines_into.Goals as goal
-
-pub find-requires : goal.find-requires
-find-requires c = record { nonzero = omega arith; from_in_bounds = omega arith }
 
 pub put-requires : goal.put-requires
 put-requires c =
@@ -18,9 +14,6 @@ returns-then-text-find c =
 
 pub replace_into-n-requires : goal.replace_into-n-requires
 replace_into-n-requires c = record { nonzero = omega arith; src_in_bounds = once-room c.args.text.now c.requires.text_in_bounds }
-
-pub slice_bounds-replace_into-end-3 : goal.slice_bounds-replace_into-end-3
-slice_bounds-replace_into-end-3 c = wrote-fits c.replace_into-n.ensures
 
 pub replace_into-requires : goal.replace_into-requires
 replace_into-requires c = record { nonzero = omega arith; src_in_bounds = twice-room c.args.text.now c.replace_into-n.ensures c.requires.text_in_bounds_2 }

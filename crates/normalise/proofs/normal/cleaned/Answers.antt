@@ -2,17 +2,10 @@
 -- on the way has room by its weight.
 use native.Mathlib.Omega.{arith}
 use Rattle.normalise.proofs.Weights.{opened-room, begun-room, begun-wrote}
-use Rattle.text.proofs.Wrote.{wrote-fits, wrote-counts}
 use Rattle.normalise.proofs.normal.cleaned.Goals as goal
 
 pub replace_into-n-requires : goal.replace_into-n-requires
 replace_into-n-requires c = record { nonzero = omega arith; src_in_bounds = opened-room c.args.text.now c.trim-t.ensures c.trim-u.ensures c.requires.text_in_bounds }
-
-pub slice_bounds-squeeze_into-end : goal.slice_bounds-squeeze_into-end
-slice_bounds-squeeze_into-end c = wrote-fits c.replace_into-n.ensures
-
-pub slice_bounds-squeeze_into-end-2 : goal.slice_bounds-squeeze_into-end-2
-slice_bounds-squeeze_into-end-2 c = wrote-counts c.replace_into-n.ensures
 
 pub squeeze_into-requires : goal.squeeze_into-requires
 squeeze_into-requires c =

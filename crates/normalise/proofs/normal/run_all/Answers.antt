@@ -1,4 +1,3 @@
-use Prim.Native.Nat.{◌+◌}
 use native.Mathlib.Omega.{arith}
 use Rattle.rules.specs.Text.Normal.{replacements}
 use Rattle.laws_text.specs.Sizes.{replacements-light}
@@ -8,38 +7,11 @@ use Rattle.normalise.proofs.normal.run_all.Goals as goal
 pub loop-at-init : goal.loop-at-init
 loop-at-init c = running-start replacements c.requires.rules_value replacements-light c.requires.n_in_bounds c.requires.a_in_bounds c.requires.a_in_bounds_2
 
-pub overflow_cast-p : goal.overflow_cast-p
-overflow_cast-p c = omega (arith, c.type_inv.rules c.loop-at.at)
-
 pub bounds-rules-at-in-loop-at : goal.bounds-rules-at-in-loop-at
 bounds-rules-at-in-loop-at c = running_more c.loop-at.invariant c.loop-at-test.true
 
-pub overflow_cast-q : goal.overflow_cast-q
-overflow_cast-q c = omega (arith, c.type_inv.rules (c.loop-at.at + 1))
-
-pub overflow_add-from : goal.overflow_add-from
-overflow_add-from c = omega (arith, running-last c.loop-at.invariant c.loop-at-test.true)
-
-pub overflow_add-mid : goal.overflow_add-mid
-overflow_add-mid c = omega (arith, running-last c.loop-at.invariant c.loop-at-test.true)
-
-pub overflow_add-end : goal.overflow_add-end
-overflow_add-end c = omega (arith, running-last c.loop-at.invariant c.loop-at-test.true)
-
-pub slice_bounds-rewrite-count : goal.slice_bounds-rewrite-count
-slice_bounds-rewrite-count c = omega (arith, running-last c.loop-at.invariant c.loop-at-test.true)
-
-pub slice_bounds-rewrite-start : goal.slice_bounds-rewrite-start
-slice_bounds-rewrite-start c = omega (arith, running-last c.loop-at.invariant c.loop-at-test.true)
-
 pub slice_bounds-rewrite-end : goal.slice_bounds-rewrite-end
 slice_bounds-rewrite-end c = omega (arith, running-last c.loop-at.invariant c.loop-at-test.true)
-
-pub slice_bounds-rewrite-count-in-loop-at : goal.slice_bounds-rewrite-count-in-loop-at
-slice_bounds-rewrite-count-in-loop-at c = omega (arith, running-last c.loop-at.invariant c.loop-at-test.true)
-
-pub slice_bounds-rewrite-start-in-loop-at : goal.slice_bounds-rewrite-start-in-loop-at
-slice_bounds-rewrite-start-in-loop-at c = omega (arith, running-last c.loop-at.invariant c.loop-at-test.true)
 
 pub slice_bounds-rewrite-end-in-loop-at : goal.slice_bounds-rewrite-end-in-loop-at
 slice_bounds-rewrite-end-in-loop-at c = omega (arith, running-last c.loop-at.invariant c.loop-at-test.true)
@@ -47,19 +19,9 @@ slice_bounds-rewrite-end-in-loop-at c = omega (arith, running-last c.loop-at.inv
 pub rewrite-m-requires : goal.rewrite-m-requires
 rewrite-m-requires c = let all = running-asks c.loop-at.invariant c.loop-at-test.true in record { nonzero = all.0; n_in_bounds = all.1.0; a_in_bounds = all.1.1.0; a_in_bounds_2 = all.1.1.1 }
 
-pub loop-at-smaller : goal.loop-at-smaller
-loop-at-smaller c =
-    omega (arith, running-last c.loop-at.invariant c.loop-at-test.true)
-
 pub loop-at-preserved : goal.loop-at-preserved
 loop-at-preserved c =
     running-next c.loop-at.invariant c.loop-at-test.true c.rewrite-m.ensures c.rewrite-m.auto.a c.rewrite-m.auto.b
-
-pub shape_of-a : goal.shape_of-a
-shape_of-a c = c.loop-at.invariant.same-a
-
-pub shape_of-b : goal.shape_of-b
-shape_of-b c = c.loop-at.invariant.same-b
 
 pub returns : goal.returns
 returns c = running-end c.loop-at.invariant c.loop-at-test.false

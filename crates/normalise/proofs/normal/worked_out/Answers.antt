@@ -5,18 +5,18 @@ use Rattle.rules.specs.Text.Normal.{becomes, subscript_becomes, replacements}
 use Rattle.rules.specs.Text.Ascii.{ascii}
 use Rattle.normalise.proofs.Weights.{run_room, squeezed-room, normal-holds}
 use Rattle.normalise.specs.Table.{table}
-use Rattle.text.proofs.Wrote.{wrote-fits, wrote-counts}
+use Rattle.text.proofs.Wrote.{wrote-fits}
 use Rattle.normalise.proofs.normal.worked_out.Goals as goal
 
 pub run_all-m-requires : goal.run_all-m-requires
 unfolding ascii becomes subscript_becomes replacements table
-run_all-m-requires c = record { rules_value = refl; n_in_bounds = wrote-fits c.cleaned-n.ensures; a_in_bounds = run_room c.args.text.now c.cleaned-n.ensures c.requires.text_in_bounds_2 c.cleaned-n.auto.b; a_in_bounds_2 = run_room c.args.text.now c.cleaned-n.ensures c.requires.text_in_bounds c.cleaned-n.auto.a }
-
-pub slice_bounds-squeeze_into-end : goal.slice_bounds-squeeze_into-end
-slice_bounds-squeeze_into-end c = wrote-fits c.run_all-m.ensures
-
-pub slice_bounds-squeeze_into-end-2 : goal.slice_bounds-squeeze_into-end-2
-slice_bounds-squeeze_into-end-2 c = wrote-counts c.run_all-m.ensures
+run_all-m-requires c =
+    record {
+      rules_value = refl;
+      n_in_bounds = wrote-fits c.cleaned-n.ensures;
+      a_in_bounds = run_room c.args.text.now c.cleaned-n.ensures c.requires.text_in_bounds_2 c.cleaned-n.auto.b;
+      a_in_bounds_2 = run_room c.args.text.now c.cleaned-n.ensures c.requires.text_in_bounds c.cleaned-n.auto.a;
+    }
 
 pub squeeze_into-requires : goal.squeeze_into-requires
 squeeze_into-requires c =

@@ -1,25 +1,14 @@
-use lib.IntN.{pos}
-use Rattle.rules.specs.Text.Lists.{all_of}
+use Rattle.std.proofs.Common.{rules, tests, ◌≡◌, ◌∙◌}
+use Rattle.std.specs.List.{list_all}
+use Rattle.std.proofs.lemmas.Iterator.{YieldsList-from_slice}
+use Rattle.std.proofs.lemmas.Iterator.Search.{all_from_yields_List}
 use Rattle.numbers.specs.Order.{up_to}
-use Rattle.numbers.proofs.OrderTest.{up-low, up-high, up-so}
-use Rattle.numbers.proofs.Rest.{rest_all, rest-next, rest-here, rest_end, all_so, all-not}
+use Rattle.numbers.proofs.Rest.{all_is}
 use Rattle.numbers.proofs.order.are_up_to.Goals as goal
 
-pub loop-i-init : goal.loop-i-init
-loop-i-init c = rest_all _ _
-
-pub returns-then-m-lt1 : goal.returns-then-m-lt1
-returns-then-m-lt1 c =
-    rest-here (pos 0) c.loop-i.invariant c.loop-i-test.true (all-not _ _ _ (up-low _ _ _ c.size_at-m.ensures c.if-m-lt1.true))
-
-pub returns-then-n-m : goal.returns-then-n-m
-returns-then-n-m c =
-    rest-here (pos 0) c.loop-i.invariant c.loop-i-test.true (all-not _ _ _ (up-high _ _ _ c.size_at-m.ensures c.if-m-lt1.false c.if-n-m.true))
-
-pub loop-i-preserved : goal.loop-i-preserved
-loop-i-preserved c =
-    rest-next (all_of (up_to _)) (pos 0) c.loop-i.invariant c.loop-i-test.true (all_so _ _ _ (up-so _ _ _ c.size_at-m.ensures c.if-m-lt1.false c.if-n-m.false))
-
 pub returns : goal.returns
-unfolding all_of
-returns c = rest_end c.loop-i.invariant c.loop-i-test.false
+unfolding up_to
+returns c =
+    let e : c.all.result ≡ list_all (up_to c.args.n) c.args.l.now =
+    all_from_yields_List (up_to c.args.n) _ _ _ c.all.ensures.ran (YieldsList-from_slice c.args.l.now cc) (λ x b q k. search (rules, tests)) in
+    e ∙ all_is (up_to c.args.n) c.args.l.now

@@ -1,21 +1,14 @@
-use lib.IntN.{pos}
-use Rattle.rules.specs.Text.Lists.{any_of}
+use Rattle.std.proofs.Common.{rules, tests, ◌≡◌, ◌∙◌}
+use Rattle.std.specs.List.{list_any}
+use Rattle.std.proofs.lemmas.Iterator.{YieldsList-from_slice}
+use Rattle.std.proofs.lemmas.Iterator.Search.{any_from_yields_List}
 use Rattle.numbers.specs.Order.{of_size}
-use Rattle.numbers.proofs.OrderTest.{size-so, size-not}
-use Rattle.numbers.proofs.Rest.{rest_all, rest-next, rest-here, rest_end, any-so, any-not}
+use Rattle.numbers.proofs.Rest.{any_is}
 use Rattle.numbers.proofs.order.is_among.Goals as goal
 
-pub loop-i-init : goal.loop-i-init
-loop-i-init c = rest_all _ _
-
-pub returns-then-size_at-m : goal.returns-then-size_at-m
-returns-then-size_at-m c =
-    rest-here (pos 0) c.loop-i.invariant c.loop-i-test.true (any-so _ _ _ (size-so _ _ _ c.size_at.ensures c.if-size_at-m.true))
-
-pub loop-i-preserved : goal.loop-i-preserved
-loop-i-preserved c =
-    rest-next (any_of (of_size _)) (pos 0) c.loop-i.invariant c.loop-i-test.true (any-not _ _ _ (size-not _ _ _ c.size_at.ensures c.if-size_at-m.false))
-
 pub returns : goal.returns
-unfolding any_of
-returns c = rest_end c.loop-i.invariant c.loop-i-test.false
+unfolding of_size
+returns c =
+    let e : c.any.result ≡ list_any (of_size c.args.m) c.args.l.now =
+    any_from_yields_List (of_size c.args.m) _ _ _ c.any.ensures.ran (YieldsList-from_slice c.args.l.now cc) (λ x b q k. search (rules, tests)) in
+    e ∙ any_is (of_size c.args.m) c.args.l.now

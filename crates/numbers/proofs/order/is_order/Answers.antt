@@ -1,19 +1,18 @@
--- `is_order`: the code asks the same as `is_order`, from one to four arguments, sizes up to their number, none repeated; the first test that
--- fails decides.
-use borrow.Author.Tests.{not-true, not-false}
-use Rattle.numbers.proofs.OrderTest.{order-none, order-long, order-fails, order-so}
+use Rattle.std.proofs.Common.{arith, inl, inr}
+use Rattle.std.proofs.lemmas.Bool.Decides.{nat_tests}
+use Rattle.rules.specs.Operators.Arguments.{is_order}
+use Rattle.numbers.specs.Order.{up_to}
 use Rattle.numbers.proofs.order.is_order.Goals as goal
+use Rattle.numbers.proofs.order.is_order.Goals.{then-n-ge1, else-n-ge1, then-n-le4, else-n-le4}
 
-pub returns-then-n-lt1 : goal.returns-then-n-lt1
-returns-then-n-lt1 c = order-none _ c.if-n-lt1.true
+pub returns-then-are_up_to : goal.returns-then-are_up_to
+unfolding is_order up_to
+returns-then-are_up_to c = grind (arith, nat_tests)
 
-pub returns-then-n-gt4 : goal.returns-then-n-gt4
-returns-then-n-gt4 c = order-long _ c.if-n-lt1.false c.if-n-gt4.true
-
-pub returns-then-not-are_up_to : goal.returns-then-not-are_up_to
-returns-then-not-are_up_to c =
-    order-fails _ _ c.if-n-lt1.false c.if-n-gt4.false c.are_up_to.ensures (not-true _ c.if-not-are_up_to.true-raw)
-
-pub returns : goal.returns
-returns c =
-    order-so _ _ _ c.if-n-lt1.false c.if-n-gt4.false c.are_up_to.ensures (not-false _ c.if-not-are_up_to.false-raw) c.is_distinct.ensures
+pub returns-else-are_up_to : goal.returns-else-are_up_to
+unfolding is_order up_to
+returns-else-are_up_to c =
+    elim c.if-n-le4.branch [
+      | then-n-le4 w ↦ grind (arith, nat_tests)
+      | else-n-le4 w ↦ elim w.if-n-le4.either [ inl a ↦ grind (arith, nat_tests) | inr a ↦ grind (arith, nat_tests) ]
+    ]

@@ -1,11 +1,14 @@
--- `is_minus`: an i32 is passed by its bits, which stand for the number itself (`to_z-of_z`), and a number is below zero where its sign is
--- minus (`below`).
-use mathlib.Core.Path.{ap, ◌∙◌}
-use lib.IntN.{ℤ, pos}
+-- `is_minus`: a number is below zero where its sign is minus (`below`).
+use Rattle.std.proofs.Common.{◌≡◌, refl, ℤ, pos, negsuc, to_z-of_z}
+use lib.Dec.{leb-suc-zero}
 use lib.Signed.{lt_z}
-use mir.Facts.{to_z-of_z}
-use Rattle.numbers.proofs.Sizes.{below}
+use Rattle.rules.specs.Text.Decimal.{minus}
 use Rattle.numbers.proofs.signs.is_minus.Goals as goal
 
+below : (x : ℤ) → lt_z x (pos 0) ≡ minus x
+unfolding minus
+below (pos n) = leb-suc-zero n
+below (negsuc n) = refl
+
 pub returns : goal.returns
-returns c = ap (λ (z : ℤ). lt_z z (pos 0)) (to_z-of_z c.ranges.x) ∙ below c.args.x
+returns c = rw (to_z-of_z c.ranges.x) (below c.args.x)

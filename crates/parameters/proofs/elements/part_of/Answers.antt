@@ -5,12 +5,12 @@ use Rattle.parameters.proofs.elements.part_of.Goals as goal
 
 pub returns-then-q-to : goal.returns-then-q-to
 returns-then-q-to c =
-    part_cut _ c.requires.spelt c.requires.from_le_to.0 c.requires.from_le_to.1 c.run_end-q.ensures _ c.if-q-to.true c.run_end-r.ensures
+    part_cut _ c.args.source.spelt c.requires.0 c.requires.1 c.run_end-q.ensures _ c.if-q-to.true c.run_end-r.ensures
 
 pub returns-then-first : goal.returns-then-first
 returns-then-first c =
-    rw c.if-first.true (part-name _ c.requires.spelt c.requires.from_le_to.0 c.requires.from_le_to.1 c.run_end-q.ensures c.if-q-to.false)
+    rw c.if-first.true (part-name _ c.args.source.spelt c.requires.0 c.requires.1 c.run_end-q.ensures c.if-q-to.false)
 
 pub returns : goal.returns
 returns c =
-    rw c.if-first.false (part-key _ c.requires.spelt c.requires.from_le_to.0 c.requires.from_le_to.1 c.run_end-q.ensures c.if-q-to.false)
+    rw c.if-first.false (part-key _ c.args.source.spelt c.requires.0 c.requires.1 c.run_end-q.ensures c.if-q-to.false)

@@ -1,17 +1,14 @@
-use mathlib.Core.Path.{ap}
-use mathlib.Core.Bool.{not}
-use borrow.Author.Tests.{eq-eqb, ne_eqb}
-use Rattle.text.proofs.RunEnd.{scan-none, scan-next, scan-here, scan-end}
+-- `byte_end`: the other bytes go up to the first of that kind, which `position` finds.
+use Rattle.std.proofs.Common.{rules, tests}
+use Rattle.std.proofs.lemmas.Iterator.{YieldsList-from_slice}
+use Rattle.std.proofs.lemmas.Iterator.Search.{position_from_yields_List}
+use lib.Dec.{eqb}
+use Prim.Native.Nat.{ℕ}
+use Rattle.text.proofs.Lead.{part-from}
+use Rattle.prepare.proofs.ByteEnd.{place, run-is}
 use Rattle.prepare.proofs.decimal.byte_end.Goals as goal
 
-pub loop-i-init : goal.loop-i-init
-loop-i-init c = scan-none _ _ _ c.requires
-
-pub returns-then-s-i : goal.returns-then-s-i
-returns-then-s-i c = scan-here c.loop-i.invariant c.loop-i-test.true (ap not (eq-eqb _ _ c.if-s-i.true))
-
-pub loop-i-preserved : goal.loop-i-preserved
-loop-i-preserved c = scan-next c.loop-i.invariant c.loop-i-test.true (ap not (ne_eqb _ _ c.if-s-i.false))
-
 pub returns : goal.returns
-returns c = scan-end c.loop-i.invariant c.loop-i-test.false
+returns c =
+    let found = position_from_yields_List (λ (x : ℕ). eqb x c.args.b) _ _ c.position-run.result c.position-run.ensures.ran (YieldsList-from_slice _ cc) (λ x b q k. search (rules, tests)) in
+    run-is c.requires (rw (part-from c.args.s.now c.args.at) at (place (λ (x : ℕ). eqb x c.args.b) _ found c.unwrap_or.ensures))

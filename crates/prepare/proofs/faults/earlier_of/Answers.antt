@@ -1,20 +1,16 @@
--- Each way out is a case of `earlier`.
-use borrow.Author.Tests.{eq-eqb, ne_eqb, lt-ltb, le-ltb}
+-- Each arm is a case of `earlier`.
+use borrow.Author.Tests.{eq-eqb, ne_eqb}
 use Rattle.prepare.specs.Faults.{earlier}
 use Rattle.prepare.proofs.faults.earlier_of.Goals as goal
 
-pub returns-then-a-ne12 : goal.returns-then-a-ne12
+pub returns-in-true-true : goal.returns-in-true-true
 unfolding earlier
-returns-then-a-ne12 c = rw (ne_eqb _ _ c.if-a-ne12.true)
+returns-in-true-true c = rw (eq-eqb _ _ c.in-true-true.is-0, eq-eqb _ _ c.in-true-true.is-1) c.min.ensures
 
-pub returns-then-b-ne12 : goal.returns-then-b-ne12
+pub returns-in-true-false : goal.returns-in-true-false
 unfolding earlier
-returns-then-b-ne12 c = rw (eq-eqb _ _ c.if-a-ne12.false, ne_eqb _ _ c.if-b-ne12.true)
+returns-in-true-false c = rw (eq-eqb _ _ c.in-true-false.is-0, ne_eqb _ _ c.in-true-false.is-1)
 
-pub returns-then-at_a-at_b : goal.returns-then-at_a-at_b
+pub returns-in-false-default : goal.returns-in-false-default
 unfolding earlier
-returns-then-at_a-at_b c = rw (eq-eqb _ _ c.if-a-ne12.false, eq-eqb _ _ c.if-b-ne12.false, lt-ltb _ _ c.if-at_a-at_b.true)
-
-pub returns : goal.returns
-unfolding earlier
-returns c = rw (eq-eqb _ _ c.if-a-ne12.false, eq-eqb _ _ c.if-b-ne12.false, le-ltb _ _ c.if-at_a-at_b.false)
+returns-in-false-default c = rw (ne_eqb _ _ c.in-false-default.is-0)

@@ -8,6 +8,6 @@ pub returns-then-is_same : goal.returns-then-is_same
 unfolding flag_fault ascii
 returns-then-is_same c = sym (rw (sym c.is_same.ensures ∙ c.if-is_same.true))
 
-pub returns : goal.returns
+pub returns-else-is_same : goal.returns-else-is_same
 unfolding flag_fault ascii
-returns c = sym (rw (sym c.is_same.ensures ∙ c.if-is_same.false))
+returns-else-is_same c = sym (rw (sym c.is_same.ensures ∙ c.if-is_same.false))

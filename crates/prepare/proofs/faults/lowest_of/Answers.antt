@@ -1,44 +1,29 @@
-use Rattle.parameters.proofs.Tabled.{no_part}
-use Rattle.prepare.proofs.EarliestFault.{lowering-none, value-small, lowering-at, lowering-more, lowering-end}
-use borrow.Author.Rules.{rules}
+use Rattle.parameters.specs.Parts.{no_part}
+use Rattle.parameters.specs.Tables.{text}
+use Rattle.parameters.proofs.Places.{held-within}
+use Rattle.prepare.proofs.EarliestFault.{lowering-none, value-small, lowering-more, lowering-end}
 use Rattle.prepare.proofs.faults.lowest_of.Goals as goal
 
-pub loop-i-init : goal.loop-i-init
-loop-i-init c = lowering-none _ c.requires.table c.without_series-low.ensures
+pub loop-p-init : goal.loop-p-init
+loop-p-init c = lowering-none (text c.args.table.now) c.held-p-items.result.now c.args.name c.without_series-low.ensures
 
-pub value_at-at-requires : goal.value_at-at-requires
-value_at-at-requires c = lowering-at c.loop-i.invariant no_part c.loop-i-test.true c.part_at-p.ensures
+pub key-requires : goal.key-requires
+key-requires c = held-within c.args.table.now.good c.held-p-items.ensures _ _ c.loop-p-test.true
 
-pub slice_bounds-fault_of-count : goal.slice_bounds-fault_of-count
-slice_bounds-fault_of-count c = (lowering-at c.loop-i.invariant no_part c.loop-i-test.true c.part_at-p.ensures).key-ahead
+pub value-requires : goal.value-requires
+value-requires c = held-within c.args.table.now.good c.held-p-items.ensures _ _ c.loop-p-test.true
 
-pub slice_bounds-fault_of-start : goal.slice_bounds-fault_of-start
-slice_bounds-fault_of-start c =
-    let h = lowering-at c.loop-i.invariant no_part c.loop-i-test.true c.part_at-p.ensures in search (rules, h)
-
-pub slice_bounds-fault_of-end : goal.slice_bounds-fault_of-end
-slice_bounds-fault_of-end c =
-    let h = lowering-at c.loop-i.invariant no_part c.loop-i-test.true c.part_at-p.ensures in search (rules, h)
-
-pub slice_bounds-fault_of-count-in-loop-i : goal.slice_bounds-fault_of-count-in-loop-i
-slice_bounds-fault_of-count-in-loop-i c =
-    (lowering-at c.loop-i.invariant no_part c.loop-i-test.true c.part_at-p.ensures).value-ahead
-
-pub slice_bounds-fault_of-start-in-loop-i : goal.slice_bounds-fault_of-start-in-loop-i
-slice_bounds-fault_of-start-in-loop-i c =
-    let h = lowering-at c.loop-i.invariant no_part c.loop-i-test.true c.part_at-p.ensures in search (rules, h)
-
-pub slice_bounds-fault_of-end-in-loop-i : goal.slice_bounds-fault_of-end-in-loop-i
-slice_bounds-fault_of-end-in-loop-i c =
-    let h = lowering-at c.loop-i.invariant no_part c.loop-i-test.true c.part_at-p.ensures in search (rules, h)
+pub value_at-requires : goal.value_at-requires
+value_at-requires c = held-within c.args.table.now.good c.held-p-items.ensures _ _ c.loop-p-test.true
 
 pub fault_of-fault-requires : goal.fault_of-fault-requires
 fault_of-fault-requires c =
-    value-small (lowering-at c.loop-i.invariant no_part c.loop-i-test.true c.part_at-p.ensures) c.requires.s_len_bound c.value_at-at.ensures
+    value-small (held-within c.args.table.now.good c.held-p-items.ensures _ no_part c.loop-p-test.true) c.args.table.now.source.small c.value_at.ensures c.value.ensures
 
-pub loop-i-preserved : goal.loop-i-preserved
-loop-i-preserved c =
-    lowering-more c.loop-i.invariant no_part c.loop-i-test.true c.part_at-p.ensures c.value_at-at.ensures c.fault_of-fault.ensures c.both-low.ensures
+pub loop-p-preserved : goal.loop-p-preserved
+loop-p-preserved c =
+    lowering-more (text c.args.table.now) c.held-p-items.result.now c.loop-p.invariant no_part c.loop-p-test.true c.value_at.ensures c.key.ensures c.value.ensures
+    c.fault_of-fault.ensures c.both-low.ensures
 
 pub returns : goal.returns
-returns c = lowering-end c.loop-i.invariant c.loop-i-test.false
+returns c = rw (← c.held-p-items.ensures) (lowering-end (text c.args.table.now) c.held-p-items.result.now c.loop-p.invariant no_part c.loop-p-test.false)

@@ -1,10 +1,7 @@
--- What is so of the parameters from i on.
-use Rattle.parameters.specs.Parts.{table_in}
+-- What is so of the first parameters.
+use Rattle.parameters.specs.Tables.{text}
 use Rattle.prepare.proofs.EarliestFault.{Lowering}
 use Rattle.prepare.proofs.faults.lowest_of.Given as goal
 
-abbrev pub invariant-loop-i : goal.invariant-loop-i
-invariant-loop-i l = Lowering l.s (table_in l.row l.n) l.name l.i l.low
-
-abbrev pub decreases-loop-i : goal.decreases-loop-i
-decreases-loop-i l = l.i
+abbrev pub invariant-loop-p : goal.invariant-loop-p
+invariant-loop-p l = Lowering (text l.table) l.p-items l.name l.p-index l.low

@@ -1,7 +1,8 @@
--- A number beside a series of no numbers.
+-- A number, and no series.
+use mathlib.Core.Path.{refl}
 use Rattle.prepare.specs.Faults.{without}
 use Rattle.prepare.proofs.faults.without_series.Goals as goal
 
 pub returns : goal.returns
 unfolding without
-returns c = rw c.no_numbers.ensures
+returns c = refl

@@ -1,24 +1,25 @@
 -- `judge`: 10 where no name is given or it is none of the five; else what `judge_named` finds of the one that it is.
 use mathlib.Core.Path.{sym, ◌∙◌}
-use borrow.Author.Tests.{not-true, not-false}
 use Rattle.rules.specs.Text.Ascii.{ascii}
-use Rattle.parameters.specs.Parts.{table_in}
-use Rattle.prepare.proofs.Judged.{in-places, judged-unnamed, judged-other, judged-named}
+use Rattle.parameters.specs.Tables.{text, table_in}
+use Rattle.prepare.specs.Lookup.{placed_in}
+use Rattle.prepare.proofs.EarliestFault.{given-in}
+use Rattle.prepare.proofs.Judged.{judged-unnamed, judged-other, judged-named}
 use Rattle.prepare.proofs.judge.judge.Goals as goal
 
-pub returns-then-not-v : goal.returns-then-not-v
+pub returns-in_default : goal.returns-in_default
 unfolding ascii
-returns-then-not-v c =
-    judged-unnamed _ _ (in-places (table_in c.args.row.now c.args.n) _ c.value_of-v.ensures) (not-true _ c.if-not-v.true) c.refused.ensures
+returns-in_default c =
+    judged-unnamed _ (placed_in c.args.table.now) (rw (given-in (text c.args.table.now) (table_in c.args.table.now)) c.in_default.ensures) c.refused.ensures
 
-pub returns-in-Is : goal.returns-in-Is
+pub returns-in-Some-name_of : goal.returns-in-Some-name_of
 unfolding ascii
-returns-in-Is c =
-    let there = in-places (table_in c.args.row.now c.args.n) _ c.value_of-v.ensures in
-    judged-named _ _ there (not-false _ c.if-not-v.false) (sym c.name_of-named.ensures ∙ c.in-Is.is) c.judge_named.ensures
+returns-in-Some-name_of c =
+    judged-named _ (placed_in c.args.table.now) (rw (given-in (text c.args.table.now) (table_in c.args.table.now)) c.in-Some.ensures)
+    (sym c.name_of.ensures ∙ c.in-Some-name_of.is) c.judge_named.ensures
 
-pub returns-in-Not : goal.returns-in-Not
+pub returns-in-None : goal.returns-in-None
 unfolding ascii
-returns-in-Not c =
-    let there = in-places (table_in c.args.row.now c.args.n) _ c.value_of-v.ensures in
-    judged-other _ _ there (not-false _ c.if-not-v.false) (sym c.name_of-named.ensures ∙ c.in-Not.is) c.refused-in-Not.ensures
+returns-in-None c =
+    judged-other _ (placed_in c.args.table.now) (rw (given-in (text c.args.table.now) (table_in c.args.table.now)) c.in-Some.ensures)
+    (sym c.name_of.ensures ∙ c.in-None.is) c.refused-in-None.ensures

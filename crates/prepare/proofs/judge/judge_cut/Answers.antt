@@ -1,16 +1,19 @@
--- `judge_cut`: the words' table stands in the row, each parameter in its place, or has no room there.
-use mathlib.Core.Path.{refl}
+-- `judge_cut`: the words' table has each parameter in its place, or they have no room there.
+use mathlib.Core.Path.{◌≡◌, ap, ◌∙◌}
+use Rattle.parameters.specs.declared.table.Source.{Source}
+use Rattle.parameters.specs.Tables.{front, text, table_in}
+use Rattle.rules.specs.Text.Bytes.{words}
 use Rattle.prepare.proofs.StepText.{cut-full, cut-table}
 use Rattle.prepare.proofs.judge.judge_cut.Goals as goal
 
-pub words_into-t-requires : goal.words_into-t-requires
-words_into-t-requires c = record { spelt = c.requires.spelt; s_value = c.requires.s_value; row_len = refl }
+pub enter_cut-requires : goal.enter_cut-requires
+enter_cut-requires c = record { s_value = rw c.new-table.ensures.from c.requires; none = c.new-table.ensures.none }
 
-pub returns-then-t : goal.returns-then-t
-returns-then-t c = cut-full _ c.args.n c.words_into-t.ensures c.if-t.true c.refused.ensures
+pub returns-in-Err : goal.returns-in-Err
+returns-in-Err c = cut-full _ (words (front c.args.source)) (rw c.new-table.ensures.from at c.in-Err.ensures.entered.1) c.refused.ensures
 
-pub judge-requires : goal.judge-requires
-judge-requires c = record { table = c.words_into-t.ensures.good c.if-t.false; s_len_bound = c.requires.s_len_bound }
-
-pub returns : goal.returns
-returns c = cut-table _ c.args.n c.words_into-t.ensures c.if-t.false c.judge.ensures
+pub returns-in-Ok : goal.returns-in-Ok
+returns-in-Ok c =
+    let then : c.enter_cut.new.self.source.s.now ≡ c.args.source.s.now = ap (λ (x : Source). x.s.now) (c.in-Ok.ensures.from ∙ c.new-table.ensures.from) in
+    cut-table _ (words (front c.args.source)) (text c.enter_cut.new.self) (table_in c.enter_cut.new.self) c.enter_cut.new.self.good
+    (rw then (rw c.new-table.ensures.from at c.in-Ok.ensures.entered.0)) c.judge.ensures

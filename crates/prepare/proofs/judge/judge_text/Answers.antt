@@ -1,7 +1,6 @@
 -- `judge_text`: each test that a text does not pass is one that the table of its parameters makes too; what passes them all is judged by its words as
 -- they are cut, which stand in b with `_nametrue` behind them.
 use mathlib.Core.Path.{sym, ◌∙◌}
-use Rattle.text.proofs.Wrote.{wrote-fits, wrote-counts}
 use Rattle.prepare.proofs.StepByStep.{line-some}
 use Rattle.prepare.proofs.StepText.{text-parted, text-blank, text-modifiers, text-cut, line-room, has-line, no_line, behind-room, cut-spelt, cut_short, cut-words, cut-joined}
 use Rattle.prepare.proofs.judge.judge_text.Goals as goal
@@ -28,15 +27,13 @@ pub put-m-requires : goal.put-m-requires
 put-m-requires c =
     behind-room c.args.s.now (has-line _ _ _ _ c.line_at-line.ensures c.in-To.is) c.requires.s_in_bounds c.line_at-line.auto.dst
 
-pub slice_bounds-judge_cut-end : goal.slice_bounds-judge_cut-end
-slice_bounds-judge_cut-end c = wrote-fits c.put-m.ensures
-
-pub slice_bounds-judge_cut-end-2 : goal.slice_bounds-judge_cut-end-2
-slice_bounds-judge_cut-end-2 c = wrote-counts c.put-m.ensures
+pub invariant_of-judge_cut : goal.invariant_of-judge_cut
+invariant_of-judge_cut c =
+    let has = has-line _ _ _ _ c.line_at-line.ensures c.in-To.is in
+    record { spelt = cut-spelt c.args.s.now has c.put-m.ensures; small = cut_short c.args.s.now has c.put-m.ensures c.requires.s_len_bound }
 
 pub judge_cut-requires : goal.judge_cut-requires
-judge_cut-requires c =
-    let has = has-line _ _ _ _ c.line_at-line.ensures c.in-To.is in record { spelt = cut-spelt c.args.s.now has c.put-m.ensures; s_len_bound = cut_short c.args.s.now has c.put-m.ensures c.requires.s_len_bound; s_value = cut-joined c.args.s.now has c.put-m.ensures }
+judge_cut-requires c = cut-joined c.args.s.now (has-line _ _ _ _ c.line_at-line.ensures c.in-To.is) c.put-m.ensures
 
 pub returns : goal.returns
 returns c =

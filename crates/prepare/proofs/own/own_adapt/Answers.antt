@@ -19,7 +19,7 @@ between-list-requires c = record { ready = c.word_given-from.ensures.ready (not_
 
 pub recorded-requires : goal.recorded-requires
 unfolding ascii
-recorded-requires c = record { table = c.requires; good = adapt-good _ _ c.word_given-from.ensures c.word_given-to.ensures (not_left c.if-not-from.false) (not_left c.if-not-to.false) c.between-list.ensures }
+recorded-requires c = record { good = adapt-good _ _ c.word_given-from.ensures c.word_given-to.ensures (not_left c.if-not-from.false) (not_left c.if-not-to.false) c.between-list.ensures }
 
 pub returns : goal.returns
 unfolding ascii

@@ -3,10 +3,10 @@ use Rattle.prepare.proofs.OwnRules.{own-push, own-pop}
 use Rattle.prepare.proofs.own.own_rule.Goals as goal
 
 pub own_stack-requires : goal.own_stack-requires
-own_stack-requires c = record { table = c.requires.table; lowers = rw c.in-Stack.is at c.requires.lowers; number_value = c.requires.number_value }
+own_stack-requires c = record { lowers = rw c.in-Stack.is at c.requires.lowers; number_value = c.requires.number_value }
 
 pub own_order-requires : goal.own_order-requires
-own_order-requires c = record { table = c.requires.table; lowers = rw c.in-Axisswap.is at c.requires.lowers; number_value = c.requires.number_value }
+own_order-requires c = record { lowers = rw c.in-Axisswap.is at c.requires.lowers; number_value = c.requires.number_value }
 
 pub returns-in-Push : goal.returns-in-Push
 returns-in-Push c = rw c.in-Push.is (own-push _ _ c.axes_of.ensures c.recorded.ensures)

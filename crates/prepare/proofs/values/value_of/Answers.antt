@@ -1,28 +1,28 @@
-use mathlib.Core.Path.{sym, ◌∙◌}
-use Rattle.parameters.proofs.Tabled.{no_part}
-use Rattle.prepare.proofs.KeyLookup.{looking-none, looking-at, looking-found, looking-past, looking-end}
-use borrow.Author.Rules.{rules}
+use mathlib.Core.Path.{refl}
+use Rattle.parameters.specs.Parts.{no_part}
+use Rattle.parameters.specs.Tables.{text}
+use Rattle.parameters.proofs.Places.{held-within}
+use Rattle.prepare.proofs.KeyLookup.{looking-here, looking-more, looking-end}
+use Rattle.prepare.proofs.SameBytes.{told-same}
 use Rattle.prepare.proofs.values.value_of.Goals as goal
 
-pub loop-i-init : goal.loop-i-init
-loop-i-init c = looking-none _ c.requires
+pub key-requires : goal.key-requires
+key-requires c = held-within c.args.table.now.good c.held-p-items.ensures _ _ c.loop-p-test.true
 
-pub slice_bounds-is_same-count : goal.slice_bounds-is_same-count
-slice_bounds-is_same-count c = (looking-at c.loop-i.invariant no_part c.loop-i-test.true c.part_at-p.ensures).key-ahead
+pub value-requires : goal.value-requires
+value-requires c = held-within c.args.table.now.good c.held-p-items.ensures _ _ c.loop-p-test.true
 
-pub slice_bounds-is_same-start : goal.slice_bounds-is_same-start
-slice_bounds-is_same-start c = let h = looking-at c.loop-i.invariant no_part c.loop-i-test.true c.part_at-p.ensures in search (rules, h)
+pub returns-then-eq : goal.returns-then-eq
+returns-then-eq c =
+    rw (c.value.ensures, ← c.held-p-items.ensures)
+    (looking-here (text c.args.table.now) c.held-p-items.result.now c.args.key.now _ c.loop-p.invariant no_part c.loop-p-test.true
+    (told-same c.eq.ensures c.if-eq.true refl c.key.ensures))
 
-pub slice_bounds-is_same-end : goal.slice_bounds-is_same-end
-slice_bounds-is_same-end c = let h = looking-at c.loop-i.invariant no_part c.loop-i-test.true c.part_at-p.ensures in search (rules, h)
-
-pub returns-then-is_same : goal.returns-then-is_same
-returns-then-is_same c =
-    looking-found c.loop-i.invariant no_part c.loop-i-test.true c.part_at-p.ensures (sym c.is_same.ensures ∙ c.if-is_same.true)
-
-pub loop-i-preserved : goal.loop-i-preserved
-loop-i-preserved c =
-    looking-past c.loop-i.invariant no_part c.loop-i-test.true c.part_at-p.ensures (sym c.is_same.ensures ∙ c.if-is_same.false)
+pub loop-p-preserved : goal.loop-p-preserved
+loop-p-preserved c =
+    looking-more (text c.args.table.now) c.held-p-items.result.now c.args.key.now _ c.loop-p.invariant no_part c.loop-p-test.true
+    (told-same c.eq.ensures c.if-eq.false refl c.key.ensures)
 
 pub returns : goal.returns
-returns c = looking-end c.loop-i.invariant c.loop-i-test.false
+returns c =
+    rw (← c.held-p-items.ensures) (looking-end (text c.args.table.now) c.held-p-items.result.now c.args.key.now _ c.loop-p.invariant c.loop-p-test.false)

@@ -2,14 +2,8 @@
 use Rattle.proj.proofs.Laid.{written-pipeline, written-some}
 use Rattle.proj.proofs.layout.is_written.Goals as goal
 
-pub head_of-head-requires : goal.head_of-head-requires
-head_of-head-requires c = c.requires
+pub returns-then-not-head : goal.returns-then-not-head
+returns-then-not-head c = written-some c.head_of-head.ensures c.if-not-head.true c.marks_of.ensures
 
-pub returns-then-head : goal.returns-then-head
-returns-then-head c = written-pipeline c.head_of-head.ensures c.if-head.true
-
-pub marks_of-marks-requires : goal.marks_of-marks-requires
-marks_of-marks-requires c = c.head_of-head.ensures
-
-pub returns : goal.returns
-returns c = written-some c.head_of-head.ensures c.if-head.false c.marks_of-marks.ensures
+pub returns-else-not-head : goal.returns-else-not-head
+returns-else-not-head c = rw c.if-not-head.false (written-pipeline c.head_of-head.ensures c.if-not-head.false)

@@ -1,65 +1,44 @@
-use mathlib.Core.Path.{sym, ◌∙◌}
-use Rattle.proj_words.proofs.Signs.{signing-start, signing-fits, signing-sign-room, signing-sign, signing-gap-room}
-use Rattle.proj_words.proofs.Signs.{signing-gap, signing-byte-room, signing-byte, signing-length, signing_end}
-use borrow.Author.Rules.{rules}
+use Rattle.std.proofs.Common.{◌≡◌, false, ◌&&◌, ◌∷◌, [], sym, ap, ◌∙◌, rules}
+use Rattle.std.proofs.lemmas.List.{nil_from_length}
+use Rattle.text.proofs.Finds.{starts-length}
+use Rattle.rules.specs.Text.Bytes.{starts}
+use Rattle.proj_words.specs.Clean.{gap, signless}
+use Rattle.proj_words.proofs.Signs.{signing-room, signing-byte, signing_end, signless-sign, signless-stays}
 use Rattle.proj_words.proofs.clean.signless_into.Goals as goal
-
-pub loop-i-init : goal.loop-i-init
-loop-i-init c = signing-start c.requires
+use Rattle.proj_words.proofs.clean.signless_into.Goals.{then-is_gap+then-starts_at, else-is_gap, else-is_gap-via-then-is_gap+else-starts_at, else-is_gap-via-else-is_gap}
 
 pub bounds-dst-o : goal.bounds-dst-o
 bounds-dst-o c =
-    (signing-sign-room c.loop-i.invariant c.loop-i-test.true (sym c.is_gap.ensures ∙ c.if-is_gap.true) (sym c.starts_at.ensures ∙ c.if-starts_at.true)).0
+    (signing-room _ c.loop-b.invariant (ap signless c.in-Some.ensures.cases.0
+    ∙ signless-sign c.in-Some.b.now c.in-Some.after.now (sym c.is_gap.ensures ∙ c.if-is_gap.true) (sym c.starts_at.ensures ∙ c.if-starts_at.true))).0
 
-pub overflow_add-o : goal.overflow_add-o
-overflow_add-o c =
-    let h = (signing-sign-room c.loop-i.invariant c.loop-i-test.true (sym c.is_gap.ensures ∙ c.if-is_gap.true)
-    (sym c.starts_at.ensures ∙ c.if-starts_at.true)).1 in
-    search rules
+pub slice_bounds-rest-count : goal.slice_bounds-rest-count
+slice_bounds-rest-count c = starts-length (43 ∷ []) c.in-Some.after.now (sym c.starts_at.ensures ∙ c.if-starts_at.true)
 
-pub overflow_add-i-then-starts_at : goal.overflow_add-i-then-starts_at
-overflow_add-i-then-starts_at c =
-    let h = signing-fits c.loop-i.invariant c.loop-i-test.true (sym c.is_gap.ensures ∙ c.if-is_gap.true) (sym c.starts_at.ensures ∙ c.if-starts_at.true) in
-    search rules
-
-pub loop-i-smaller-then-starts_at : goal.loop-i-smaller-then-starts_at
-loop-i-smaller-then-starts_at c =
-    let h = signing-fits c.loop-i.invariant c.loop-i-test.true (sym c.is_gap.ensures ∙ c.if-is_gap.true) (sym c.starts_at.ensures ∙ c.if-starts_at.true) in
-    search rules
-
-pub loop-i-preserved-then-starts_at : goal.loop-i-preserved-then-starts_at
-loop-i-preserved-then-starts_at c =
-    signing-sign c.loop-i.invariant c.loop-i-test.true (sym c.is_gap.ensures ∙ c.if-is_gap.true) (sym c.starts_at.ensures ∙ c.if-starts_at.true)
-
-pub bounds-dst-o-else-starts_at : goal.bounds-dst-o-else-starts_at
-bounds-dst-o-else-starts_at c =
-    (signing-gap-room c.loop-i.invariant c.loop-i-test.true (sym c.is_gap.ensures ∙ c.if-is_gap.true) (sym c.starts_at.ensures ∙ c.if-starts_at.false)).0
-
-pub overflow_add-o-else-starts_at : goal.overflow_add-o-else-starts_at
-overflow_add-o-else-starts_at c =
-    let h = (signing-gap-room c.loop-i.invariant c.loop-i-test.true (sym c.is_gap.ensures ∙ c.if-is_gap.true)
-    (sym c.starts_at.ensures ∙ c.if-starts_at.false)).1 in
-    search rules
-
-pub loop-i-preserved-else-starts_at : goal.loop-i-preserved-else-starts_at
-loop-i-preserved-else-starts_at c =
-    signing-gap c.loop-i.invariant c.loop-i-test.true (sym c.is_gap.ensures ∙ c.if-is_gap.true) (sym c.starts_at.ensures ∙ c.if-starts_at.false)
+pub slice_bounds-rest-start : goal.slice_bounds-rest-start
+slice_bounds-rest-start c = let h = starts-length (43 ∷ []) c.in-Some.after.now (sym c.starts_at.ensures ∙ c.if-starts_at.true) in search rules
 
 pub bounds-dst-o-else-is_gap : goal.bounds-dst-o-else-is_gap
 bounds-dst-o-else-is_gap c =
-    (signing-byte-room c.loop-i.invariant c.loop-i-test.true (sym c.is_gap.ensures ∙ c.if-is_gap.false)).0
+    let no : (gap c.in-Some.b.now && starts (43 ∷ []) c.in-Some.after.now) ≡ false = elim c.else-is_gap.branch [
+      | else-is_gap-via-then-is_gap+else-starts_at w ↦ rw (sym c.is_gap.ensures ∙ w.if-is_gap.true, sym w.starts_at.ensures ∙ w.if-starts_at.false)
+      | else-is_gap-via-else-is_gap w ↦ rw (sym c.is_gap.ensures ∙ w.if-is_gap.false)
+    ] in
+    (signing-room _ c.loop-b.invariant (ap signless c.in-Some.ensures.cases.0 ∙ signless-stays c.in-Some.b.now c.in-Some.after.now no)).0
 
-pub overflow_add-o-else-is_gap : goal.overflow_add-o-else-is_gap
-overflow_add-o-else-is_gap c =
-    let h = (signing-byte-room c.loop-i.invariant c.loop-i-test.true (sym c.is_gap.ensures ∙ c.if-is_gap.false)).1 in
-    search rules
-
-pub loop-i-preserved : goal.loop-i-preserved
-loop-i-preserved c =
-    signing-byte c.loop-i.invariant c.loop-i-test.true (sym c.is_gap.ensures ∙ c.if-is_gap.false)
-
-pub shape_of-dst : goal.shape_of-dst
-shape_of-dst c = signing-length c.loop-i.invariant
+pub loop-b-preserved : goal.loop-b-preserved
+loop-b-preserved c = elim c.if-is_gap.branch [
+  | then-is_gap+then-starts_at w ↦
+      rw (w.dst-is, w.rest-is)
+      (signing-byte _ c.loop-b.invariant (ap signless c.in-Some.ensures.cases.0
+      ∙ signless-sign c.in-Some.b.now c.in-Some.after.now (sym c.is_gap.ensures ∙ w.if-is_gap.true) (sym w.starts_at.ensures ∙ w.if-starts_at.true)))
+  | else-is_gap w ↦
+      let no : (gap c.in-Some.b.now && starts (43 ∷ []) c.in-Some.after.now) ≡ false = elim w.else-is_gap.branch [
+        | else-is_gap-via-then-is_gap+else-starts_at v ↦ rw (sym c.is_gap.ensures ∙ v.if-is_gap.true, sym v.starts_at.ensures ∙ v.if-starts_at.false)
+        | else-is_gap-via-else-is_gap v ↦ rw (sym c.is_gap.ensures ∙ v.if-is_gap.false)
+      ] in
+      rw (w.dst-is, w.rest-is) (signing-byte _ c.loop-b.invariant (ap signless c.in-Some.ensures.cases.0 ∙ signless-stays c.in-Some.b.now c.in-Some.after.now no))
+]
 
 pub returns : goal.returns
-returns c = signing_end c.loop-i.invariant c.loop-i-test.false
+returns c = signing_end c.loop-b.invariant (nil_from_length c.loop-b.rest.now c.in_default.ensures.cases)

@@ -1,14 +1,7 @@
 -- `space_into`: with its line ends made newlines the text weighs no more, and without its signs still no more: so both have room, and are
 -- `spaced`.
-use Rattle.text.proofs.Wrote.{wrote-fits, wrote-counts}
 use Rattle.proj_words.proofs.Room.{signless-room, signless-holds}
 use Rattle.proj_words.proofs.clean.space_into.Goals as goal
-
-pub slice_bounds-signless_into-end : goal.slice_bounds-signless_into-end
-slice_bounds-signless_into-end c = wrote-fits c.newlines_into-n.ensures
-
-pub slice_bounds-signless_into-end-2 : goal.slice_bounds-signless_into-end-2
-slice_bounds-signless_into-end-2 c = wrote-counts c.newlines_into-n.ensures
 
 pub signless_into-requires : goal.signless_into-requires
 signless_into-requires c =

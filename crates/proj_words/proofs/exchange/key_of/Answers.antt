@@ -1,49 +1,30 @@
-use mathlib.Core.Path.{sym, ◌∙◌}
-use native.Mathlib.Omega.{arith}
-use Rattle.proj_words.proofs.Facts.{keying-start, keying-end, keying-few, keying-more, keying-next, element-less}
-use Rattle.proj_words.proofs.Heads.{element-at, element-none}
-use borrow.Author.Rules.{rules}
+use Rattle.std.proofs.Common.{sym, ◌∙◌, arith, rules, length}
+use Rattle.laws_proj.specs.Tests.{starts-long}
+use Rattle.std.proofs.lemmas.List.{take_rest}
+use Rattle.proj_words.specs.Heads.{coming}
+use Rattle.proj_words.proofs.Facts.{keying-start, keying-none, keying-some, keying-few, keying-more, keying-next}
 use Rattle.proj_words.proofs.exchange.key_of.Goals as goal
 
-pub loop-from-init : goal.loop-from-init
-loop-from-init c = keying-start _ c.requires
+pub loop-word-init : goal.loop-word-init
+loop-word-init c = (tt, tt, rw c.into_iter-word-iterator.ensures.into_iter_gives (keying-start (coming c.args.words) c.args.key.now))
 
-pub next_element-element-requires : goal.next_element-element-requires
-next_element-element-requires c = record { head = c.loop-from.invariant.head; k_in_bounds = c.loop-from.invariant.within }
+pub overflow_add-count : goal.overflow_add-count
+overflow_add-count c = omega (arith, keying-few c.loop-word.invariant.2 c.in-Some.ensures.steps)
 
-pub returns-in-End : goal.returns-in-End
-returns-in-End c = keying-end c.loop-from.invariant (element-none c.next_element-element.ensures c.in-End.is)
+pub slice_bounds-last-count : goal.slice_bounds-last-count
+slice_bounds-last-count c = starts-long _ _ (sym c.has_key.ensures ∙ c.if-has_key.true)
 
-pub slice_bounds-has_key-count : goal.slice_bounds-has_key-count
-slice_bounds-has_key-count c = let e = element-at c.next_element-element.ensures c.in-At.is in omega (arith, e.ahead)
+pub slice_bounds-last-start : goal.slice_bounds-last-start
+slice_bounds-last-start c = let h = starts-long c.args.key.now c.in-Some.word.now (sym c.has_key.ensures ∙ c.if-has_key.true) in search rules
 
-pub slice_bounds-has_key-start : goal.slice_bounds-has_key-start
-slice_bounds-has_key-start c = let e = element-at c.next_element-element.ensures c.in-At.is in search (rules, e)
+pub loop-word-preserved-then-has_key : goal.loop-word-preserved-then-has_key
+loop-word-preserved-then-has_key c = (tt, tt, keying-more c.loop-word.invariant.2 c.in-Some.ensures.steps (sym c.has_key.ensures ∙ c.if-has_key.true) (take_rest c.in-Some.word.now (length c.args.key.now)))
 
-pub slice_bounds-has_key-end : goal.slice_bounds-has_key-end
-slice_bounds-has_key-end c = let e = element-at c.next_element-element.ensures c.in-At.is in search (rules, e)
+pub loop-word-preserved : goal.loop-word-preserved
+loop-word-preserved c = (tt, tt, keying-next c.loop-word.invariant.2 c.in-Some.ensures.steps (sym c.has_key.ensures ∙ c.if-has_key.false))
 
-pub overflow_add-n : goal.overflow_add-n
-overflow_add-n c =
-    let e = element-at c.next_element-element.ensures c.in-At.is in
-    omega (arith, keying-few c.loop-from.invariant e)
+pub returns-in_err-last : goal.returns-in_err-last
+returns-in_err-last c = rw c.from_residual.ensures (keying-none c.loop-word.invariant.2 c.in-None.ensures.steps.0 c.in_err-last.was)
 
-pub loop-from-smaller-then-has_key : goal.loop-from-smaller-then-has_key
-loop-from-smaller-then-has_key c =
-    let e = element-at c.next_element-element.ensures c.in-At.is in
-    element-less e
-
-pub loop-from-preserved-then-has_key : goal.loop-from-preserved-then-has_key
-loop-from-preserved-then-has_key c =
-    let e = element-at c.next_element-element.ensures c.in-At.is in
-    keying-more c.loop-from.invariant e (sym c.has_key.ensures ∙ c.if-has_key.true)
-
-pub loop-from-smaller : goal.loop-from-smaller
-loop-from-smaller c =
-    let e = element-at c.next_element-element.ensures c.in-At.is in
-    element-less e
-
-pub loop-from-preserved : goal.loop-from-preserved
-loop-from-preserved c =
-    let e = element-at c.next_element-element.ensures c.in-At.is in
-    keying-next c.loop-from.invariant e (sym c.has_key.ensures ∙ c.if-has_key.false)
+pub returns : goal.returns
+returns c = keying-some c.loop-word.invariant.2 c.in-None.ensures.steps.0 c.in_ok-last.was

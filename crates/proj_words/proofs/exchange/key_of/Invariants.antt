@@ -1,12 +1,10 @@
--- `key_of`: n of the exchanged words so far begin with the key, the last of them from a up to e (`Keying`). Each turn takes one word off
--- those that are left, and their number is the measure.
-use lib.ListN.{length}
-use Rattle.proj_words.specs.Heads.{elements}
+-- `key_of`: so many of the words so far begin with the key, and what follows it in the last (`Keying`).
+use Rattle.proj_words.specs.Heads.{coming}
 use Rattle.proj_words.proofs.Facts.{Keying}
 use Rattle.proj_words.proofs.exchange.key_of.Given as goal
 
-abbrev pub invariant-loop-from : goal.invariant-loop-from
-invariant-loop-from l = Keying l.s l.head l.key l.n l.a l.e l.stage l.k
-
-abbrev pub decreases-loop-from : goal.decreases-loop-from
-decreases-loop-from l = length (elements l.s l.head l.stage l.k)
+abbrev pub invariant-loop-word : goal.invariant-loop-word
+invariant-loop-word l =
+    (goal.iterator-loop-word).can_next l.word-iterator ×
+    (goal.iterator-loop-word).is_finite l.word-iterator ×
+    Keying (coming l.words) (coming l.word-iterator) l.key l.count l.last

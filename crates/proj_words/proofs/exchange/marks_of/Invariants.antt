@@ -1,12 +1,10 @@
--- `marks_of`: the marks so far, joined to those of the words that are left, are the marks of all (`Marking`). Each turn takes one word off
--- those that are left, and their number is the measure.
-use lib.ListN.{length}
-use Rattle.proj_words.specs.Heads.{elements}
+-- `marks_of`: the marks so far, joined to those of the words that are left, are the marks of all (`Marking`).
+use Rattle.proj_words.specs.Heads.{coming}
 use Rattle.proj_words.proofs.Facts.{Marking}
 use Rattle.proj_words.proofs.exchange.marks_of.Given as goal
 
-abbrev pub invariant-loop-m : goal.invariant-loop-m
-invariant-loop-m l = Marking l.s l.head l.stage l.k l.m
-
-abbrev pub decreases-loop-m : goal.decreases-loop-m
-decreases-loop-m l = length (elements l.s l.head l.stage l.k)
+abbrev pub invariant-loop-word : goal.invariant-loop-word
+invariant-loop-word l =
+    (goal.iterator-loop-word).can_next l.word-iterator ×
+    (goal.iterator-loop-word).is_finite l.word-iterator ×
+    Marking (coming l.words) (coming l.word-iterator) l.marks

@@ -5,8 +5,8 @@ use lib.ListN.{length}
 use Rattle.proj_words.proofs.Pieces.{Piecing}
 use Rattle.proj_words.proofs.walk.piece_from.Given as goal
 
-abbrev pub invariant-loop-from : goal.invariant-loop-from
-invariant-loop-from l = Piecing l.n l.k l.at
+abbrev pub invariant-loop-word : goal.invariant-loop-word
+invariant-loop-word l = Piecing l.n l.k l.at
 
-abbrev pub decreases-loop-from : goal.decreases-loop-from
-decreases-loop-from l = length l.n - l.at
+abbrev pub decreases-loop-word : goal.decreases-loop-word
+decreases-loop-word l = length l.n - l.at

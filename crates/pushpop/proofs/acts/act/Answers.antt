@@ -14,11 +14,11 @@ pub returns-then-pushes : goal.returns-then-pushes
 unfolding doing does able pushing
 returns-then-pushes c = record { same = rw c.if-pushes.true refl; slots = c.requires.n_bound; rule = rising-places 0 _ c.requires.args_value }
 
-pub returns : goal.returns
+pub returns-else-pushes : goal.returns-else-pushes
 unfolding doing does able pushing
-returns c =
+returns-else-pushes c =
     record {
-      same = rw (c.if-pushes.false, c.reversed-turned.ensures) (ap pops (places-reverse _));
+      same = rw (c.if-pushes.false, c.reversed.ensures) (ap pops (places-reverse _));
       slots = c.requires.n_bound;
-      rule = rw c.reversed-turned.ensures (all-reverse is_place (take c.args.n c.args.args) (rising-places 0 (take c.args.n c.args.args) c.requires.args_value));
+      rule = rw c.reversed.ensures (all-reverse is_place (take c.args.n c.args.args) (rising-places 0 (take c.args.n c.args.args) c.requires.args_value));
     }

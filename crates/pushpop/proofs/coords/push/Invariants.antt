@@ -1,12 +1,7 @@
--- `push`: the columns of the first j places stand above those that were there (`Pushing`). What is left of the places is the measure.
+-- `push`: the columns of the first j places stand above those that were there (`Pushing`).
 use Rattle.pushpop.proofs.Pushed.{Pushing}
 use Rattle.rules.specs.Pipeline.Tuples.{tuples}
-use lib.ListN.{length}
-use Prim.Native.Nat.{◌-◌}
 use Rattle.pushpop.proofs.coords.push.Given as goal
 
 abbrev pub invariant-loop-j : goal.invariant-loop-j
 invariant-loop-j l = Pushing l.n l.depth l.args (tuples l.xs) l.initial.store l.store l.j
-
-abbrev pub decreases-loop-j : goal.decreases-loop-j
-decreases-loop-j l = length l.args - l.j

@@ -1,24 +1,26 @@
-use Rattle.pushpop.proofs.Words.{flags-rest}
-use Rattle.numbers.proofs.EachInTurn.{going_start, going-room, going-turn, going-length, going_end}
+use Rattle.std.proofs.Common.{rules, false, get_or, pos, SFits, w32, to_z-of_z}
+use Rattle.rules.specs.Operators.Arguments.{is_place}
+use Rattle.numbers.proofs.Listed.{all-at}
+use Rattle.numbers.proofs.EachInTurn.{going_start, going-room, going-turn, going_end}
 use Rattle.pushpop.specs.Flags.{flagged}
-use mathlib.Core.Bool.{false}
-use lib.IntN.{pos}
+use Rattle.pushpop.proofs.Words.{flags-rest}
 use Rattle.pushpop.proofs.writing.flags.Goals as goal
 
-pub loop-i-init : goal.loop-i-init
-loop-i-init c = going_start flagged _ (flags-rest false _) c.requires.room
+pub loop-x-init : goal.loop-x-init
+loop-x-init c = going_start flagged _ (flags-rest false _) c.requires.room
 
 pub flag-e-requires : goal.flag-e-requires
 unfolding flagged
-flag-e-requires c = record { i_in_bounds = c.loop-i-test.true; l_value = c.requires.l_value; room = going-room c.loop-i.invariant (pos 0) c.loop-i-test.true }
+flag-e-requires c =
+    let f : SFits w32 (get_or c.args.l.now c.loop-x.x-index (pos 0)) = search rules in
+    let p = all-at is_place _ _ (pos 0) c.loop-x-test.true c.requires.l_value in
+    rw (to_z-of_z f) (record { x_value = p; room = going-room c.loop-x.invariant (pos 0) c.loop-x-test.true })
 
-pub loop-i-preserved : goal.loop-i-preserved
+pub loop-x-preserved : goal.loop-x-preserved
 unfolding flagged
-loop-i-preserved c =
-    going-turn c.loop-i.invariant (pos 0) c.loop-i-test.true c.flag-e.ensures
-
-pub shape_of-out : goal.shape_of-out
-shape_of-out c = going-length c.loop-i.invariant
+loop-x-preserved c =
+    let f : SFits w32 (get_or c.args.l.now c.loop-x.x-index (pos 0)) = search rules in
+    going-turn c.loop-x.invariant (pos 0) c.loop-x-test.true (simp (to_z-of_z f) at c.flag-e.ensures)
 
 pub returns : goal.returns
-returns c = going_end c.loop-i.invariant c.loop-i-test.false
+returns c = going_end c.loop-x.invariant c.loop-x-test.false

@@ -14,12 +14,12 @@ pub returns-then-operator-eq-PUSH : goal.returns-then-operator-eq-PUSH
 unfolding ascii
 returns-then-operator-eq-PUSH c = as_written (push-name c.if-operator-eq-PUSH.true) (put_written c.put.ensures)
 
-pub put-requires-2 : goal.put-requires-2
+pub put-requires-else-operator-eq-PUSH : goal.put-requires-else-operator-eq-PUSH
 unfolding ascii
-put-requires-2 c =
+put-requires-else-operator-eq-PUSH c =
     (room_as (sym (pop-name _ c.requires.operator_bound c.if-operator-eq-PUSH.false)) c.requires.room).fits
 
-pub returns : goal.returns
+pub returns-else-operator-eq-PUSH : goal.returns-else-operator-eq-PUSH
 unfolding ascii
-returns c =
-    as_written (pop-name _ c.requires.operator_bound c.if-operator-eq-PUSH.false) (put_written c.put-2.ensures)
+returns-else-operator-eq-PUSH c =
+    as_written (pop-name _ c.requires.operator_bound c.if-operator-eq-PUSH.false) (put_written c.put-else-operator-eq-PUSH.ensures)

@@ -1,5 +1,4 @@
 use native.Mathlib.Omega.{arith}
-use Rattle.record.specs.Records.{bad_of}
 use mathlib.Core.Path.{◌≡◌, sym, ap, ◌∙◌}
 use lib.ListN.{length, length-take}
 use lib.Seq.{get_or-take}
@@ -19,18 +18,14 @@ full c = search rules
 pub returns-then-n-gt64 : goal.returns-then-n-gt64
 returns-then-n-gt64 c = bad-long _ (full (goal.at.returns-then-n-gt64 c).Start) c.if-n-gt64.true
 
-pub bounds-table-0 : goal.bounds-table-0
-bounds-table-0 c = omega (arith, full (goal.at.bounds-table-0 c).Start)
-
 pub loop-i-init : goal.loop-i-init
 loop-i-init c = rest_all _ _
 
 pub returns-then-not-good_in : goal.returns-then-not-good_in
-unfolding bad_of
 returns-then-not-good_in c =
-    ap bad_of (rest-here _ c.loop-i.invariant (rw length-take (omega (arith, c.loop-i-test.true, c.if-n-gt64.false, full (goal.at.returns-then-not-good_in c).Start)))
+    rest-here _ c.loop-i.invariant (rw length-take (omega (arith, c.loop-i-test.true, c.if-n-gt64.false, full (goal.at.returns-then-not-good_in c).Start)))
     (bad-here _ _ _ _ _ (ap (good_in _ _) (get_or-take _ _ _ _ c.loop-i-test.true) ∙ sym c.good_in.ensures ∙ not_so c.if-not-good_in.true-raw))
-    ∙ sym (bad-few _ _ (full (goal.at.returns-then-not-good_in c).Start) c.if-n-gt64.false))
+    ∙ sym (bad-few _ _ (full (goal.at.returns-then-not-good_in c).Start) c.if-n-gt64.false)
 
 pub loop-i-preserved : goal.loop-i-preserved
 loop-i-preserved c =
@@ -40,9 +35,8 @@ loop-i-preserved c =
     (c.end_of-end.ensures ∙ ap (λ (t : Step). span_end t.span) (sym (get_or-take _ _ _ _ c.loop-i-test.true))))
 
 pub returns : goal.returns
-unfolding bad_of
 returns c =
-    ap bad_of (sym (bad-none _ _ _)
+    sym (bad-none _ _ _)
     ∙ rest_end c.loop-i.invariant
     (rw length-take (omega (arith, c.loop-i-test.false, c.if-n-gt64.false, full (goal.at.returns c).Start)))
-    ∙ sym (bad-few _ _ (full (goal.at.returns c).Start) c.if-n-gt64.false))
+    ∙ sym (bad-few _ _ (full (goal.at.returns c).Start) c.if-n-gt64.false)

@@ -3,10 +3,10 @@ use mathlib.Core.Path.{sym, ap}
 use Rattle.rules.specs.Face.Plain.{plain_written}
 use Rattle.sakondreno.proofs.plain.answered.Goals as goal
 
-pub returns-in-Wrote : goal.returns-in-Wrote
+pub returns-in-Ok : goal.returns-in-Ok
 unfolding plain_written
-returns-in-Wrote c = sym (ap plain_written c.in-Wrote.is)
+returns-in-Ok c = sym (ap plain_written c.in-Ok.is)
 
-pub returns-in-Refused : goal.returns-in-Refused
+pub returns-in-Err : goal.returns-in-Err
 unfolding plain_written
-returns-in-Refused c = sym (ap plain_written c.in-Refused.is)
+returns-in-Err c = sym (ap plain_written c.in-Err.is)

@@ -3,10 +3,10 @@ use mathlib.Core.Path.{sym, ap}
 use Rattle.rules.specs.Face.Plain.{plain_prepared}
 use Rattle.sakondreno.proofs.plain.counted.Goals as goal
 
-pub returns-in-Steps : goal.returns-in-Steps
+pub returns-in-Ok : goal.returns-in-Ok
 unfolding plain_prepared
-returns-in-Steps c = sym (ap plain_prepared c.in-Steps.is)
+returns-in-Ok c = sym (ap plain_prepared c.in-Ok.is)
 
-pub returns-in-Refused : goal.returns-in-Refused
+pub returns-in-Err : goal.returns-in-Err
 unfolding plain_prepared
-returns-in-Refused c = sym (ap plain_prepared c.in-Refused.is)
+returns-in-Err c = sym (ap plain_prepared c.in-Err.is)

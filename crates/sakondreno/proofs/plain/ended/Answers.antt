@@ -3,10 +3,10 @@ use mathlib.Core.Path.{sym, ap}
 use Rattle.rules.specs.Face.Plain.{plain_ran}
 use Rattle.sakondreno.proofs.plain.ended.Goals as goal
 
-pub returns-in-Done : goal.returns-in-Done
+pub returns-in-Ok : goal.returns-in-Ok
 unfolding plain_ran
-returns-in-Done c = sym (ap plain_ran c.in-Done.is)
+returns-in-Ok c = sym (ap plain_ran c.in-Ok.is)
 
-pub returns-in-Refused : goal.returns-in-Refused
+pub returns-in-Err : goal.returns-in-Err
 unfolding plain_ran
-returns-in-Refused c = sym (ap plain_ran c.in-Refused.is)
+returns-in-Err c = sym (ap plain_ran c.in-Err.is)

@@ -3,10 +3,10 @@ use mathlib.Core.Path.{sym, ap}
 use Rattle.rules.specs.Face.Plain.{plain_found}
 use Rattle.sakondreno.proofs.plain.part_of.Goals as goal
 
-pub returns-in-Step : goal.returns-in-Step
+pub returns-in-Some : goal.returns-in-Some
 unfolding plain_found
-returns-in-Step c = sym (ap plain_found c.in-Step.is)
+returns-in-Some c = sym (ap plain_found c.in-Some.is)
 
-pub returns-in-End : goal.returns-in-End
+pub returns-in-None : goal.returns-in-None
 unfolding plain_found
-returns-in-End c = sym (ap plain_found c.in-End.is)
+returns-in-None c = sym (ap plain_found c.in-None.is)

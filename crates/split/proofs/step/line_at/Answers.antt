@@ -3,7 +3,6 @@
 use mathlib.Core.Path.{sym, ◌∙◌}
 use Rattle.text.proofs.Lead.{lead-all}
 use Rattle.text.proofs.WroteAt.{line-room, line-place, line-done}
-use borrow.Author.Rules.{rules}
 use Rattle.split.proofs.step.line_at.Goals as goal
 
 pub returns-then-is_blank : goal.returns-then-is_blank
@@ -16,11 +15,6 @@ step_at-o-requires c = record { lead = c.lead_end-lead.ensures; step_value = sym
 pub bounds-dst-o : goal.bounds-dst-o
 bounds-dst-o c =
     (line-place _ c.args.dst.now c.args.at c.requires c.step_at-o.ensures).0
-
-pub overflow_add-result : goal.overflow_add-result
-overflow_add-result c =
-    let h = (line-place _ c.args.dst.now c.args.at c.requires c.step_at-o.ensures).1 in
-    search rules
 
 pub returns : goal.returns
 returns c =

@@ -1,10 +1,7 @@
 -- `more_words_at`: of a blank text there are no words, and nothing is written; else what stands after each space is a space, and then the
 -- words, one space apart (`spaced-some`).
 use mathlib.Core.Path.{sym, ◌∙◌}
-use Prim.Native.Nat.{ℕ}
-use lib.ListN.{length-set}
 use Rattle.split.proofs.StepText.{more-none, more-place, more_room, more-some}
-use borrow.Author.Rules.{rules}
 use Rattle.split.proofs.step.more_words_at.Goals as goal
 
 pub returns-then-is_blank : goal.returns-then-is_blank
@@ -15,18 +12,9 @@ pub bounds-dst-at : goal.bounds-dst-at
 bounds-dst-at c =
     more-place c.args.src.now c.args.dst.now c.args.at (sym c.is_blank.ensures ∙ c.if-is_blank.false) c.requires
 
-pub overflow_add-at : goal.overflow_add-at
-overflow_add-at c =
-    let h = more-place c.args.src.now c.args.dst.now c.args.at (sym c.is_blank.ensures ∙ c.if-is_blank.false) c.requires in
-    search rules
-
 pub words_at-requires : goal.words_at-requires
 words_at-requires c =
     more_room c.args.src.now c.args.dst.now c.args.at (sym c.is_blank.ensures ∙ c.if-is_blank.false) c.requires
-
-pub shape_of-dst : goal.shape_of-dst
-shape_of-dst c =
-    c.words_at.auto.dst ∙ length-set {A = ℕ} c.args.dst.now c.args.at 32
 
 pub returns : goal.returns
 returns c =

@@ -1,4 +1,5 @@
 -- `rolling`: below zero, n counts back from m, and is smaller than m in size, so m - n is a number; else n is taken as it is.
+use Rattle.std.proofs.Common.{rules, get_or, pos, SFits, w32, to_z-of_z}
 use mathlib.Core.Path.{sym, ◌∙◌}
 use native.Mathlib.Omega.{arith}
 use Rattle.rules.specs.Operators.Arguments.{arg}
@@ -8,14 +9,22 @@ use Rattle.stack.proofs.acts.rolling.Goals as goal
 pub overflow_sub-result : goal.overflow_sub-result
 unfolding arg
 overflow_sub-result c =
-    omega (arith, c.requires.above, c.size_at-m.ensures, c.size_at-n.ensures)
+    let f : SFits w32 (get_or c.args.l.now 0 (pos 0)) = search rules in
+    let g : SFits w32 (get_or c.args.l.now 1 (pos 0)) = search rules in
+    omega (arith, c.requires.above, (simp (to_z-of_z f) at c.size_of-m.ensures), (simp (to_z-of_z g) at c.size_of-n.ensures))
 
-pub returns-then-minus_at : goal.returns-then-minus_at
+pub returns-then-is_minus : goal.returns-then-is_minus
 unfolding arg
-returns-then-minus_at c =
-    rolling-minus _ _ c.args.l.now c.size_at-m.ensures c.size_at-n.ensures c.requires.above (sym c.minus_at.ensures ∙ c.if-minus_at.true)
+returns-then-is_minus c =
+    let f : SFits w32 (get_or c.args.l.now 0 (pos 0)) = search rules in
+    let g : SFits w32 (get_or c.args.l.now 1 (pos 0)) = search rules in
+    rolling-minus _ _ c.args.l.now (simp (to_z-of_z f) at c.size_of-m.ensures) (simp (to_z-of_z g) at c.size_of-n.ensures) c.requires.above
+    (sym (simp (to_z-of_z g) at c.is_minus.ensures) ∙ c.if-is_minus.true)
 
-pub returns : goal.returns
+pub returns-else-is_minus : goal.returns-else-is_minus
 unfolding arg
-returns c =
-    rolling-plus _ _ c.args.l.now c.size_at-m.ensures c.size_at-n.ensures c.requires.above (sym c.minus_at.ensures ∙ c.if-minus_at.false)
+returns-else-is_minus c =
+    let f : SFits w32 (get_or c.args.l.now 0 (pos 0)) = search rules in
+    let g : SFits w32 (get_or c.args.l.now 1 (pos 0)) = search rules in
+    rolling-plus _ _ c.args.l.now (simp (to_z-of_z f) at c.size_of-m.ensures) (simp (to_z-of_z g) at c.size_of-n.ensures) c.requires.above
+    (sym (simp (to_z-of_z g) at c.is_minus.ensures) ∙ c.if-is_minus.false)

@@ -5,5 +5,5 @@ use Rattle.stack.proofs.acts.turns.Goals as goal
 pub returns-then-m-n : goal.returns-then-m-n
 returns-then-m-n c = turns-over c.requires c.if-m-n.true
 
-pub returns : goal.returns
-returns c = turns-none c.if-m-n.false
+pub returns-else-m-n : goal.returns-else-m-n
+returns-else-m-n c = turns-none c.if-m-n.false

@@ -15,5 +15,5 @@ pub returns-in_default : goal.returns-in_default
 returns-in_default c =
     elim c.in_default.branch [
       | in_default-via-then-operator-lt2 w ↦ absurd (omega arith)
-      | in_default-via-else-operator-lt2+else-operator-lt5+else-operator-lt7 w ↦ args_none _ _ (omega arith) c.requires.1
+      | in_default-via-else-operator-lt2+else-operator-lt5+else-operator-lt7 w ↦ (c.is_empty.ensures ∙ args_none _ _ (omega arith) c.requires.1)
     ]

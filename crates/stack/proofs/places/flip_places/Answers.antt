@@ -1,12 +1,22 @@
+use Rattle.std.proofs.Common.{rules, get_or, pos, SFits, w32, to_z-of_z}
+use Rattle.numbers.specs.Axes.{is_axis, AxisAt}
+use Rattle.numbers.proofs.Listed.{all-at}
 use Rattle.stack.proofs.TracedFlip.{flips-none, flips-turn, flips-end}
 use Rattle.stack.proofs.places.flip_places.Goals as goal
 
 pub loop-i-init : goal.loop-i-init
 loop-i-init c = flips-none _ _ c.requires.whole
 
+pub axis_of-k-requires : goal.axis_of-k-requires
+axis_of-k-requires c =
+    let f : SFits w32 (get_or c.args.l.now c.loop-i.i (pos 0)) = search rules in
+    rw (to_z-of_z f) (all-at is_axis _ _ (pos 0) c.loop-i-test.true c.requires.l_value)
+
 pub loop-i-preserved : goal.loop-i-preserved
 loop-i-preserved c =
-    flips-turn c.loop-i.invariant c.loop-i-test.true c.requires.l_bound c.requires.whole c.axis_at-k.ensures
+    let f : SFits w32 (get_or c.args.l.now c.loop-i.i (pos 0)) = search rules in
+    let a : AxisAt c.args.l.now c.loop-i.i c.axis_of-k.result = record { below = c.axis_of-k.ensures.below; named = simp (to_z-of_z f) at c.axis_of-k.ensures.named } in
+    flips-turn c.loop-i.invariant c.loop-i-test.true c.requires.l_bound c.requires.whole a
 
 pub returns : goal.returns
 returns c = flips-end c.requires.whole c.loop-i.invariant c.loop-i-test.false

@@ -1,12 +1,10 @@
--- `in_domain`: what stands before i is in the domain, so the bytes from i on decide (`Scanning`). A turn passes an ASCII byte, or a whole
--- digit and the ASCII behind it; what is left of s is the measure.
-use Prim.Native.Nat.{◌-◌}
+-- `in_domain`: what is passed is in the domain, so what is left decides (`Left`), and it is the measure.
 use lib.ListN.{length}
-use Rattle.text.proofs.InDomain.{Scanning}
+use Rattle.text.proofs.InDomain.{Left}
 use Rattle.text.proofs.domain.in_domain.Given as goal
 
-abbrev pub invariant-loop-i : goal.invariant-loop-i
-invariant-loop-i l = Scanning l.s l.i
+abbrev pub invariant-loop-rest : goal.invariant-loop-rest
+invariant-loop-rest l = Left l.s l.rest
 
-abbrev pub decreases-loop-i : goal.decreases-loop-i
-decreases-loop-i l = length l.s - l.i
+abbrev pub decreases-loop-rest : goal.decreases-loop-rest
+decreases-loop-rest l = length l.rest

@@ -1,16 +1,13 @@
-use mathlib.Core.Path.{sym, ◌∙◌}
-use Rattle.text.proofs.Trimmed.{starting-none, starting-cut, starting-here, starting-end}
+-- `start_of`: the first byte that stays, which `position` finds.
+use Rattle.std.proofs.Common.{rules, tests}
+use Rattle.std.proofs.lemmas.Iterator.{YieldsList-from_slice}
+use Rattle.std.proofs.lemmas.Iterator.Search.{position_from_yields_List}
+use Rattle.text.specs.Places.{cut_by}
+use Rattle.text.proofs.RunEnd.{other, place}
+use Rattle.text.proofs.Trimmed.{start-is}
 use Rattle.text.proofs.ends.start_of.Goals as goal
 
-pub loop-i-init : goal.loop-i-init
-loop-i-init c = starting-none
-
-pub loop-i-preserved : goal.loop-i-preserved
-loop-i-preserved c =
-    starting-cut c.loop-i.invariant c.loop-i-test.true (sym c.is_cut.ensures ∙ c.if-is_cut.true)
-
-pub returns-else-is_cut : goal.returns-else-is_cut
-returns-else-is_cut c = starting-here c.loop-i.invariant c.loop-i-test.true (sym c.is_cut.ensures ∙ c.if-is_cut.false)
-
 pub returns : goal.returns
-returns c = starting-end c.loop-i.invariant c.loop-i-test.false
+returns c =
+    let found = position_from_yields_List (other (cut_by c.args.e)) _ _ c.position.result c.position.ensures.ran (YieldsList-from_slice c.args.s.now cc) (λ x b q k. search (rules, tests)) in
+    start-is (place (cut_by c.args.e) c.args.s.now found c.unwrap_or.ensures)

@@ -1,16 +1,12 @@
-use mathlib.Core.Path.{sym, ◌∙◌}
-use Rattle.text.proofs.RunEnd.{blank_none, blank-white, blank-not, blank-end}
+-- `is_blank`: `all` tests each byte, as the definition does.
+use mathlib.Core.Path.{◌∙◌}
+use Rattle.std.proofs.Common.{rules, tests}
+use Rattle.std.proofs.lemmas.Iterator.{YieldsList-from_slice}
+use Rattle.std.proofs.lemmas.Iterator.Search.{all_from_yields_List}
+use Rattle.rules.specs.Text.Bytes.{white}
+use Rattle.text.proofs.RunEnd.{all-is}
 use Rattle.text.proofs.runs.is_blank.Goals as goal
 
-pub loop-i-init : goal.loop-i-init
-loop-i-init c = blank_none _
-
-pub loop-i-preserved : goal.loop-i-preserved
-loop-i-preserved c =
-    blank-white c.loop-i.invariant c.loop-i-test.true (sym c.is_white.ensures ∙ c.if-is_white.true)
-
-pub returns-else-is_white : goal.returns-else-is_white
-returns-else-is_white c = blank-not c.loop-i.invariant c.loop-i-test.true (sym c.is_white.ensures ∙ c.if-is_white.false)
-
 pub returns : goal.returns
-returns c = blank-end c.loop-i.invariant c.loop-i-test.false
+returns c =
+    all_from_yields_List white _ _ _ c.all.ensures.ran (YieldsList-from_slice c.args.s.now cc) (λ x b q k. search (rules, tests)) ∙ all-is white c.args.s.now

@@ -1,15 +1,13 @@
-use mathlib.Core.Path.{sym, ◌∙◌}
-use Rattle.text.proofs.RunEnd.{scan-none, scan-next, scan-here, scan-end}
+-- `run_end`: the run goes up to the first byte that is not of the kind, which `position` finds.
+use Rattle.std.proofs.Common.{rules, tests}
+use Rattle.std.proofs.lemmas.Iterator.{YieldsList-from_slice}
+use Rattle.std.proofs.lemmas.Iterator.Search.{position_from_yields_List}
+use Rattle.text.specs.Runs.{is_of}
+use Rattle.text.proofs.Wrote.{part-from}
+use Rattle.text.proofs.RunEnd.{other, place, run-is}
 use Rattle.text.proofs.runs.run_end.Goals as goal
 
-pub loop-i-init : goal.loop-i-init
-loop-i-init c = scan-none _ _ _ c.requires
-
-pub loop-i-preserved : goal.loop-i-preserved
-loop-i-preserved c = scan-next c.loop-i.invariant c.loop-i-test.true (sym c.is_of.ensures ∙ c.if-is_of.true)
-
-pub returns-else-is_of : goal.returns-else-is_of
-returns-else-is_of c = scan-here c.loop-i.invariant c.loop-i-test.true (sym c.is_of.ensures ∙ c.if-is_of.false)
-
 pub returns : goal.returns
-returns c = scan-end c.loop-i.invariant c.loop-i-test.false
+returns c =
+    let found = position_from_yields_List (other (is_of c.args.kind)) _ _ c.position-run.result c.position-run.ensures.ran (YieldsList-from_slice _ cc) (λ x b q k. search (rules, tests)) in
+    run-is c.requires (rw (part-from c.args.s.now c.args.at) at (place (is_of c.args.kind) _ found c.unwrap_or.ensures))

@@ -1,55 +1,48 @@
-use mathlib.Core.Path.{sym, ◌∙◌}
+use mathlib.Core.Path.{◌≡◌}
+use Prim.Native.Nat.{◌<◌}
 use native.Mathlib.Omega.{arith}
-use Rattle.text.proofs.Wrote.{sofar-length}
-use Rattle.text.proofs.Squeezed.{squeezing-none, squeezing-white, squeezing-after, squeezing-word-room}
-use Rattle.text.proofs.Squeezed.{squeezing-word, squeezing-space-room, squeezing-space-room-2, squeezing-space, squeezing-end}
+use lib.ListN.{length, get_or}
+use Rattle.std.proofs.Common.{rules, tests}
+use Rattle.std.proofs.lemmas.List.{length_push}
+use Rattle.std.proofs.lemmas.Iterator.Splits.{YieldsList-from_slice_split}
+use Rattle.std.proofs.lemmas.Iterator.Consumers.{YieldsList-from_filter, YieldsList-turn, YieldsList-end}
+use Rattle.rules.specs.Text.Bytes.{white, words}
+use Rattle.text.proofs.Squeezed.{has_byte, words-is, spelling-none, spelling-room, spelling-word, spelling-end}
 use Rattle.text.proofs.white.squeeze_into.Goals as goal
+use Rattle.text.proofs.white.squeeze_into.Goals.{In-Some}
 
-pub loop-i-init : goal.loop-i-init
-loop-i-init c = squeezing-none c.requires
+-- a turn's word is the next of those of src
+word : (c : In-Some)
+    → let ws = words c.args.src.now in
+    (length c.loop-word.yielded < length ws) × (c.in-Some.word.now ≡ get_or ws (length c.loop-word.yielded) c.in-Some.word.now)
+word c =
+    let h = c.into_iter-word-iterator.ensures in
+    let t =
+    YieldsList-turn
+    (YieldsList-from_filter {s = c.into_iter-word-iterator.result} _ has_byte
+    (YieldsList-from_slice_split _ white c.args.src.now (cc) (cc) (cc) (λ x b q k. search (rules, tests))) (cc) (λ x b q k. search (rules, tests)))
+    c.loop-word.yielded _ c.loop-word.yielded_by _ _ c.in-Some.word c.in-Some.is c.next.ensures.steps in
+    rw (words-is c.args.src.now) at t
 
-pub loop-i-preserved-then-state-eq1 : goal.loop-i-preserved-then-state-eq1
-loop-i-preserved-then-state-eq1 c =
-    squeezing-after c.loop-i.invariant c.loop-i-test.true (sym c.is_white.ensures ∙ c.if-is_white.true) c.if-state-eq1.true
+pub loop-word-init : goal.loop-word-init
+loop-word-init c = spelling-none c.requires
 
-pub loop-i-preserved-else-state-eq1 : goal.loop-i-preserved-else-state-eq1
-loop-i-preserved-else-state-eq1 c =
-    squeezing-white c.loop-i.invariant c.loop-i-test.true (sym c.is_white.ensures ∙ c.if-is_white.true) c.if-state-eq1.false
+pub add_word-o-requires : goal.add_word-o-requires
+add_word-o-requires c =
+    let u = word (goal.at.add_word-o-requires c).In-Some in spelling-room c.loop-word.invariant u.0 u.1
 
-pub bounds-dst-o : goal.bounds-dst-o
-bounds-dst-o c =
-    (squeezing-space-room c.loop-i.invariant c.loop-i-test.true (sym c.is_white.ensures ∙ c.if-is_white.false) c.if-state-eq2.true).0
-
-pub overflow_add-o : goal.overflow_add-o
-overflow_add-o c =
-    omega (arith, squeezing-space-room c.loop-i.invariant c.loop-i-test.true (sym c.is_white.ensures ∙ c.if-is_white.false) c.if-state-eq2.true)
-
-pub bounds-dst-o-then-state-eq2 : goal.bounds-dst-o-then-state-eq2
-bounds-dst-o-then-state-eq2 c =
-    (squeezing-space-room-2 c.loop-i.invariant c.loop-i-test.true (sym c.is_white.ensures ∙ c.if-is_white.false) c.if-state-eq2.true).0
-
-pub overflow_add-o-then-state-eq2 : goal.overflow_add-o-then-state-eq2
-overflow_add-o-then-state-eq2 c =
-    omega (arith, squeezing-space-room-2 c.loop-i.invariant c.loop-i-test.true (sym c.is_white.ensures ∙ c.if-is_white.false) c.if-state-eq2.true)
-
-pub loop-i-preserved-then-state-eq2 : goal.loop-i-preserved-then-state-eq2
-loop-i-preserved-then-state-eq2 c =
-    squeezing-space c.loop-i.invariant c.loop-i-test.true (sym c.is_white.ensures ∙ c.if-is_white.false) c.if-state-eq2.true
-
-pub bounds-dst-o-else-state-eq2 : goal.bounds-dst-o-else-state-eq2
-bounds-dst-o-else-state-eq2 c =
-    (squeezing-word-room c.loop-i.invariant c.loop-i-test.true (sym c.is_white.ensures ∙ c.if-is_white.false) c.if-state-eq2.false).0
-
-pub overflow_add-o-else-state-eq2 : goal.overflow_add-o-else-state-eq2
-overflow_add-o-else-state-eq2 c =
-    omega (arith, squeezing-word-room c.loop-i.invariant c.loop-i-test.true (sym c.is_white.ensures ∙ c.if-is_white.false) c.if-state-eq2.false)
-
-pub loop-i-preserved : goal.loop-i-preserved
-loop-i-preserved c =
-    squeezing-word c.loop-i.invariant c.loop-i-test.true (sym c.is_white.ensures ∙ c.if-is_white.false) c.if-state-eq2.false
-
-pub shape_of-dst : goal.shape_of-dst
-shape_of-dst c = sofar-length c.loop-i.invariant.sofar
+pub loop-word-preserved : goal.loop-word-preserved
+loop-word-preserved c =
+    let u = word (goal.at.loop-word-preserved c).In-Some in
+    spelling-word c.loop-word.invariant u.0 u.1 c.add_word-o.ensures (length_push c.loop-word.yielded c.in-Some.word)
 
 pub returns : goal.returns
-returns c = squeezing-end c.loop-i.invariant c.loop-i-test.false
+returns c =
+    let h = c.into_iter-word-iterator.ensures in
+    let t =
+    YieldsList-end
+    (YieldsList-from_filter {s = c.into_iter-word-iterator.result} _ has_byte
+    (YieldsList-from_slice_split _ white c.args.src.now (cc) (cc) (cc) (λ x b q k. search (rules, tests))) (cc) (λ x b q k. search (rules, tests)))
+    c.loop-word.yielded _ c.loop-word.yielded_by _ _ c.in-None.is c.next.ensures.steps in
+    let u = rw (words-is c.args.src.now) at t in
+    spelling-end c.loop-word.invariant (omega (arith, u.1))

@@ -1,2 +1,0 @@
--- Laws that the proofs of the output cite.
-pub mod Digits

@@ -1,9 +1,0 @@
--- The place stays within the numbers.
-use Prim.Native.Nat.{◌≤◌, ◌-◌}
-use Rattle.answers_steps.proofs.spelled.is_row.Given as goal
-
-abbrev pub invariant-loop-k : goal.invariant-loop-k
-invariant-loop-k l = l.k ≤ 16
-
-abbrev pub decreases-loop-k : goal.decreases-loop-k
-decreases-loop-k l = 16 - l.k

@@ -1,2 +1,0 @@
--- What the contracts of the fields' readers cite.
-pub mod Bounds

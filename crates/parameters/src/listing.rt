@@ -1,0 +1,60 @@
+// Writing a table of parameters, each as `key=value` with a newline after it.
+ghost use Rattle.std.specs.Prelude.{◌≡◌, ◌+◌, ◌≤◌, length};
+ghost use Rattle.rules.specs.Text.Refusal.{answers, Lends};
+ghost use Rattle.rules.specs.Text.Parameters.{parameter_line};
+ghost use Rattle.text.specs.Wrote.{Wrote, WroteAt};
+ghost use Rattle.parameters.specs.Replies.{lines_of};
+ghost use Rattle.parameters.specs.Tables.{text, table_in};
+
+use crate::table::Parameters;
+use rules::{NO_ROOM, Refusal};
+use text::put;
+
+// Writes a parameter as `key=value`, with a newline after it, into dst from at.
+fn line_at(key: &[u8], value: &[u8], dst: &mut [u8], at: usize) -> usize
+    requires { at + length (parameter_line (record { key = key.now; value = value.now })) ≤ length dst.old }
+    ensures { WroteAt (parameter_line (record { key = key.now; value = value.now })) dst.old at result dst.new }
+{
+    let o = put(key, dst, at);
+    dst[o] = b'=';
+    let e = put(value, dst, o + 1);
+    dst[e] = b'\n';
+    e + 1
+}
+
+impl<'a> Parameters<'a> {
+    // Writes the parameters of the table, in its order, into dst from its first byte.
+    fn lines_of(&self, dst: &mut [u8]) -> usize
+        requires { length (lines_of (text self.now) (table_in self.now)) ≤ length dst.old }
+        ensures { Wrote (lines_of (text self.now) (table_in self.now)) dst.old result dst.new }
+    {
+        let mut o = 0;
+        for p in self.held() {
+            o = line_at(self.key(*p), self.value(*p), dst, o);
+        }
+        o
+    }
+
+    // How many bytes the parameters of the table are, as they are written.
+    fn length_of(&self) -> usize
+        ensures { result ≡ length (lines_of (text self.now) (table_in self.now)) }
+    {
+        let mut n = 0;
+        for p in self.held() {
+            n += p.key_end - p.key;
+            n += p.value_end - p.value;
+            n += 2;
+        }
+        n
+    }
+
+    // Writes the parameters of the table into out, or refuses 7.
+    pub fn lines_out(&self, out: &mut [u8]) -> Result<usize, Refusal>
+        ensures { Lends (answers (lines_of (text self.now) (table_in self.now))) out.old result out.new }
+    {
+        if out.len() < self.length_of() {
+            return Err(NO_ROOM);
+        }
+        Ok(self.lines_of(out))
+    }
+}
