@@ -5,6 +5,7 @@ use mathlib.Core.Bool.{Bool, beq, not, ◌&&◌, xor}
 use mathlib.Core.List.{List, [], ◌∷◌}
 use native.Mathlib.Omega.{arith}
 use borrow.Author.Tests.{eq-eqb, le-leb, lt-leb}
+use lib.Dec.{lit≤}
 use lib.IntN.{ℤ, pos}
 use lib.ListN.{length, get_or, take, drop}
 use Rattle.rules.specs.Text.Lists.{all_of}
@@ -14,18 +15,25 @@ use Rattle.rules.specs.Operators.Adapt.{position, output_of, angles, is_code}
 use Rattle.rules.specs.Operators.Documented.{input_at, output_by_axis, carries_angle, angle_by_axis, combined_by_axis, two_alike, is_documented}
 use Rattle.laws_records.specs.Series.{size-signed}
 use Rattle.laws_records.specs.Operators.Adapt.Words.{Sized, order-sized, IsWord, outs-order}
-use Rattle.adapt.specs.declared.words.Word.{Word}
-use Rattle.adapt.specs.Words.{word_as, Ready}
+use Rattle.adapt.specs.declared.word.Angle.{Angle}
+use Rattle.adapt.specs.declared.word.Angle.TheVariants.{Radians, Degrees, Gons}
+use Rattle.adapt.specs.declared.word.Word.{Word}
+use Rattle.adapt.specs.Words.{number, word_as}
 use Rattle.adapt.proofs.FirstPlace.{finds-size, place-most}
 use Rattle.adapt.proofs.TwoWords.{differ}
 
 -- ---- the place of an axis
 
-word-is : (w : Word) → Ready w → IsWord (word_as w)
-unfolding word_as
-word-is w h = record { four = h.four; ordered = h.ordered; angle-small = h.small }
+small : (a : Angle) → number a ≤ 2
+small Radians = lit≤ tt
+small Degrees = lit≤ tt
+small Gons = lit≤ tt
 
-module _ (v w : Word) (p : Ready v) (q : Ready w) where
+word-is : (w : Word) → IsWord (word_as w)
+unfolding word_as
+word-is w = record { four = w.four; ordered = w.ordered; angle-small = small w.angle }
+
+module _ (v w : Word) where
   -- each axis of `to` stands somewhere in `from`
   sized-some : (k : ℕ) → Sized (output_of (word_as v) (word_as w) k) → 1 ≤ position 1 (size (arg k w.axes)) v.axes
   unfolding output_of word_as
@@ -36,7 +44,7 @@ module _ (v w : Word) (p : Ready v) (q : Ready w) where
   axis-some i h = go i h
     where
       s : Sized (output_of (word_as v) (word_as w) 1) × Sized (output_of (word_as v) (word_as w) 2) × Sized (output_of (word_as v) (word_as w) 3) × Sized (output_of (word_as v) (word_as w) 4)
-      s = order-sized _ _ _ _ (outs-order (word_as v) (word_as w) (word-is v p) (word-is w q))
+      s = order-sized _ _ _ _ (outs-order (word_as v) (word_as w) (word-is v) (word-is w))
 
       go : (i : ℕ) → i < 4 → 1 ≤ position 1 (size (get_or w.axes i (pos 0))) v.axes
       go zero h = sized-some 1 s.0
@@ -51,8 +59,8 @@ module _ (v w : Word) (p : Ready v) (q : Ready w) where
   pub place-some : (i : ℕ) → i < 4 → {s k : ℕ} → s ≡ size (get_or w.axes i (pos 0)) → k ≡ position 1 s v.axes → 1 ≤ k
   place-some i h e f = rw (f, e) (axis-some i h)
 
-pub place-few : (v : Word) → Ready v → (s : ℕ) {k : ℕ} → k ≡ position 1 s v.axes → k - 1 < length v.axes
-place-few v h s e = omega (arith, place-most (finds-size s) v.axes, h.four)
+pub place-few : (v : Word) (s : ℕ) {k : ℕ} → k ≡ position 1 s v.axes → k - 1 < length v.axes
+place-few v s e = omega (arith, place-most (finds-size s) v.axes, v.four)
 
 -- ---- an output, and the code of its factor
 

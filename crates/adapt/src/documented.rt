@@ -3,18 +3,17 @@ ghost use Rattle.std.specs.Prelude.{◌≡◌, ◌+◌, ◌<◌};
 ghost use Rattle.rules.specs.Text.Lists.{all_of};
 ghost use Rattle.rules.specs.Operators.Adapt.{is_code};
 ghost use Rattle.rules.specs.Operators.Documented.{output_by_axis, angle_by_axis, combined_by_axis, is_pair, two_alike, is_documented};
-ghost use Rattle.adapt.specs.Words.{word_as, Ready};
+ghost use Rattle.adapt.specs.Words.{word_as};
 
 use crate::arguments::is_code;
-use crate::words::{Word, code_of, position_of};
+use crate::word::Word;
+use crate::words::{code_of, position_of};
 use numbers::{is_minus, is_order, signed, size_of};
 
 // Output i, counted from 0: the place among the axes of `from` that holds axis i of `to`, turned where that axis is turned in one word and
 // not in the other.
 fn output_by_axis(from: Word, to: Word, i: usize) -> i32
-    requires ready { Ready from }
-    requires ready_2 { Ready to }
-    requires i_bound { i < 4 }
+    requires { i < 4 }
     ensures { result ≡ output_by_axis (word_as from) (word_as to) (i + 1) }
 {
     let a = from.axes;
@@ -26,9 +25,7 @@ fn output_by_axis(from: Word, to: Word, i: usize) -> i32
 
 // The code of its factor: that of the two angles, if the axis is one of the two that carry an angle, else 0.
 fn angle_by_axis(from: Word, to: Word, i: usize) -> i32
-    requires ready { Ready from }
-    requires ready_2 { Ready to }
-    requires i_bound { i < 4 }
+    requires { i < 4 }
     ensures { result ≡ angle_by_axis (word_as from) (word_as to) (i + 1) }
 {
     if 2 < size_of(to.axes[i]) {
@@ -39,8 +36,6 @@ fn angle_by_axis(from: Word, to: Word, i: usize) -> i32
 
 // The eight arguments that two words make: the four outputs, and the codes of their factors.
 pub fn combined_by_axis(from: Word, to: Word) -> [i32; 8]
-    requires ready { Ready from }
-    requires ready_2 { Ready to }
     ensures { result ≡ combined_by_axis (word_as from) (word_as to) }
 {
     let o1 = output_by_axis(from, to, 0);

@@ -10,6 +10,7 @@ mod documented_text;
 mod factors;
 mod keys;
 mod modes;
+mod word;
 mod words;
 mod writing;
 
@@ -21,5 +22,6 @@ pub use documented_text::write_documented;
 pub use factors::{is_noop, mults_of};
 pub use keys::kind_of;
 pub use modes::{between, operator_in};
-pub use words::{Word, word_of};
+pub use word::{Angle, Word};
+pub use words::word_of;
 pub use writing::write_words;

@@ -2,10 +2,11 @@
 ghost use Rattle.std.specs.Prelude.{◌≡◌};
 ghost use Rattle.rules.specs.Operators.Table.{number_of};
 ghost use Rattle.rules.specs.Operators.Documented.{adapt_in, combined_in};
-ghost use Rattle.adapt.specs.Words.{word_as, Ready};
+ghost use Rattle.adapt.specs.Words.{word_as};
 
 use crate::documented::combined_by_axis;
-use crate::words::{Word, combined};
+use crate::word::Word;
+use crate::words::combined;
 use rules::{ADAPT, DOCUMENTED, Mode};
 
 // The number of the operator.
@@ -20,8 +21,6 @@ pub fn operator_in(mode: Mode) -> u8
 
 // The eight arguments that two words make.
 pub fn between(from: Word, to: Word, mode: Mode) -> [i32; 8]
-    requires ready { Ready from }
-    requires ready_2 { Ready to }
     ensures { result ≡ combined_in mode (word_as from) (word_as to) }
 {
     match mode {

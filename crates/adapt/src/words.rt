@@ -1,20 +1,11 @@
 // Its words, `from` and `to`: read from a text, and the eight arguments that two of them make.
 ghost use Rattle.std.specs.Prelude.{◌≡◌, map, ◌+◌, ◌≤◌, ◌<◌, length, take};
-ghost use Rattle.rules.specs.Operators.Adapt.{place_in, axis, word, position, output_of, angles, combined};
-ghost use Rattle.adapt.specs.Words.{Ends, plain_word, word_as, IsRead, Ready};
+ghost use Rattle.rules.specs.Operators.Adapt.{place_in, axis, ending, word, position, output_of, angles, combined};
+ghost use Rattle.adapt.specs.Words.{numbered, plain_word, word_as, word_is};
 
+use crate::word::{Angle, Word};
 use numbers::{is_minus, is_order, signed, size_of};
 use text::is_same;
-
-// Stays: the contracts of `word_of` and `between` speak of this record, and `prepare` goes by them; the angle is the number that a code of
-// arguments is made of, which stands in a record.
-// A word of `adapt`: four axes with their signs, and an angle (0 radians, 1 degrees, 2 gons), if it is one.
-#[derive(Clone, Copy, Drop)]
-pub struct Word {
-    pub is: bool,
-    pub axes: [i32; 4],
-    pub angle: u8,
-}
 
 // The place of b among the letters, counted from 1; 0 where it is not there.
 fn letter_in(b: u8, letters: &[u8]) -> usize
@@ -47,56 +38,38 @@ pub fn axes_of(t: &[u8]) -> [i32; 4]
 }
 
 // The angle that a word's ending names: none and `_rad` and `_any` are radians.
-fn ending_of(t: &[u8]) -> Option<u8>
-    ensures { Ends t.now result }
+#[tactic(auto, unfolding(rules::specs::Operators::Adapt::ending, rules::specs::Text::Ascii::ascii, rules::specs::Text::Bytes::same))]
+fn ending_of(t: &[u8]) -> Option<Angle>
+    ensures { numbered result ≡ ending t.now }
 {
     if is_same(t, b"_deg") {
-        return Some(1);
+        return Some(Angle::Degrees);
     }
     if is_same(t, b"_gon") {
-        return Some(2);
+        return Some(Angle::Gons);
     }
-    if t.is_empty() {
-        return Some(0);
-    }
-    if is_same(t, b"_rad") {
-        return Some(0);
-    }
-    if is_same(t, b"_any") {
-        return Some(0);
-    }
-    None
+    let is_radians = is_same(t, b"") || is_same(t, b"_rad") || is_same(t, b"_any");
+    is_radians.then_some(Angle::Radians)
 }
 
 // "four letters, each axis once, and an ending or none"
-fn letters(t: &[u8]) -> Word
-    ensures { IsRead (plain_word t.now) result }
+fn letters(t: &[u8]) -> Option<Word>
+    ensures { word_is result ≡ plain_word t.now }
 {
-    let none = Word {
-        is: false,
-        axes: [0; 4],
-        angle: 0,
-    };
     if t.len() < 4 {
-        return none;
+        return None;
     }
     let axes = axes_of(t);
     if !is_order(&axes) {
-        return none;
+        return None;
     }
-    match ending_of(&t[4..]) {
-        Some(angle) => Word {
-            is: true,
-            axes,
-            angle,
-        },
-        None => none,
-    }
+    let angle = ending_of(&t[4..])?;
+    Some(Word { axes, angle })
 }
 
 // "words .. as the source has them, `pass` included"
-pub fn word_of(t: &[u8]) -> Word
-    ensures { IsRead (word t.now) result }
+pub fn word_of(t: &[u8]) -> Option<Word>
+    ensures { word_is result ≡ word t.now }
 {
     if is_same(t, b"pass") {
         return letters(b"enuf");
@@ -117,9 +90,7 @@ pub fn position_of(size: usize, l: &[i32]) -> usize
 // post[i] with the sign of mult[i], i counted from 0: the place among the axes of `from` that holds axis i of `to`; turned
 // where the axis at i is turned in one word and not in the other.
 fn output(from: Word, to: Word, i: usize) -> i32
-    requires ready { Ready from }
-    requires ready_2 { Ready to }
-    requires i_bound { i < 4 }
+    requires { i < 4 }
     ensures { result ≡ output_of (word_as from) (word_as to) (i + 1) }
 {
     let a = from.axes;
@@ -130,21 +101,17 @@ fn output(from: Word, to: Word, i: usize) -> i32
 
 // The code of the factor that goes from one angle to the other, 0 where they are the same.
 pub fn code_of(from: Word, to: Word) -> i32
-    requires ready { Ready from }
-    requires ready_2 { Ready to }
     ensures { result ≡ angles (word_as from) (word_as to) }
 {
     if from.angle == to.angle {
         return 0;
     }
-    (3 * from.angle + to.angle) as i32
+    3 * from.angle as i32 + to.angle as i32
 }
 
 // The eight arguments that two words make: the four outputs, and the codes of their factors (an angle stands in the first
 // two numbers).
 pub fn combined(from: Word, to: Word) -> [i32; 8]
-    requires ready { Ready from }
-    requires ready_2 { Ready to }
     ensures { result ≡ combined (word_as from) (word_as to) }
 {
     let o1 = output(from, to, 0);

@@ -1,5 +1,5 @@
 -- The walk of the check over a table: what it has gathered of the steps behind it, and what the verdict hangs on.
-use Rattle.std.specs.Prelude.{Option, None, Some, Result, Ok, Err}
+use Rattle.std.specs.Prelude.{Option, None, Some, Ok, Err}
 use mathlib.Core.Path.{◌≡◌, refl, sym, ap, ◌∙◌, subst}
 use Prim.Native.Nat.{ℕ, suc, ◌+◌, ◌≤◌, ◌<◌, max, ◌-◌}
 use mathlib.Core.Bool.{Bool, true, false, cond, not, ◌||◌, or-false}
@@ -20,7 +20,6 @@ use Rattle.rules.specs.declared.Step.{Step}
 use Rattle.rules.specs.declared.Direction.{Direction}
 use Rattle.rules.specs.declared.Verdict.TheVariants.{Passes, TooFew, TooMany, Refused}
 use Rattle.rules.specs.declared.Foretold.{Foretold}
-use Rattle.laws_lists.specs.Tests.{never}
 use Rattle.laws_steps.specs.Depth.{grown, moved-depth}
 use Rattle.laws_steps.specs.Walk.{after_more, depths-more, deepest-more}
 use Rattle.columns.specs.declared.acts.Doing.{Doing}

@@ -1,4 +1,5 @@
 -- One step: what each act needs, out of what the check has found.
+use mathlib.Core.Logic.{◌⊎◌, inl, inr}
 use mathlib.Core.Path.{◌≡◌, refl}
 use Prim.Native.Nat.{ℕ, ◌+◌, ◌*◌, ◌≤◌, ◌<◌, ◌-◌}
 use mathlib.Core.Bool.{Bool, true, false, not}
@@ -40,13 +41,10 @@ module _ {t : Traced} {l : List ℤ} where
   unfolding able does grown depth
   ready-push r = (r.whole, (places-axes l r.rule, omega (arith, r.room, r.whole.within, places-length l)))
 
-  pub ready-pop : Ready t Pops l → Whole t × ((all_of is_axis l ≡ true) × (t.top + length l ≤ 64))
+  pub ready-pops : Ready t Pops l ⊎ Ready t PopsAll l → Whole t × ((all_of is_axis l ≡ true) × (t.top + length l ≤ 64))
   unfolding able does takes depth
-  ready-pop r = taking t l r.whole r.rule r.enough
-
-  pub ready-pop-all : Ready t PopsAll l → Whole t × ((all_of is_axis l ≡ true) × (t.top + length l ≤ 64))
-  unfolding able does takes depth
-  ready-pop-all r = taking t l r.whole r.rule r.enough
+  ready-pops (inl r) = taking t l r.whole r.rule r.enough
+  ready-pops (inr r) = taking t l r.whole r.rule r.enough
 
   pub ready-flip : Ready t Flips l → Whole t × ((all_of is_axis l ≡ true) × (t.top + length l ≤ 64))
   unfolding able does takes depth

@@ -46,18 +46,14 @@ pub fn step(t: Traced, d: Doing) -> Traced
     requires n_bound { d.n ≤ 8 }
     ensures { Moved (doing d) t result }
 {
-    let act = d.act;
-    let args = d.args;
-    let n = d.n;
-    match act {
-        Act::Pushes => push_places(t, &args[..n]),
-        Act::Pops => pop_places(t, &args[..n]),
-        Act::PopsAll => pop_places(t, &args[..n]),
-        Act::Flips => flip_places(t, &args[..n]),
-        Act::Rolls { m, n: times } => roll_places(t, m, times),
+    let l = &d.args[..d.n];
+    match d.act {
+        Act::Pushes => push_places(t, l),
+        Act::Pops | Act::PopsAll => pop_places(t, l),
+        Act::Flips => flip_places(t, l),
+        Act::Rolls { m, n } => roll_places(t, m, n),
         Act::Swaps => swap_places(t),
-        Act::Drops => t,
-        Act::Orders { back } => order_places(t, back, &args[..n]),
-        Act::Adapts { mode: _, back: _ } => t,
+        Act::Orders { back } => order_places(t, back, l),
+        Act::Drops | Act::Adapts { .. } => t,
     }
 }

@@ -11,35 +11,36 @@ ghost use Rattle.foretell.specs.Steps.{beginning};
 
 use acts::{Fault, is_adapting, judge, step};
 use columns::Traced;
-use record::{act_of, is_omitted, refusal18, visited_of};
+use record::{NO_SPAN, act_of, is_omitted, refusal18, visited_of};
 use rules::{Direction, Foretold, Place, Span, Table, Verdict};
 
-// A place, its sign kept; 0 tells of none.
-fn place(axis: u8) -> Place
+// What tells of no place.
+const NO_PLACE: Place = Place {
+    axis: 0,
+    minus: false,
+};
+
+// A place, its sign kept.
+const fn place(axis: u8) -> Place
     ensures { result ≡ plus axis }
 {
-    Place {
-        axis: axis,
-        minus: false,
-    }
+    Place { axis, minus: false }
 }
 
 // An answer that tells no more than its verdict, and a span.
+#[tactic(auto, unfolding(rules::specs::Pipeline::Check::only))]
 fn only(verdict: Verdict, span: Span) -> Foretold
     ensures { result ≡ only verdict span }
 {
-    let none = place(0);
-    let depths = [0; 64];
-    let places = [none; 4];
     Foretold {
-        verdict: verdict,
-        span: span,
+        verdict,
+        span,
         run: 0,
-        depths: depths,
+        depths: [0; 64],
         deepest: 0,
         left: 0,
         told: false,
-        places: places,
+        places: [NO_PLACE; 4],
     }
 }
 
@@ -47,16 +48,9 @@ fn only(verdict: Verdict, span: Span) -> Foretold
 fn begun() -> Traced
     ensures { result ≡ beginning }
 {
-    let none = place(0);
-    let one = place(1);
-    let two = place(2);
-    let three = place(3);
-    let four = place(4);
-    let tuple = [one, two, three, four];
-    let columns = [none; 64];
     Traced {
-        tuple: tuple,
-        columns: columns,
+        tuple: [place(1), place(2), place(3), place(4)],
+        columns: [NO_PLACE; 64],
         top: 64,
     }
 }
@@ -65,11 +59,7 @@ fn begun() -> Traced
 fn told_places(tuple: [Place; 4], adapts: bool) -> [Place; 4]
     ensures { result ≡ cond (not adapts) tuple (replicate 4 no_place) }
 {
-    if adapts {
-        let none = place(0);
-        return [none; 4];
-    }
-    tuple
+    if adapts { [NO_PLACE; 4] } else { tuple }
 }
 
 // The check of records that preparations make. A step at fault is named with its span.
@@ -102,17 +92,15 @@ fn checked(table: Table, direction: Direction) -> Foretold
             }
         }
     }
-    let tuple = t.tuple;
-    let places = told_places(tuple, adapts);
     Foretold {
         verdict: Verdict::Passes,
-        span: Span { from: 0, length: 0 },
-        run: run,
-        depths: depths,
-        deepest: deepest,
+        span: NO_SPAN,
+        run,
+        depths,
+        deepest,
         left: 64 - t.top,
         told: !adapts,
-        places: places,
+        places: told_places(t.tuple, adapts),
     }
 }
 
@@ -121,13 +109,7 @@ pub fn check(table: Table, direction: Direction) -> Foretold
     ensures { Checks direction (listed table) result }
 {
     match refusal18(table) {
-        Some(place) => only(
-            Verdict::Refused {
-                number: 18,
-                place: place,
-            },
-            Span { from: 0, length: 0 },
-        ),
+        Some(place) => only(Verdict::Refused { number: 18, place }, NO_SPAN),
         None => checked(table, direction),
     }
 }

@@ -9,7 +9,7 @@ use mathlib.Core.Bool.{Bool, true, false, cond, not}
 use mathlib.Core.List.{List, [], ◌∷◌, ◌++◌, reverse, flat_map}
 use native.Mathlib.Nat.{mul-le-mul_right}
 use native.Mathlib.Omega.{arith}
-use borrow.Author.Tests.{lt-ltb, le-ltb, ltb-false, eqb-true, eq-eqb, ne_eqb, not-false}
+use borrow.Author.Tests.{lt-ltb, le-ltb, ltb-false, eqb-true, not-false}
 use lib.Dec.{ltb, eqb}
 use lib.ListN.{length, take, drop, replicate}
 use lib.Seq.{length-take-le}
@@ -122,13 +122,3 @@ finishes l deep xs s xs' s' s'' c left bad lx ls room e z =
     let long : left * n ≡ length (flat_map (λ (v : List Float). v) (reverse end.columns)) = sym (length-take-le (left * n) s' (omega arith)) ∙ ap length flat in
     let store : s'' ≡ store_after used end.columns s = z ∙ (λ i. flat i ++ (replicate (used - long i) (fin false 0 (pos 0)) ++ e.beyond i)) in
     record { exactly = rw (le-ltb (length s) used room) (λ i. record { answer = done (e.counted i) (gone i); list = list i; store = store i }) }
-
--- ---- the test of 15
-
-pub odd-list : (xs : List Float) → (length xs % 4 ≡ 0 → ⊥) → true ≡ bad_list xs
-unfolding bad_list
-odd-list xs h = rw (ne_eqb (length xs % 4) 0 h)
-
-pub even-list : (xs : List Float) → length xs % 4 ≡ 0 → ltb 65536 (length xs / 4) ≡ bad_list xs
-unfolding bad_list
-even-list xs h = rw (eq-eqb (length xs % 4) 0 h)

@@ -27,19 +27,17 @@ fn run_act(tuples: &mut [f64], columns: &mut [f64], depth: usize, d: Doing)
     requires tuples_in_bounds_2 { depth_after (doing d) depth * (length tuples.old / 4) ≤ length columns.old }
     ensures { Acted (doing d) depth tuples.old columns.old tuples.new columns.new }
 {
-    let act = d.act;
-    let args = d.args;
-    let n = d.n;
-    match act {
-        Act::Pushes => push(tuples, columns, depth, &args[..n]),
-        Act::Pops => pop(tuples, columns, depth, &args[..n]),
-        Act::PopsAll => pop_all(tuples, columns, depth, &args[..n]),
-        Act::Flips => flip(tuples, columns, depth, &args[..n]),
-        Act::Rolls { m, n: times } => roll(tuples, columns, depth, m, times),
+    let l = &d.args[..d.n];
+    match d.act {
+        Act::Pushes => push(tuples, columns, depth, l),
+        Act::Pops => pop(tuples, columns, depth, l),
+        Act::PopsAll => pop_all(tuples, columns, depth, l),
+        Act::Flips => flip(tuples, columns, depth, l),
+        Act::Rolls { m, n } => roll(tuples, columns, depth, m, n),
         Act::Swaps => swap(tuples, columns, depth),
         Act::Drops => {}
-        Act::Orders { back } => axisswap(tuples, back, &args[..n]),
-        Act::Adapts { mode, back } => adapt(tuples, mode, back, args),
+        Act::Orders { back } => axisswap(tuples, back, l),
+        Act::Adapts { mode, back } => adapt(tuples, mode, back, d.args),
     }
 }
 
@@ -67,10 +65,7 @@ fn run_step(
     ensures { Stands direction s depth tuples.old columns.old tuples.new columns.new result }
 {
     if is_omitted(s, direction) {
-        return Stood {
-            depth: depth,
-            none: false,
-        };
+        return Stood { depth, none: false };
     }
     let d = act_of(s, direction);
     let stood = Stood {
@@ -83,6 +78,25 @@ fn run_step(
 
 // ---- the run
 
+// More records than a table holds, a list that is none of whole tuples or too long, and a store that is too short.
+const MANY_RECORDS: Refusal = Refusal {
+    number: 18,
+    place: 0,
+    offset: 0,
+};
+
+const BAD_LIST: Refusal = Refusal {
+    number: 15,
+    place: 0,
+    offset: 0,
+};
+
+const SHORT_STORE: Refusal = Refusal {
+    number: 17,
+    place: 0,
+    offset: 0,
+};
+
 // The count, from the count before a step.
 fn counted(none: bool, count: usize) -> usize
     ensures { result ≡ cond none 0 count }
@@ -91,14 +105,12 @@ fn counted(none: bool, count: usize) -> usize
 }
 
 // 15: is the length of a list no multiple of 4, or over 65,536 tuples?
+#[tactic(auto, unfolding(rules::specs::Pipeline::Run::bad_list))]
 fn is_bad_list(tuples: &[f64]) -> bool
     ensures { result ≡ bad_list tuples.now }
 {
     let n = tuples.len();
-    if n % 4 != 0 {
-        return true;
-    }
-    65536 < n / 4
+    n % 4 != 0 || 65536 < n / 4
 }
 
 // The run of a table over a list, four numbers per tuple, and a store of columns: the count and how many columns are left, or
@@ -115,11 +127,7 @@ pub fn run(
     let n = table.n;
     let steps = table.steps;
     if 64 < n {
-        return Err(Refusal {
-            number: 18,
-            place: 0,
-            offset: 0,
-        });
+        return Err(MANY_RECORDS);
     }
     // 18: the first record that no preparation makes, whose reading is not the first's, or whose span is not one behind the last
     let first = steps[0];
@@ -137,11 +145,7 @@ pub fn run(
         end = end_of(s);
     }
     if is_bad_list(tuples) {
-        return Err(Refusal {
-            number: 15,
-            place: 0,
-            offset: 0,
-        });
+        return Err(BAD_LIST);
     }
     // 16: the depths, by a run over no tuples
     let mut no_tuples = [0.0; 0];
@@ -165,11 +169,7 @@ pub fn run(
     let whole = tuples.len() / 4;
     let used = deepest * whole;
     if columns.len() < used {
-        return Err(Refusal {
-            number: 17,
-            place: 0,
-            offset: 0,
-        });
+        return Err(SHORT_STORE);
     }
     // every step that runs, one after the other, in running order
     let mut count = whole;

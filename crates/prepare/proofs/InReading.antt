@@ -20,7 +20,7 @@ use Rattle.rules.specs.declared.Step.{Step}
 use Rattle.rules.specs.declared.Table.{Table}
 use Rattle.laws_lists.specs.Tests.{never}
 use Rattle.prepare.specs.declared.Preparing.{Preparing}
-use Rattle.prepare.specs.Lent.{row, with_row, lent_to, preparing, preparing_as, refusing, first_named, answer_named}
+use Rattle.prepare.specs.Lent.{row, with_row, lent_to, preparing, preparing_as, first_named, answer_named, refused_with}
 
 -- ---- the walk over the records
 
@@ -106,9 +106,9 @@ module _ (r : Reading) (mode : Mode) (text : Bytes) (t : Table) {p : Preparing} 
   unfolding answer_named
   answers-named {n} {steps} a h = (λ i. record { answer = Ok n; table = record { steps = h i; n = p.table.n } }) ∙ sym (ap (λ (w : Result ℕ Refusal). answer_named r w p.table) a) ∙ by_answer
 
-  pub refuses-named : {e : Refusal} → p.answer ≡ Err e → p ≡ preparing_as r mode text t
+  pub refuses-named : {e : Refusal} → p.answer ≡ Err e → refused_with e p.table ≡ preparing_as r mode text t
   unfolding answer_named
-  refuses-named a = (λ i. record { answer = a i; table = p.table }) ∙ sym (ap (λ (w : Result ℕ Refusal). answer_named r w p.table) a) ∙ by_answer
+  refuses-named a = sym (ap (λ (w : Result ℕ Refusal). answer_named r w p.table) a) ∙ by_answer
 
   pub counts-records : {n : ℕ} → p.answer ≡ Ok n → n ≤ length p.table.steps
   unfolding preparing

@@ -28,12 +28,6 @@ use Rattle.prepare.specs.declared.faults.Lowest.{Lowest}
 
 -- ---- the lowest number
 
-by-least : (a b c : Bool) → 11 ≤ by a b c
-by-least true b c = omega arith
-by-least false true c = omega arith
-by-least false false true = omega arith
-by-least false false false = omega arith
-
 by_most : (a b c : Bool) → by a b c ≤ 14
 by_most true b c = omega arith
 by_most false true c = omega arith
@@ -49,10 +43,6 @@ module _ (n : Name) (ps : List Parameter) where
 
   abbrev long : Bool
   long = any_of (λ (p : Parameter). too_long (kind_of n p) p.value) ps
-
-  pub lowest-least : 11 ≤ lowest_of n ps
-  unfolding lowest_of
-  lowest-least = by-least lacking wrong long
 
   pub lowest-most : lowest_of n ps ≤ 14
   unfolding lowest_of

@@ -1,17 +1,18 @@
 -- The lent row: a refusal leaves the table as it was, and records brought into it stand in front of what was there. So it is with the answer after
 -- all steps are read.
-use Rattle.std.specs.Prelude.{Ok}
+use Rattle.std.specs.Prelude.{Ok, Err, Option, None, Some}
 use mathlib.Core.Path.{◌≡◌, refl, sym, ap, ◌∙◌}
 use Prim.Native.Nat.{ℕ, ◌≤◌, ◌<◌}
 use mathlib.Core.Bool.{Bool, true, false, cond}
 use mathlib.Core.List.{List, ◌++◌, append_assoc}
 use native.Mathlib.Nat.{le-min}
 use native.Mathlib.Omega.{arith}
-use borrow.Author.Tests.{lt-ltb, le-ltb, eq-eqb, ne_eqb, eqb-true, ltb-true, ltb-false}
+use borrow.Author.Tests.{lt-ltb, le-ltb, eqb-true, ltb-true, ltb-false}
 use lib.ListN.{length, drop, length-take, take-append-drop}
 use lib.Seq.{length-take-le, drop-append-le}
 use lib.Dec.{eqb, ltb}
 use Rattle.rules.specs.Text.Refusal.{Reply, answers, refuses, refuses12, lent, prepared}
+use Rattle.rules.specs.declared.Refusal.{Refusal}
 use Rattle.rules.specs.declared.Step.{Step}
 use Rattle.rules.specs.declared.Table.{Table}
 use Rattle.prepare.specs.declared.Preparing.{Preparing}
@@ -39,6 +40,10 @@ module _ (t : Table) where
       go true z f = rw (eqb-true number 12 z) (lent-refused12 f)
       go false z f = lent-refused f
 
+  -- this refusal
+  abbrev pub refused_by : Refusal → Preparing
+  refused_by r = record { answer = Err r; table = t }
+
   -- an answer with these records in front
   abbrev given : List Step → ℕ → Preparing
   given steps n = record { answer = Ok n; table = record { steps = steps; n = t.n } }
@@ -65,33 +70,33 @@ module _ (t : Table) where
 
   -- ---- the answer after n steps
 
-  module _ (steps : List Step) (n number place at : ℕ) where
-    pub answered-many : 64 < n → answered t steps n number place at ≡ refusing 8 0 0 t
+  module _ (steps : List Step) (n : ℕ) where
+    pub answered-many : (first : Option Refusal) → 64 < n → answered t steps n first ≡ refusing 8 0 0 t
     unfolding answered
-    answered-many h = rw (lt-ltb 64 n h)
+    answered-many None h = rw (lt-ltb 64 n h)
+    answered-many (Some r) h = rw (lt-ltb 64 n h)
 
     module _ (h : n ≤ 64) where
-      pub answered-refused : (number ≡ 0 → ⊥) → answered t steps n number place at ≡ refusing number place (offset_if number at) t
+      pub answered-refused : (r : Refusal) → answered t steps n (Some r) ≡ refused_by r
       unfolding answered
-      answered-refused z = rw (le-ltb 64 n h, ne_eqb number 0 z)
+      answered-refused r = rw (le-ltb 64 n h)
 
-      module _ (z : number ≡ 0) where
-        pub answered-short : t.n < n → answered t steps n number place at ≡ refusing 7 0 0 t
-        unfolding answered
-        answered-short k = rw (le-ltb 64 n h, eq-eqb number 0 z, lt-ltb t.n n k)
+      pub answered-short : t.n < n → answered t steps n None ≡ refusing 7 0 0 t
+      unfolding answered
+      answered-short k = rw (le-ltb 64 n h, lt-ltb t.n n k)
 
-        pub answered-all : n ≤ t.n → answered t steps n number place at ≡ given steps n
-        unfolding answered
-        answered-all k = rw (le-ltb 64 n h, eq-eqb number 0 z, le-ltb t.n n k)
+      pub answered-all : n ≤ t.n → answered t steps n None ≡ given steps n
+      unfolding answered
+      answered-all k = rw (le-ltb 64 n h, le-ltb t.n n k)
 
-        -- it is what the reply of these records brings into the row
-        pub answered-lent : length t.steps ≡ 64 → {reply : Reply (List Step)} {l : List Step} → reply ≡ answers l → length l ≡ n → steps ≡ l ++ drop n t.steps
-            → answered t steps n number place at ≡ lent_to reply t
-        answered-lent full {reply} {l} e c s = go (ltb t.n n) refl
-          where
-            few : length l ≤ 64
-            few = omega (arith, c)
+      -- it is what the reply of these records brings into the row
+      pub answered-lent : length t.steps ≡ 64 → {reply : Reply (List Step)} {l : List Step} → reply ≡ answers l → length l ≡ n → steps ≡ l ++ drop n t.steps
+          → answered t steps n None ≡ lent_to reply t
+      answered-lent full {reply} {l} e c s = go (ltb t.n n) refl
+        where
+          few : length l ≤ 64
+          few = omega (arith, c)
 
-            go : (b : Bool) → ltb t.n n ≡ b → answered t steps n number place at ≡ lent_to reply t
-            go true f = answered-short (ltb-true t.n n f) ∙ lent-short full e few (omega (arith, c, ltb-true t.n n f))
-            go false f = answered-all (ltb-false t.n n f) ∙ lent-all full e few (omega (arith, c, ltb-false t.n n f)) (sym c) s
+          go : (b : Bool) → ltb t.n n ≡ b → answered t steps n None ≡ lent_to reply t
+          go true f = answered-short (ltb-true t.n n f) ∙ lent-short full e few (omega (arith, c, ltb-true t.n n f))
+          go false f = answered-all (ltb-false t.n n f) ∙ lent-all full e few (omega (arith, c, ltb-false t.n n f)) (sym c) s

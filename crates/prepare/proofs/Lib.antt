@@ -1,4 +1,3 @@
-pub mod ByteEnd
 pub mod DigitsSpelt
 pub mod EarliestFault
 pub mod FirstSeries
@@ -14,7 +13,6 @@ pub mod PointDecimal
 pub mod Promise
 pub mod Recorded
 pub mod Replies
-pub mod SameBytes
 pub mod SeriesPieces
 pub mod StepByStep
 pub mod StepText

@@ -31,8 +31,6 @@ use Rattle.rules.specs.declared.Step.{Step}
 use Rattle.rules.specs.declared.Name.TheVariants as name
 use Rattle.laws_lists.specs.Tests.{never}
 use Rattle.laws_records.specs.Numbering.{operator-number}
-use Rattle.adapt.specs.declared.words.Word.{Word}
-use Rattle.adapt.specs.Words.{word_as, word_is, IsRead}
 use Rattle.std.specs.Prelude.{Some, None, Option}
 use Rattle.prepare.specs.SeriesRead.{args_of, Good, no_numbers}
 use Rattle.prepare.specs.Faults.{is_series, first_series, numbers_of, Lowers}
@@ -206,22 +204,14 @@ module _ {ps : List Parameter} {low : Lowest} (l : Lowers name.Axisswap ps low) 
 
 -- ---- adapt
 
-module _ (ps : List Parameter) (key : Bytes) {w : Word} where
-  pub given_word : {v : Bytes} → value_of key ps ≡ Some v → IsRead (rules.word v) w → IsRead (rules.word_given (value_of key ps)) w
+module _ (ps : List Parameter) (key : Bytes) {w : Option rules.Word} where
+  pub given_word : {v : Bytes} → value_of key ps ≡ Some v → w ≡ rules.word v → w ≡ rules.word_given (value_of key ps)
   unfolding rules.word_given
   given_word g r = rw g r
 
-  pub given-none : value_of key ps ≡ None → IsRead (rules.word (ascii "enuf")) w → IsRead (rules.word_given (value_of key ps)) w
+  pub given-none : value_of key ps ≡ None → w ≡ rules.word (ascii "enuf") → w ≡ rules.word_given (value_of key ps)
   unfolding rules.word_given
   given-none g r = rw g r
-
-is_none : {target : Option rules.Word} {w : Word} → IsRead target w → w.is ≡ false → target ≡ None
-unfolding word_is
-is_none m e = sym m.is ∙ rw e
-
-is_some : {target : Option rules.Word} {w : Word} → IsRead target w → w.is ≡ true → target ≡ Some (word_as w)
-unfolding word_is
-is_some m e = sym m.is ∙ rw e
 
 -- the arguments that two words make are eight
 makes-eight : (mode : Mode) (from to : rules.Word) → length (combined_in mode from to) ≡ 8
@@ -229,45 +219,53 @@ unfolding combined_in rules.combined combined_by_axis
 makes-eight mode-is.Crate from to = refl
 makes-eight mode-is.Documented from to = refl
 
-module _ (mode : Mode) (ps : List Parameter) {from to : Word} (f : IsRead (rules.word_given (value_of (ascii "from") ps)) from)
-    (t : IsRead (rules.word_given (value_of (ascii "to") ps)) to) where
-  -- what the two words make
+module _ (mode : Mode) (ps : List Parameter) where
+  -- the two words, and what they make
+  abbrev from : Option rules.Word
+  from = rules.word_given (value_of (ascii "from") ps)
+
+  abbrev to : Option rules.Word
+  to = rules.word_given (value_of (ascii "to") ps)
+
   abbrev made : Option (List ℤ)
-  made = rules.between (combined_in mode) (rules.word_given (value_of (ascii "from") ps)) (rules.word_given (value_of (ascii "to") ps))
+  made = rules.between (combined_in mode) from to
 
   adapt-none : made ≡ None → {x : Reply Step} → x ≡ refuses 14 0 → x ≡ judged14 (own_rule mode name.Adapt ps)
   unfolding own_rule judged14 recorded choose
   adapt-none e h = h ∙ sym (rw e)
 
-  pub adapt-from : {x : Reply Step} → from.is ≡ false → x ≡ refuses 14 0 → x ≡ judged14 (own_rule mode name.Adapt ps)
+  pub adapt-from : {x : Reply Step} → None ≡ from → x ≡ refuses 14 0 → x ≡ judged14 (own_rule mode name.Adapt ps)
   unfolding rules.between
-  adapt-from e h = adapt-none (rw (is_none f e)) h
+  adapt-from e h = adapt-none (rw (← e)) h
 
-  pub adapt-to : {x : Reply Step} → from.is ≡ true → to.is ≡ false → x ≡ refuses 14 0 → x ≡ judged14 (own_rule mode name.Adapt ps)
-  unfolding rules.between
-  adapt-to d e h = adapt-none (rw (is_some f d, is_none t e)) h
-
-  module _ (d : from.is ≡ true) (e : to.is ≡ true) {l : List ℤ} (m : l ≡ combined_in mode (word_as from) (word_as to)) where
-    eight : length l ≡ 8
-    eight = rw m (makes-eight mode (word_as from) (word_as to))
-
-    pub adapt-good : Good (record { list = l; n = 8 })
-    adapt-good = let few : length l ≤ 8 = omega (arith, eight) in record { fits = lit≤ tt; size = eight; zeros = drop_of_length-le l few }
-
-    all-eight : take 8 l ≡ combined_in mode (word_as from) (word_as to)
-    all-eight = take_all 8 l (omega (arith, eight)) ∙ m
-
-    both : made ≡ Some (combined_in mode (word_as from) (word_as to))
+  module _ {v : rules.Word} (d : Some v ≡ from) where
+    pub adapt-to : {x : Reply Step} → None ≡ to → x ≡ refuses 14 0 → x ≡ judged14 (own_rule mode name.Adapt ps)
     unfolding rules.between
-    both = rw (is_some f d, is_some t e)
+    adapt-to e h = adapt-none (rw (← d, ← e)) h
 
-    pub adapt-so : {operator : ℕ} → operator ≡ number_of (adapt_in mode) → {x : Reply Step} → x ≡ answers (record_at operator ps (args_of (record { list = l; n = 8 })))
-        → x ≡ judged14 (own_rule mode name.Adapt ps)
-    unfolding own_rule judged14 recorded_at
-    adapt-so k {x} h =
-        let l' = combined_in mode (word_as from) (word_as to) in
-        let a : x ≡ answers (record_at (number_of (adapt_in mode)) ps l') = rw (all-eight, k) at h in
-        a ∙ ap judged14 (recorded-of (adapt_in mode) ps (Some l') ∙ ap (λ (r : Option (List ℤ)). recorded ps (choose (adapt_in mode) r)) (sym both))
+    module _ {w : rules.Word} (e : Some w ≡ to) {l : List ℤ} (m : l ≡ combined_in mode v w) where
+      both : made ≡ Some (combined_in mode v w)
+      unfolding rules.between
+      both = rw (← d, ← e)
+
+      eight : length l ≡ 8
+      eight = rw m (makes-eight mode v w)
+
+      all-eight : take 8 l ≡ combined_in mode v w
+      all-eight = take_all 8 l (omega (arith, eight)) ∙ m
+
+      pub adapt-so : {operator : ℕ} → operator ≡ number_of (adapt_in mode) → {x : Reply Step} → x ≡ answers (record_at operator ps (args_of (record { list = l; n = 8 })))
+          → x ≡ judged14 (own_rule mode name.Adapt ps)
+      unfolding own_rule judged14 recorded_at
+      adapt-so k {x} h =
+          let a : x ≡ answers (record_at (number_of (adapt_in mode)) ps (combined_in mode v w)) = rw (all-eight, k) at h in
+          a ∙ ap judged14 (recorded-of (adapt_in mode) ps (Some (combined_in mode v w)) ∙ ap (λ (r : Option (List ℤ)). recorded ps (choose (adapt_in mode) r)) (sym both))
+
+pub adapt-good : (mode : Mode) (v w : rules.Word) {l : List ℤ} → l ≡ combined_in mode v w → Good (record { list = l; n = 8 })
+adapt-good mode v w {l} m =
+    let eight : length l ≡ 8 = rw m (makes-eight mode v w) in
+    let few : length l ≤ 8 = omega (arith, eight) in
+    record { fits = lit≤ tt; size = eight; zeros = drop_of_length-le l few }
 
 -- ---- push and pop
 

@@ -6,13 +6,11 @@ use mathlib.Core.Bool.{Bool, true, false, cond}
 use mathlib.Core.List.{List, [], ◌∷◌, ◌++◌, append_assoc, append-nil}
 use native.Mathlib.Numerals.{add-one}
 use native.Mathlib.Omega.{arith}
-use borrow.Author.Tests.{ne_eqb}
 use lib.ListN.{length, take, set, length-set, length-append}
 use lib.Seq.{take-suc-set, length-take-le}
 use lib.IntN.{ℤ, pos}
 use Rattle.rules.specs.Text.Ascii.{ascii}
 use Rattle.rules.specs.Text.Bytes.{Bytes}
-use Rattle.rules.specs.Text.Refusal.{answers}
 use Rattle.rules.specs.Text.Parameters.{Parameter}
 use Rattle.rules.specs.Operators.Arguments.{is_given}
 use Rattle.rules.specs.Operators.Descriptions.{Operator, choose}
@@ -24,22 +22,11 @@ use Rattle.rules.specs.declared.Step.{Step}
 use Rattle.record.specs.Records.{mark_of}
 use Rattle.prepare.specs.Lookup.{given}
 use Rattle.prepare.specs.SeriesRead.{args_of, Good}
-use Rattle.prepare.specs.Records.{refused_at, reply_is, record_at, recorded_at, Axes, Extended, Flagged}
+use Rattle.prepare.specs.Records.{record_at, recorded_at, Axes, Extended, Flagged}
 use Rattle.prepare.specs.declared.series.Args.{Args}
 use Rattle.prepare.proofs.SeriesPieces.{zeros-more}
 
 -- ---- replies
-
-pub refused-is : (number at : ℕ) (step : Step) → 0 < number → reply_is (record { number = number; at = at; step = step }) ≡ refused_at number 0 at
-unfolding reply_is
-refused-is number at step h = let n : number ≡ 0 → ⊥ = λ e. no_zero e in rw (ne_eqb number 0 n)
-  where
-    no_zero : number ≡ 0 → ⊥
-    no_zero e = omega arith
-
-pub answered-is : (s : Step) {t : Step} → s ≡ t → reply_is (record { number = 0; at = 0; step = s }) ≡ answers t
-unfolding reply_is
-answered-is s e = ap answers e
 
 -- ---- the record
 

@@ -3,7 +3,6 @@ use mathlib.Core.Path.{◌≡◌, refl, sym, ap, ◌∙◌}
 use Prim.Native.Nat.{ℕ}
 use mathlib.Core.Bool.{Bool, true, false, cond}
 use mathlib.Core.List.{List, [], ◌∷◌, ◌++◌}
-use borrow.Author.Tests.{eq-eqb, ne_eqb}
 use lib.ListN.{length}
 use lib.Seq.{append_snoc}
 use lib.Dec.{eqb, ltb}
@@ -16,20 +15,11 @@ use Rattle.rules.specs.Pipeline.Prepare.{judged, offset_of, offset_in, at_step, 
 use Rattle.rules.specs.declared.Mode.{Mode}
 use Rattle.rules.specs.declared.Span.{Span}
 use Rattle.rules.specs.declared.Step.{Step}
-use Rattle.prepare.specs.Records.{refused_at, reply_is}
+use Rattle.prepare.specs.Records.{refused_at}
 use Rattle.prepare.specs.StepReply.{text_reply, step_reply}
 use Rattle.prepare.specs.Lent.{with_theirs}
-use Rattle.prepare.specs.declared.own.Judged.{Judged}
 
 -- ---- one step's reply
-
-pub refusal_is : (r : Judged) → (r.number ≡ 0 → ⊥) → reply_is r ≡ refused_at r.number 0 r.at
-unfolding reply_is
-refusal_is r n = rw (ne_eqb r.number 0 n)
-
-pub answer-is : (r : Judged) → r.number ≡ 0 → reply_is r ≡ answers r.step
-unfolding reply_is
-answer-is r e = rw (eq-eqb r.number 0 e)
 
 -- a step's reply at a place, its offset being known
 unfoldable pub at_place : ℕ → Reply Step → Reply Step

@@ -1,6 +1,6 @@
 -- One step: from its text to its parameters, and what is refused on the way. Its text is written out as it is cut, leading modifiers turned: its words
 -- there are the turned words of the text.
-use Rattle.std.specs.Prelude.{None}
+use Rattle.std.specs.Prelude.{Option, None, Some}
 use mathlib.Core.Path.{◌≡◌, refl, sym, ap, ◌∙◌}
 use Prim.Native.Nat.{ℕ, suc, ◌+◌, ◌-◌, ◌≤◌, ◌<◌, min}
 use mathlib.Core.Bool.{Bool, true, false, cond, and-false, true≢false}
@@ -34,8 +34,6 @@ use Rattle.text.proofs.Wrote.{wrote-front}
 use Rattle.text.specs.Runs.{Run}
 use Rattle.text.proofs.RunEnd.{other, words-none, words-blank}
 use Rattle.split.specs.Lines.{HasLine, IsLine}
-use Rattle.split.specs.declared.step.Line.{Line}
-use Rattle.split.specs.declared.step.Line.TheVariants as line-is
 use Rattle.split.proofs.Lengths.{line-within}
 use Rattle.parameters.specs.Parts.{Parts, Good, placed_of, held, placed_in}
 use Rattle.parameters.proofs.Places.{held-length}
@@ -175,10 +173,10 @@ pub line-room : (t : Bytes) {b : ℕ} → length t + 9 ≤ b → 0 + length (lin
 line-room t h = omega (arith, line-within t, h)
 
 -- what `line_at` leaves, by what it returned
-pub has-line : (ws : Words) (b₀ : Bytes) (r : Line) (b₁ : Bytes) {end : ℕ} → IsLine ws b₀ 0 r b₁ → r ≡ line-is.To end → HasLine ws b₀ 0 end b₁
+pub has-line : (ws : Words) (b₀ : Bytes) (r : Option ℕ) (b₁ : Bytes) {end : ℕ} → IsLine ws b₀ 0 r b₁ → r ≡ Some end → HasLine ws b₀ 0 end b₁
 has-line ws b₀ r b₁ l e = rw e at l
 
-pub no_line : (ws : Words) (b₀ : Bytes) (r : Line) (b₁ : Bytes) → IsLine ws b₀ 0 r b₁ → r ≡ line-is.Modifiers → all_of modifier ws ≡ true
+pub no_line : (ws : Words) (b₀ : Bytes) (r : Option ℕ) (b₁ : Bytes) → IsLine ws b₀ 0 r b₁ → r ≡ None → all_of modifier ws ≡ true
 no_line ws b₀ r b₁ l e = rw e at l
 
 -- a step's line in a buffer, and `_nametrue` in the place of its newline

@@ -24,7 +24,7 @@ use Rattle.laws_text.specs.Sizes.{steps-length}
 use Rattle.text.specs.Wrote.{Holds}
 use Rattle.text.proofs.Wrote.{wrote-front}
 use Rattle.prepare.specs.StepReply.{Bare, Roomy}
-use Rattle.prepare.specs.Lent.{lent_to, preparing, with_theirs, normal_reply, refusing}
+use Rattle.prepare.specs.Lent.{lent_to, preparing, with_theirs, normal_reply}
 use Rattle.prepare.specs.declared.Preparing.{Preparing}
 use Rattle.prepare.proofs.LentTable.{lent-refused}
 use Rattle.prepare.proofs.StepWeight.{normal-bare, roomy-for}

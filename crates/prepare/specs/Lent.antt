@@ -1,6 +1,6 @@
 -- The lent step table, before and after; and preparing a text and a normalised text in a mode.
 use Rattle.rules.specs.declared.Refusal.{Refusal}
-use Rattle.std.specs.Prelude.{ℕ, cond, not, List, ◌++◌, map, take, drop, eqb, ltb, Result, Ok, Err}
+use Rattle.std.specs.Prelude.{ℕ, cond, Option, None, Some, List, ◌++◌, map, take, drop, eqb, ltb, Result, Ok, Err}
 use Rattle.rules.specs.Text.Bytes.{Bytes}
 use Rattle.rules.specs.Text.Refusal.{Reply, answers, and_then, tested, lent, prepared, refusal_at}
 use Rattle.rules.specs.Text.Split.{steps_of, split_steps, step_text}
@@ -67,13 +67,16 @@ unfoldable pub offset_if : ℕ → ℕ → ℕ
 offset_if number at = cond (eqb number 12) at 0
 
 -- a refusal, which leaves the table as it was
-abbrev pub refusing : ℕ → ℕ → ℕ → Table → Preparing
-refusing number place offset t = record { answer = refusal_at number place offset; table = t }
+abbrev pub refused_with : Refusal → Table → Preparing
+refused_with refusal t = record { answer = Err refusal; table = t }
 
--- the answer after n steps, by the first refusal of one of them, which is 0 where there is none, and the byte of its fault
-unfoldable pub answered : Table → List Step → ℕ → ℕ → ℕ → ℕ → Preparing
-answered t steps n number place at =
+abbrev pub refusing : ℕ → ℕ → ℕ → Table → Preparing
+refusing number place offset t = refused_with (record { number = number; place = place; offset = offset }) t
+
+-- the answer after n steps, by the first refusal of one of them, if there is one
+unfoldable pub answered : Table → List Step → ℕ → Option Refusal → Preparing
+answered t steps n (Some refusal) = cond (ltb 64 n) (refusing 8 0 0 t) (refused_with refusal t)
+answered t steps n None =
     cond (ltb 64 n) (refusing 8 0 0 t)
-    (cond (not (eqb number 0)) (refusing number place (offset_if number at) t)
     (cond (ltb t.n n) (refusing 7 0 0 t)
-    (record { answer = Ok n; table = record { steps = steps; n = t.n } })))
+    (record { answer = Ok n; table = record { steps = steps; n = t.n } }))

@@ -1,5 +1,5 @@
 -- Records and refusals of one step, in the words of the code.
-use Rattle.std.specs.Prelude.{◌≡◌, ℕ, ◌+◌, ◌≤◌, Bool, cond, ◌&&◌, List, [], ◌∷◌, ◌++◌, eqb, ℤ, pos, Option, None, Some}
+use Rattle.std.specs.Prelude.{◌≡◌, ℕ, ◌+◌, ◌≤◌, Bool, cond, ◌&&◌, List, [], ◌∷◌, ◌++◌, eqb, ℤ, pos, Option, None, Some, Result, Ok, Err}
 use Rattle.rules.specs.Text.Ascii.{ascii}
 use Rattle.rules.specs.Text.Refusal.{Reply, answers, refuses, refuses12}
 use Rattle.rules.specs.Text.Parameters.{Parameter}
@@ -9,7 +9,7 @@ use Rattle.rules.specs.declared.Step.{Step}
 use Rattle.record.specs.Records.{mark_of}
 use Rattle.prepare.specs.Lookup.{given}
 use Rattle.prepare.specs.SeriesRead.{args_of, Good}
-use Rattle.prepare.specs.declared.own.Judged.{Judged}
+use Rattle.prepare.specs.declared.faults.Fault.{Fault}
 use Rattle.prepare.specs.declared.series.Args.{Args}
 use Rattle.prepare.specs.declared.series.Numbers.{Numbers}
 
@@ -18,8 +18,9 @@ abbrev pub refused_at : {A : Type 0} → ℕ → ℕ → ℕ → Reply A
 refused_at number place at = cond (eqb number 12) (refuses12 place at) (refuses number place)
 
 -- what judging gives, as a reply
-unfoldable pub reply_is : Judged → Reply Step
-reply_is r = cond (eqb r.number 0) (answers r.step) (refused_at r.number 0 r.at)
+abbrev pub reply_is : Result Step Fault → Reply Step
+reply_is (Ok s) = answers s
+reply_is (Err f) = refused_at f.number 0 f.at
 
 -- the record of the operator of that number
 unfoldable pub record_at : ℕ → List Parameter → List ℤ → Step

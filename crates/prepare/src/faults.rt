@@ -9,6 +9,13 @@ use parameters::Parameters;
 use rules::{Kind, Name};
 use text::is_same;
 
+// What a step is refused by: its number, and of 12 the byte of the step's text at which the fault is.
+#[derive(Clone, Copy, Drop)]
+pub struct Fault {
+    pub number: u8,
+    pub at: usize,
+}
+
 // What parameters may be refused by: the lowest number of 11 to 14, which is 14 where none of the others applies; where that is 12, the
 // byte of the step's text at which the first fault is; and the first series among them, if there is one.
 #[derive(Clone, Copy, Drop)]

@@ -8,6 +8,9 @@ use rules::{Kind, Name};
 use text::is_same;
 
 // "one of the five", or not
+// Stays: tried as a `match` on byte strings (with the keys of `adapt`): each byte makes an arm of its own, of which the check tells the
+// length alone, and the proof does not close.
+#[tactic(auto, unfolding(rules::specs::Operators::Table::names, rules::specs::Operators::Table::name_in, rules::specs::Operators::Table::name_of, rules::specs::Text::Ascii::ascii))]
 pub fn name_of(word: &[u8]) -> Option<Name>
     ensures { result ≡ name_of word.now }
 {
@@ -30,22 +33,15 @@ pub fn name_of(word: &[u8]) -> Option<Name>
 }
 
 // The name, and "Every operator also takes `inv`, `omit_fwd`, `omit_inv`."
+#[tactic(auto, unfolding(rules::specs::Operators::Keys::kind_in, rules::specs::Operators::Keys::flag, rules::specs::Operators::Keys::worded, rules::specs::Pipeline::Keys::every_key, rules::specs::Text::Ascii::ascii))]
 fn every_kind(key: &[u8]) -> Option<Kind>
     ensures { result ≡ kind_in every_key key.now }
 {
     if is_same(key, b"_name") {
         return Some(Kind::Word);
     }
-    if is_same(key, b"inv") {
-        return Some(Kind::Flag);
-    }
-    if is_same(key, b"omit_fwd") {
-        return Some(Kind::Flag);
-    }
-    if is_same(key, b"omit_inv") {
-        return Some(Kind::Flag);
-    }
-    None
+    let is_mark = is_same(key, b"inv") || is_same(key, b"omit_fwd") || is_same(key, b"omit_inv");
+    is_mark.then_some(Kind::Flag)
 }
 
 // What a key of its own takes.

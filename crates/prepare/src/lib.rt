@@ -12,14 +12,14 @@ mod values;
 ghost use Rattle.std.specs.Prelude.{◌≡◌, true, ◌+◌, ◌*◌, ◌<◌, ◌≤◌, min, length};
 ghost use Rattle.rules.specs.Text.Bytes.{in_domain};
 ghost use Rattle.prepare.specs.StepReply.{Bare, Roomy};
-ghost use Rattle.prepare.specs.Lent.{normal_reply, lent_to, preparing, preparing_as, offset_if, refusing, answered, first_named};
+ghost use Rattle.prepare.specs.Lent.{normal_reply, lent_to, preparing, preparing_as, offset_if, refused_with, answered, first_named};
 
 use crate::judge::prepare_step;
 use normalise::clean_into;
 use reader::next_from;
 use record::{in_reading, spanned};
-use rules::{Found, Mode, Reading, Refusal, Step, Table};
-use split::{Line, line_at};
+use rules::{Found, Mode, NO_ROOM, Reading, Refusal, Step, TOO_MANY_STEPS, Table};
+use split::line_at;
 use text::tested;
 
 // A text of so few bytes, ten times as long, has room in 1,024, in 4,096, or in 16,384, and one to spare.
@@ -37,16 +37,12 @@ pub struct Preparing {
 }
 
 // A refusal, which leaves the table as it was.
-fn refusing(number: u8, place: usize, offset: usize, table: Table) -> Preparing
-    ensures { result ≡ refusing number place offset table }
+fn refusing(refusal: Refusal, table: Table) -> Preparing
+    ensures { result ≡ refused_with refusal table }
 {
     Preparing {
-        answer: Err(Refusal {
-            number,
-            place,
-            offset,
-        }),
-        table: table,
+        answer: Err(refusal),
+        table,
     }
 }
 
@@ -60,26 +56,19 @@ fn offset_of(number: u8, at: usize) -> usize
     0
 }
 
-// The answer once all n steps are read: 8; the first refusal of one of them, if its number is not 0; 7; or their records in front of the
+// The answer once all n steps are read: 8; the first refusal of one of them, if there is one; 7; or their records in front of the
 // table's.
-fn answer_of(
-    table: Table,
-    steps: [Step; 64],
-    n: usize,
-    number: u8,
-    place: usize,
-    at: usize,
-) -> Preparing
-    ensures { result ≡ answered table steps n number place at }
+fn answer_of(table: Table, steps: [Step; 64], n: usize, first: Option<Refusal>) -> Preparing
+    ensures { result ≡ answered table steps n first }
 {
     if 64 < n {
-        return refusing(8, 0, 0, table);
+        return refusing(TOO_MANY_STEPS, table);
     }
-    if number != 0 {
-        return refusing(number, place, offset_of(number, at), table);
+    if let Some(refusal) = first {
+        return refusing(refusal, table);
     }
     if table.n < n {
-        return refusing(7, 0, 0, table);
+        return refusing(NO_ROOM, table);
     }
     Preparing {
         answer: Ok(n),
@@ -111,36 +100,40 @@ fn prepare_steps(
     let mut steps = table.steps;
     let mut at = 0;
     let mut n = 0;
-    let mut number = 0;
-    let mut place = 0;
-    let mut fault = 0;
-    loop {
-        let found = next_from(normal, at);
-        let Some(Found { from, to, then }) = found else {
-            break;
-        };
+    let mut first = None;
+    while let Some(Found { from, to, then }) = next_from(normal, at) {
         let i = n;
         n += 1;
         at = then.at;
-        let line = line_at(&normal[from..to], c, 0);
-        let Line::To(end) = line else {
-            return refusing(6, n, 0, table);
+        let Some(end) = line_at(&normal[from..to], c, 0) else {
+            let alone = Refusal {
+                number: 6,
+                place: n,
+                offset: 0,
+            };
+            return refusing(alone, table);
         };
-        if number != 0 {
+        if first.is_some() {
             continue;
         }
         if 64 < n {
             continue;
         }
         let length = end - 1;
-        let judged = prepare_step(&c[..length], mode, a, b);
-        let step = judged.step;
-        steps[i] = spanned(step, from, to);
-        number = judged.number;
-        place = n;
-        fault = judged.at;
+        match prepare_step(&c[..length], mode, a, b) {
+            Ok(step) => {
+                steps[i] = spanned(step, from, to);
+            }
+            Err(fault) => {
+                first = Some(Refusal {
+                    number: fault.number,
+                    place: n,
+                    offset: offset_of(fault.number, fault.at),
+                });
+            }
+        }
     }
-    answer_of(table, steps, n, number, place, fault)
+    answer_of(table, steps, n, first)
 }
 
 // The answer for a text that is neither too long nor outside the domain; a, b, c and d are room to work in.
@@ -189,10 +182,7 @@ fn prepare_in(text: &[u8], mode: Mode, table: Table) -> Preparing
     ensures { result ≡ preparing mode text.now table }
 {
     if let Err(refusal) = tested(text) {
-        return Preparing {
-            answer: Err(refusal),
-            table,
-        };
+        return refusing(refusal, table);
     }
     if text.len() <= FEW {
         return within::<1024, 1033>(text, mode, table);
@@ -235,6 +225,6 @@ pub fn prepare_as(text: &[u8], reading: Reading, mode: Mode, table: Table) -> Pr
                 },
             }
         }
-        Err(_) => p,
+        Err(refusal) => refusing(refusal, made),
     }
 }

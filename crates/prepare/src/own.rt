@@ -1,84 +1,61 @@
 // Each operator's own rule: the record that it makes of a step's parameters, or 14. The Rust is the `new` of src/inner_op/*.rs.
 ghost use Rattle.std.specs.Prelude.{◌≡◌, [], ◌-◌, ◌≤◌, ◌<◌};
-ghost use Rattle.rules.specs.Text.Refusal.{answers};
 ghost use Rattle.rules.specs.Operators.Adapt.{word_given};
 ghost use Rattle.rules.specs.Operators.Arguments.{value_of};
 ghost use Rattle.rules.specs.Operators.PushPop.{axes};
 ghost use Rattle.rules.specs.Pipeline.Prepare.{own_rule, judged14};
 ghost use Rattle.rules.specs.declared.Mode.{Mode};
 ghost use Rattle.rules.specs.declared.Name.TheVariants as name;
-ghost use Rattle.adapt.specs.Words.{IsRead};
+ghost use Rattle.adapt.specs.Words.{word_is};
 ghost use Rattle.prepare.specs.Lookup.{params_in, given};
 ghost use Rattle.prepare.specs.SeriesRead.{args_of, Good, no_numbers};
 ghost use Rattle.prepare.specs.Faults.{Lowers};
-ghost use Rattle.prepare.specs.Records.{reply_is, refused_at, record_at, recorded_at, kept_by, Axes, Extended, Flagged, four_axes};
+ghost use Rattle.prepare.specs.Records.{reply_is, record_at, recorded_at, kept_by, Axes, Extended, Flagged, four_axes};
 ghost use Rattle.prepare.specs.Actions.{key_at, Chosen};
 
-use crate::faults::Lowest;
+use crate::faults::{Fault, Lowest};
 use crate::series::{Args, Numbers};
 use crate::values::{is_given, value_of};
 use adapt::{Word, between, operator_in, word_of};
 use parameters::Parameters;
-use record::{blank, is_args, step_of};
+use record::{is_args, step_of};
 use rules::{
     AXISSWAP, Mode, Name, POP, PUSH, STACK_DROP, STACK_FLIP, STACK_POP, STACK_PUSH, STACK_ROLL,
     STACK_SWAP, STACK_UNROLL, Step,
 };
 
-// What judging a step gives: 0 and its record, or the number that it is refused by, and of 12 the byte of the step's text at which the
-// fault is.
-#[derive(Clone, Copy, Drop)]
-pub struct Judged {
-    pub number: u8,
-    pub at: usize,
-    pub step: Step,
-}
-
-// A refusal, and where it is if it is 12.
-pub fn refused(number: u8, at: usize) -> Judged
-    requires { 0 < number }
-    ensures { reply_is result ≡ refused_at number 0 at }
-{
-    Judged {
-        number: number,
-        at: at,
-        step: blank(),
-    }
-}
+// The operator's own rule is broken.
+const BROKEN: Fault = Fault { number: 14, at: 0 };
 
 // ---- records
 
 // The record with the operator of that number and these arguments; the marks are the parameters'.
-fn recorded(table: &Parameters, operator: u8, a: Args) -> Judged
+fn recorded(table: &Parameters, operator: u8, a: Args) -> Step
     requires good { Good a }
-    ensures { reply_is result ≡ answers (record_at operator (params_in table.now) (args_of a)) }
+    ensures { result ≡ record_at operator (params_in table.now) (args_of a) }
 {
     let inv = is_given(table, b"inv");
     let omit_fwd = is_given(table, b"omit_fwd");
     let omit_inv = is_given(table, b"omit_inv");
     let list = a.list;
-    Judged {
-        number: 0,
-        at: 0,
-        step: step_of(operator, list, a.n, inv, omit_fwd, omit_inv),
-    }
+    step_of(operator, list, a.n, inv, omit_fwd, omit_inv)
 }
 
 // The record with the numbers of a series, if they are whole and keep the operator's rule; else 14.
-fn own_series(table: &Parameters, operator: u8, numbers: Numbers) -> Judged
+fn own_series(table: &Parameters, operator: u8, numbers: Numbers) -> Result<Step, Fault>
     requires good { Good numbers.args }
     ensures { reply_is result ≡ judged14 (recorded_at operator (params_in table.now) (kept_by operator numbers)) }
 {
     if !numbers.whole {
-        return refused(14, 0);
+        return Err(BROKEN);
     }
     let a = numbers.args;
     let l = a.list;
     let m = a.n;
     if !is_args(operator, &l[..m]) {
-        return refused(14, 0);
+        return Err(BROKEN);
     }
-    recorded(table, operator, a)
+    Ok(recorded(table, operator, a))
 }
 
 // ---- push and pop
@@ -177,16 +154,16 @@ fn action_of(table: &Parameters) -> Choice
 }
 
 // "exactly one action": the series is its own; swap and drop have none. The same in every mode.
-fn own_stack(table: &Parameters, low: Lowest) -> Judged
+fn own_stack(table: &Parameters, low: Lowest) -> Result<Step, Fault>
     requires lowers { Lowers name.Stack (params_in table.now) low }
     requires number_value { low.number ≡ 14 }
     ensures { (m : Mode) → reply_is result ≡ judged14 (own_rule m name.Stack (params_in table.now)) }
 {
     let numbers = low.series.unwrap_or(no_numbers());
     match action_of(table) {
-        Choice::None => refused(14, 0),
+        Choice::None => Err(BROKEN),
         Choice::One(operator) => own_series(table, operator, numbers),
-        Choice::More => refused(14, 0),
+        Choice::More => Err(BROKEN),
     }
 }
 
@@ -203,22 +180,22 @@ fn all_axes() -> Args
 }
 
 // Its order is the one series that it can have. The same in every mode.
-fn own_order(table: &Parameters, low: Lowest) -> Judged
+fn own_order(table: &Parameters, low: Lowest) -> Result<Step, Fault>
     requires lowers { Lowers name.Axisswap (params_in table.now) low }
     requires number_value { low.number ≡ 14 }
     ensures { (m : Mode) → reply_is result ≡ judged14 (own_rule m name.Axisswap (params_in table.now)) }
 {
     match low.series {
         Some(numbers) => own_series(table, AXISSWAP, numbers),
-        None => recorded(table, AXISSWAP, all_axes()),
+        None => Ok(recorded(table, AXISSWAP, all_axes())),
     }
 }
 
 // ---- adapt
 
 // A word that is not given is `enuf`.
-fn word_given(table: &Parameters, key: &[u8]) -> Word
-    ensures { IsRead (word_given (value_of key.now (params_in table.now))) result }
+fn word_given(table: &Parameters, key: &[u8]) -> Option<Word>
+    ensures { word_is result ≡ word_given (value_of key.now (params_in table.now)) }
 {
     match value_of(table, key) {
         Some(value) => word_of(value),
@@ -227,31 +204,30 @@ fn word_given(table: &Parameters, key: &[u8]) -> Word
 }
 
 // The operator, and what the two words make between them, are those of the mode.
-fn own_adapt(table: &Parameters, mode: Mode) -> Judged
+fn own_adapt(table: &Parameters, mode: Mode) -> Result<Step, Fault>
     ensures { reply_is result ≡ judged14 (own_rule mode name.Adapt (params_in table.now)) }
 {
-    let from = word_given(table, b"from");
-    let to = word_given(table, b"to");
-    if !from.is {
-        return refused(14, 0);
-    }
-    if !to.is {
-        return refused(14, 0);
-    }
+    let Some(from) = word_given(table, b"from") else {
+        return Err(BROKEN);
+    };
+    let Some(to) = word_given(table, b"to") else {
+        return Err(BROKEN);
+    };
     let list = between(from, to, mode);
-    recorded(table, operator_in(mode), Args { list: list, n: 8 })
+    let a = Args { list: list, n: 8 };
+    Ok(recorded(table, operator_in(mode), a))
 }
 
 // ---- any of them
 
-pub fn own_rule(table: &Parameters, name: Name, mode: Mode, low: Lowest) -> Judged
+pub fn own_rule(table: &Parameters, name: Name, mode: Mode, low: Lowest) -> Result<Step, Fault>
     requires lowers { Lowers name (params_in table.now) low }
     requires number_value { low.number ≡ 14 }
     ensures { reply_is result ≡ judged14 (own_rule mode name (params_in table.now)) }
 {
     match name {
-        Name::Push => recorded(table, PUSH, axes_of(table)),
-        Name::Pop => recorded(table, POP, axes_of(table)),
+        Name::Push => Ok(recorded(table, PUSH, axes_of(table))),
+        Name::Pop => Ok(recorded(table, POP, axes_of(table))),
         Name::Stack => own_stack(table, low),
         Name::Axisswap => own_order(table, low),
         Name::Adapt => own_adapt(table, mode),

@@ -7,20 +7,13 @@ use rules::Kind;
 use text::is_same;
 
 // What a key takes, if it is one of theirs.
+#[tactic(auto, unfolding(rules::specs::Operators::Keys::kind_in, rules::specs::Operators::Keys::flag, rules::specs::Operators::PushPop::axis_keys, rules::specs::Text::Ascii::ascii))]
 pub fn kind_of(key: &[u8]) -> Option<Kind>
     ensures { result ≡ kind_in axis_keys key.now }
 {
-    if is_same(key, b"v_1") {
-        return Some(Kind::Flag);
-    }
-    if is_same(key, b"v_2") {
-        return Some(Kind::Flag);
-    }
-    if is_same(key, b"v_3") {
-        return Some(Kind::Flag);
-    }
-    if is_same(key, b"v_4") {
-        return Some(Kind::Flag);
-    }
-    None
+    let is_axis = is_same(key, b"v_1")
+        || is_same(key, b"v_2")
+        || is_same(key, b"v_3")
+        || is_same(key, b"v_4");
+    is_axis.then_some(Kind::Flag)
 }

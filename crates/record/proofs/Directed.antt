@@ -1,7 +1,7 @@
 -- The act of a record in a direction, by its operator's number: in the crate's reading `inv` turns two of them.
 use mathlib.Core.Path.{◌≡◌, refl, sym, ap, ◌∙◌}
 use Prim.Native.Nat.{ℕ, zero, suc, ◌≤◌, ◌<◌}
-use mathlib.Core.Bool.{Bool, true, false, cond, ◌&&◌}
+use mathlib.Core.Bool.{Bool, true, false}
 use native.Mathlib.Omega.{arith}
 use borrow.Author.Tests.{ltb-true, ltb-false, eqb-true, eq-eqb}
 use lib.Dec.{ltb, eqb}
@@ -10,8 +10,8 @@ use Rattle.rules.specs.Operators.Descriptions.{Operator, Axisswap, Documented}
 use Rattle.rules.specs.Operators.Documented.{adapt_in, is_adapt_in}
 use Rattle.rules.specs.Operators.PushPop.{is_rising}
 use Rattle.rules.specs.Operators.Table.{describe, operator_of, is_args}
-use Rattle.rules.specs.Pipeline.Record.{reading_of, made, operator, args, is_set}
-use Rattle.rules.specs.Pipeline.Running.{opposite, turns, directed, act_of, act}
+use Rattle.rules.specs.Pipeline.Record.{made, operator, args}
+use Rattle.rules.specs.Pipeline.Running.{directed, act_of, act}
 use Rattle.rules.specs.declared.Direction.{Direction}
 use Rattle.rules.specs.declared.Mode.{Mode}
 use Rattle.rules.specs.declared.Mode.TheVariants as mode-is
@@ -57,8 +57,8 @@ module _ (s : Step) (m : made s ≡ true) where
 -- ---- what it does
 
 -- the operators whose direction `inv` turns in the crate's reading: those behind the stack's
-pub turned-behind : (k : ℕ) → (describe (operator_of k)).turned ≡ ltb 8 k
-turned-behind k = go (ltb 8 k) refl
+pub turned_behind : (k : ℕ) → (describe (operator_of k)).turned ≡ ltb 8 k
+turned_behind k = go (ltb 8 k) refl
   where
     up_to : (k : ℕ) → k ≤ 8 → (describe (operator_of k)).turned ≡ false
     up_to zero h = unfold operator_of in refl
@@ -82,15 +82,6 @@ turned-behind k = go (ltb 8 k) refl
     go false e = up_to k (ltb-false 8 k e)
 
 module _ (d : Direction) (s : Step) where
-  -- a step without the mark keeps the direction
-  pub unmarked : is_set s.inv ≡ false → d ≡ directed d s
-  unfolding directed
-  unmarked e = go (turns (reading_of s.reading) (operator s)) (is_set s.inv) e
-    where
-      go : (a b : Bool) → b ≡ false → d ≡ cond (a && b) (opposite d) d
-      go false b e = refl
-      go true b e = rw e refl
-
   -- an operator in the direction in which its step runs
   pub does-so : {o : Operator} {t : Direction} → operator_of s.operator ≡ o → t ≡ directed d s → act_of t o (args s) ≡ act d s
   unfolding act operator

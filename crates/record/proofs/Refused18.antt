@@ -2,17 +2,15 @@
 use Rattle.std.specs.Prelude.{None, Some}
 use mathlib.Core.Path.{◌≡◌, refl, ap, ◌∙◌}
 use Prim.Native.Nat.{ℕ, zero, suc, ◌+◌, ◌-◌, ◌≤◌, ◌<◌}
-use native.Mathlib.Nat.{pos_of_ne-zero}
 use native.Mathlib.Numerals.{add-one}
 use native.Mathlib.Omega.{arith}
 use mathlib.Core.List.{List, [], ◌∷◌, ◌++◌, append-nil}
 use mathlib.Core.Bool.{Bool, true, false, ◌&&◌}
 use lib.Dec.{leb}
 use lib.ListN.{length, get_or, take, length-append, length-take, length-replicate, replicate}
-use borrow.Author.Tests.{lt-ltb, le-ltb, lt-leb, le-leb}
+use borrow.Author.Tests.{lt-ltb, le-ltb}
 use Rattle.rules.specs.Operators.Table.{greatest}
-use Rattle.rules.specs.Pipeline.Record.{span_end, made, good_span, table_reading, good_in, first_bad, refusal18, listed, blank, operator, args, unused}
-use Rattle.rules.specs.declared.Span.{Span}
+use Rattle.rules.specs.Pipeline.Record.{span_end, made, table_reading, good_in, first_bad, refusal18, listed, blank, operator, args, unused}
 use Rattle.rules.specs.declared.Step.{Step}
 use Rattle.rules.specs.declared.Table.{Table}
 use Rattle.record.specs.Records.{is_marked, is_written}
@@ -23,28 +21,13 @@ and_both : (a b c : Bool) → (a && (b && c)) ≡ ((a && b) && c)
 and_both true b c = refl
 and_both false b c = refl
 
-pub made-tests : (s : Step) → made s ≡ (leb s.operator greatest && (leb s.n 8 && (is_marked s && is_written s.operator (args s) (unused s))))
+pub made_tests : (s : Step) → made s ≡ (leb s.operator greatest && (leb s.n 8 && (is_marked s && is_written s.operator (args s) (unused s))))
 unfolding made is_marked is_written operator
-made-tests s =
+made_tests s =
     ap (λ (b : Bool). leb s.operator greatest && (leb s.n 8 && b))
     (ap (λ (b : Bool). leb s.inv 1 && (leb s.omit_fwd 1 && b)) (and_both (leb s.omit_inv 1) (leb s.reading 1) _)
     ∙ ap (λ (b : Bool). leb s.inv 1 && b) (and_both (leb s.omit_fwd 1) _ _)
     ∙ and_both (leb s.inv 1) _ _)
-
--- ---- its span
-
-module _ (end : ℕ) (p : Span) where
-  pub span-empty : p.length ≡ 0 → false ≡ good_span end p
-  unfolding good_span
-  span-empty e = rw (le-ltb 0 p.length (omega (arith, e))) refl
-
-  pub span-far : {k : ℕ} → (p.length ≡ 0 → ⊥) → k ≡ span_end p → 40960 < k → false ≡ good_span end p
-  unfolding good_span
-  span-far n e h = rw (lt-ltb 0 p.length (pos_of_ne-zero n), lt-leb (span_end p) 40960 (omega (arith, e, h))) refl
-
-  pub span-near : {k : ℕ} → (p.length ≡ 0 → ⊥) → k ≡ span_end p → k ≤ 40960 → leb end p.from ≡ good_span end p
-  unfolding good_span
-  span-near n e h = rw (lt-ltb 0 p.length (pos_of_ne-zero n), le-leb (span_end p) 40960 (omega (arith, e, h))) refl
 
 -- ---- a table
 

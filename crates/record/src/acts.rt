@@ -10,6 +10,7 @@ use rules::{
     AXISSWAP, CRATE, DOCUMENTED, Direction, Mode, POP, PUSH, STACK_DROP, STACK_PUSH, Step,
 };
 
+#[tactic(auto, unfolding(rules::specs::Pipeline::Running::opposite))]
 fn opposite(direction: Direction) -> Direction
     ensures { result ≡ opposite direction }
 {
@@ -20,26 +21,22 @@ fn opposite(direction: Direction) -> Direction
 }
 
 // Does `inv` turn the operator? In the crate's reading "`axisswap` and `adapt` only", in PROJ's every one.
+#[tactic(auto, using(crate::proofs::Directed::turned_behind), unfolding(rules::specs::Pipeline::Running::turns, rules::specs::Pipeline::Record::reading_of))]
 fn turns(reading: u8, operator: u8) -> bool
     ensures { result ≡ turns (reading_of reading) (operator_of operator) }
 {
-    if reading != CRATE {
-        return true;
-    }
-    STACK_DROP < operator
+    reading != CRATE || STACK_DROP < operator
 }
 
 // The direction in which the step itself runs.
+#[tactic(auto, unfolding(rules::specs::Pipeline::Running::directed, rules::specs::Pipeline::Record::operator, rules::specs::Pipeline::Record::is_set))]
 fn directed(direction: Direction, step: Step) -> Direction
     ensures { result ≡ directed direction step }
 {
-    if step.inv != 1 {
-        return direction;
+    if step.inv == 1 && turns(step.reading, step.operator) {
+        return opposite(direction);
     }
-    if !turns(step.reading, step.operator) {
-        return direction;
-    }
-    opposite(direction)
+    direction
 }
 
 // What the step does in a run of that direction.
@@ -61,6 +58,7 @@ pub fn act_of(step: Step, direction: Direction) -> Doing
 }
 
 // Is the step left out of a run in that direction?
+#[tactic(auto, unfolding(rules::specs::Pipeline::Running::omitted, rules::specs::Pipeline::Record::is_set))]
 pub fn is_omitted(step: Step, direction: Direction) -> bool
     ensures { result ≡ omitted direction step }
 {

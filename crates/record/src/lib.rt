@@ -11,5 +11,5 @@ mod tests;
 pub use acts::{act_of, is_omitted};
 pub use arguments::is_args;
 pub use order::visited_of;
-pub use step::{blank, in_reading, spanned, step_of};
+pub use step::{NO_SPAN, blank, in_reading, spanned, step_of};
 pub use tests::{end_of, good_in, made, refusal18};

@@ -5,15 +5,8 @@ ghost use Rattle.record.specs.Records.{mark_of};
 
 use rules::{CRATE, PROJ, PUSH, Reading, Span, Step};
 
-// A mark of a record.
-fn mark(set: bool) -> u8
-    ensures { result ≡ mark_of set }
-{
-    if set {
-        return 1;
-    }
-    0
-}
+// No bytes of a text.
+pub const NO_SPAN: Span = Span { from: 0, length: 0 };
 
 // The operator by its number, the first n of eight slots as its arguments, and the marks; in the crate's reading, and with no span.
 pub fn step_of(
@@ -29,18 +22,20 @@ pub fn step_of(
     ensures { result ≡ step_with operator (take n args) (mark_of inv) (mark_of omit_fwd) (mark_of omit_inv) }
 {
     Step {
-        operator: operator,
+        operator,
         n: n as u8,
-        inv: mark(inv),
-        omit_fwd: mark(omit_fwd),
-        omit_inv: mark(omit_inv),
+        inv: u8::from(inv),
+        omit_fwd: u8::from(omit_fwd),
+        omit_inv: u8::from(omit_inv),
         reading: CRATE,
-        args: args,
-        span: Span { from: 0, length: 0 },
+        args,
+        span: NO_SPAN,
     }
 }
 
 // The number of a reading in a record.
+// Stays: `From` for the two types could stand in crate rules alone, which holds no function.
+#[tactic(auto, unfolding(rules::specs::Pipeline::Record::reading_number))]
 fn number_of(reading: Reading) -> u8
     ensures { result ≡ reading_number reading }
 {
@@ -51,46 +46,34 @@ fn number_of(reading: Reading) -> u8
 }
 
 // The same record in a reading.
+#[tactic(auto, unfolding(rules::specs::Pipeline::Record::in_reading))]
 pub fn in_reading(s: Step, reading: Reading) -> Step
     ensures { result ≡ in_reading reading s }
 {
-    let args = s.args;
-    let span = s.span;
     Step {
-        operator: s.operator,
-        n: s.n,
-        inv: s.inv,
-        omit_fwd: s.omit_fwd,
-        omit_inv: s.omit_inv,
         reading: number_of(reading),
-        args: args,
-        span: span,
+        ..s
     }
 }
 
 // The same record with a span, from its first byte up to the byte after its last.
+#[tactic(auto, unfolding(rules::specs::Pipeline::Record::spanned))]
 pub fn spanned(s: Step, from: usize, to: usize) -> Step
     requires from_le_to { from ≤ to }
     requires to_bound { to ≤ 40960 }
     ensures { result ≡ spanned (record { from = from; length = to - from }) s }
 {
-    let args = s.args;
     Step {
-        operator: s.operator,
-        n: s.n,
-        inv: s.inv,
-        omit_fwd: s.omit_fwd,
-        omit_inv: s.omit_inv,
-        reading: s.reading,
-        args: args,
         span: Span {
             from: from as u32,
             length: (to - from) as u32,
         },
+        ..s
     }
 }
 
 // A record with nothing in it.
+#[tactic(auto, unfolding(rules::specs::Pipeline::Record::blank))]
 pub fn blank() -> Step
     ensures { result ≡ blank }
 {
@@ -102,6 +85,6 @@ pub fn blank() -> Step
         omit_inv: 0,
         reading: CRATE,
         args: [0; 8],
-        span: Span { from: 0, length: 0 },
+        span: NO_SPAN,
     }
 }

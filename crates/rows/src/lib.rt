@@ -29,7 +29,7 @@ pub fn empty(n: usize) -> Table
 fn table_of(steps: [Step; 64], n: usize) -> Table
     ensures { result ≡ tabled steps n }
 {
-    Table { steps: steps, n: n }
+    Table { steps, n }
 }
 
 // The table that stands for a lent row: as many of its records as have room, and its true length. The blank row has a name, and

@@ -11,15 +11,9 @@ use Rattle.rules.specs.Pipeline.Run as rules
 use Rattle.rules.specs.declared.Step.{Step}
 use Rattle.rules.specs.declared.Direction.{Direction}
 use Rattle.rules.specs.declared.Foretold.{Foretold}
-use Rattle.rules.specs.declared.Said.{Said}
 use Rattle.rules.specs.declared.Checked.{Checked}
 use Rattle.rules.specs.declared.Done.{Done}
-use Rattle.rules.specs.Face.Plain.{direction_of, plain_verdict, plain_check, PlainChecks, plain_ran, plain_outcome, PlainRuns}
-
-pub check-plain : (f : Foretold) {v : Said} → v ≡ plain_verdict f.verdict
-    → ◌≡◌ {A = Checked} (record { said = v; span = f.span; run = f.run; depths = f.depths; deepest = f.deepest; left = f.left; told = f.told; places = f.places }) (plain_check f)
-unfolding plain_check
-check-plain f h = λ i. record { said = h i; span = f.span; run = f.run; depths = f.depths; deepest = f.deepest; left = f.left; told = f.told; places = f.places }
+use Rattle.rules.specs.Face.Plain.{direction_of, plain_check, PlainChecks, plain_ran, plain_outcome, PlainRuns}
 
 pub checks-plain : {inverse : ℕ} {t : List Step} {d : Direction} {f : Foretold} {r : Checked}
     → d ≡ direction_of inverse → Checks d t f → r ≡ plain_check f → PlainChecks inverse t r

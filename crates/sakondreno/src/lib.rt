@@ -79,8 +79,7 @@ pub fn sakondreno_next(text: &[u8], at: usize) -> Part
 pub fn sakondreno_prepare(text: &[u8], table: &mut [Step]) -> Answer
     ensures { Promised record_count prepare text.now table.old result table.new }
 {
-    let p = entry::prepare(text, table);
-    plain::counted(p)
+    plain::counted(entry::prepare(text, table))
 }
 
 // The same in a reading and a mode: 0 is the crate's, any other number PROJ's reading or the documented mode.
@@ -89,8 +88,7 @@ pub fn sakondreno_prepare_as(text: &[u8], reading: u8, mode: u8, table: &mut [St
 {
     let how = plain::reading_of(reading);
     let page = plain::mode_of(mode);
-    let p = entry::prepare_as(text, how, page, table);
-    plain::counted(p)
+    plain::counted(entry::prepare_as(text, how, page, table))
 }
 
 // Says of a step table and a direction, without any data, what a run will do.
@@ -98,8 +96,7 @@ pub fn sakondreno_check(table: &[Step], inverse: u8) -> Checked
     ensures { PlainChecks inverse table.now result }
 {
     let d = plain::direction_of(inverse);
-    let f = entry::check(table, d);
-    plain::checked_of(f)
+    plain::checked_of(entry::check(table, d))
 }
 
 // Runs a step table over a list of tuples, four numbers each, and a store for columns.
@@ -107,6 +104,5 @@ pub fn sakondreno_run(table: &[Step], inverse: u8, tuples: &mut [f64], columns: 
     ensures { PlainRuns inverse table.now tuples.old columns.old result tuples.new columns.new }
 {
     let d = plain::direction_of(inverse);
-    let ran = entry::run(table, d, tuples, columns);
-    plain::ended(ran)
+    plain::ended(entry::run(table, d, tuples, columns))
 }

@@ -9,7 +9,7 @@ use borrow.Author.Tests.{le-ltb}
 use lib.ListN.{length, take, drop}
 use lib.Seq.{take_at}
 use Rattle.rules.specs.Text.Bytes.{Bytes}
-use Rattle.rules.specs.Text.Refusal.{Reply, answers, refuses, refuses12, tested, lent, prepared, refusal_at}
+use Rattle.rules.specs.Text.Refusal.{Reply, answers, refuses, refuses12, tested, lent, prepared}
 use Rattle.rules.specs.Pipeline.Prepare.{prepare_as}
 use Rattle.rules.specs.Pipeline.Record.{listed}
 use Rattle.laws_lists.specs.Tests.{never}

@@ -24,7 +24,7 @@ fn first_of(table: Table, n: usize) -> Table
     ensures { result ≡ tabled table.steps n }
 {
     let steps = table.steps;
-    Table { steps: steps, n: n }
+    Table { steps, n }
 }
 
 // "prepares, then checks"

@@ -18,19 +18,12 @@ pub fn say_counted(word: &[u8], n: usize, out: &mut [u8], at: usize) -> usize
     put_digits(n, out, o)
 }
 
-// A small number, as a size.
-pub fn wide(x: u8) -> usize
-    ensures { result ≡ x }
-{
-    x as usize
-}
-
 // A refusal: its number and its place.
 pub fn say_refused(number: u8, place: usize, out: &mut [u8], at: usize) -> usize
     requires { at + length (refusal_text number place) ≤ length out.old }
     ensures { WroteAt (refusal_text number place) out.old at result out.new }
 {
-    let n = wide(number);
+    let n = usize::from(number);
     let o = say_counted(b"refused ", n, out, at);
     say_counted(b" ", place, out, o)
 }

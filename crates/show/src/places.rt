@@ -5,7 +5,6 @@ ghost use Rattle.rules.specs.Text.Ascii.{ascii};
 ghost use Rattle.text.specs.Wrote.{WroteAt};
 ghost use Rattle.rules.specs.Face.Shown.{signed_place, two_places, four_places};
 
-use crate::pieces::wide;
 use numbers::put_digits;
 use rules::Place;
 use text::put;
@@ -28,7 +27,7 @@ fn say_signed(word: &[u8], p: Place, out: &mut [u8], at: usize) -> usize
     requires { at + length (signed_place word.now p) ≤ length out.old }
     ensures { WroteAt (signed_place word.now p) out.old at result out.new }
 {
-    let n = wide(p.axis);
+    let n = usize::from(p.axis);
     let o = say_marked(word, p.minus, out, at);
     put_digits(n, out, o)
 }

@@ -1,5 +1,5 @@
 -- The loop that writes the lines of all steps: its invariant, and what each way out of it tells of splitting's reply.
-use Rattle.std.specs.Prelude.{Ok, None}
+use Rattle.std.specs.Prelude.{Option, None, Some, Ok}
 use mathlib.Core.Path.{◌≡◌, subst, refl}
 use mathlib.Core.List.{◌++◌, flat_map}
 use Prim.Native.Nat.{ℕ, ◌+◌, ◌≤◌, ◌<◌}
@@ -14,8 +14,6 @@ use Rattle.laws_text.specs.Walk.{walk_step, walk_end}
 use Rattle.text.specs.Wrote.{Wrote}
 use Rattle.text.proofs.Wrote.{Sofar, sofar-start, sofar-part, sofar-part-room, sofar-end, sofar-length, wrote-front, wrote-fits}
 use Rattle.split.specs.Lines.{lines_of, split_normal, HasLine, IsLine, Lined}
-use Rattle.split.specs.declared.step.Line.{Line}
-use Rattle.split.specs.declared.step.Line.TheVariants as line-is
 use Rattle.split.proofs.StepsPassed.{Passed, passed_none, passed-many, passed-well, passed-only, passed-next}
 use Rattle.split.proofs.Lengths.{lines-length}
 
@@ -61,11 +59,11 @@ module _ {s dst₀ : Bytes} {at n o : ℕ} {dst : Bytes} (m : Lines s dst₀ at 
     pub lines-room : o + length (line (step_text here)) ≤ length dst
     lines-room = sofar-part-room (line (step_text here)) (lines_of (steps_of (drop then.at s))) here-sofar
 
-    pub lines-only : {r : Line} {last : Bytes} → IsLine here dst o r last → r ≡ line-is.Modifiers → Lined (split_normal s) (refusal 6 (n + 1)) last
+    pub lines-only : {r : Option ℕ} {last : Bytes} → IsLine here dst o r last → r ≡ None → Lined (split_normal s) (refusal 6 (n + 1)) last
     unfolding and_then
     lines-only w e = record { within = omega arith; told = rw (passed-only m.walked f (rw e at w)); plain = refl }
 
-    pub lines_more : {r : Line} {end : ℕ} {last : Bytes} → IsLine here dst o r last → r ≡ line-is.To end → Lines s dst₀ then.at (n + 1) end last
+    pub lines_more : {r : Option ℕ} {end : ℕ} {last : Bytes} → IsLine here dst o r last → r ≡ Some end → Lines s dst₀ then.at (n + 1) end last
     lines_more {r} {end} {last} w e =
         let l : HasLine here dst o end last = rw e at w in
         record { walked = passed-next m.walked f l.other; sofar = sofar-part (line (step_text here)) here-sofar l.wrote.wrote }

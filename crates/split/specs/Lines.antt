@@ -1,14 +1,12 @@
 -- The lines of steps, and what the functions that write them leave behind.
 use Rattle.rules.specs.declared.Refusal.{Refusal}
-use Rattle.std.specs.Prelude.{◌≡◌, true, false, ℕ, ◌≤◌, length, take, Result, Ok, Err}
+use Rattle.std.specs.Prelude.{◌≡◌, true, false, ℕ, ◌≤◌, length, take, Option, None, Some, Result, Ok, Err}
 use mathlib.Core.List.{map, flat_map}
 use Rattle.rules.specs.Text.Lists.{all_of}
 use Rattle.rules.specs.Text.Bytes.{Bytes, Words, Steps}
 use Rattle.rules.specs.Text.Refusal.{Reply, answers, refuses, and_then}
 use Rattle.rules.specs.Text.Split.{modifier, steps_of, split_steps, step_text, line}
 use Rattle.text.specs.Wrote.{WroteAt}
-use Rattle.split.specs.declared.step.Line.{Line}
-use Rattle.split.specs.declared.step.Line.TheVariants as line-is
 
 -- "Steps .. are written each with a newline after it."
 abbrev pub lines_of : Steps → Bytes
@@ -23,10 +21,10 @@ pub record HasLine (ws : Words) (dst₀ : Bytes) (at to : ℕ) (dst : Bytes) : T
   pub other : all_of modifier ws ≡ false
   pub wrote : WroteAt (line (step_text ws)) dst₀ at to dst
 
--- what comes of a step of these words
-abbrev pub IsLine : Words → Bytes → ℕ → Line → Bytes → Type 0
-IsLine ws dst₀ at (line-is.To to) dst = HasLine ws dst₀ at to dst
-IsLine ws dst₀ at line-is.Modifiers dst = all_of modifier ws ≡ true
+-- what comes of a step of these words: where its line ends, or none, since it is modifiers alone
+abbrev pub IsLine : Words → Bytes → ℕ → Option ℕ → Bytes → Type 0
+IsLine ws dst₀ at (Some to) dst = HasLine ws dst₀ at to dst
+IsLine ws dst₀ at None dst = all_of modifier ws ≡ true
 
 -- the reply that a buffer and a word on it tell: a refusal, or the answer, which stands in the buffer's first bytes
 abbrev pub told_by : Result ℕ Refusal → Bytes → Reply Bytes

@@ -12,7 +12,7 @@ ghost use Rattle.split.specs.Lines.{split_normal, Lined};
 use normalise::clean_into;
 use reader::next_from;
 use rules::{Found, Refusal, TOO_MANY_STEPS};
-pub use step::{Line, line_at};
+pub use step::line_at;
 use text::{hand_out, tested};
 
 // A text of so few bytes, ten times as long, has room in 4,096 and one to spare.
@@ -29,7 +29,7 @@ fn lines_of(normal: &[u8], dst: &mut [u8]) -> Result<usize, Refusal>
     let mut o = 0;
     while let Some(Found { from, to, then }) = next_from(normal, place) {
         n += 1;
-        let Line::To(end) = line_at(&normal[from..to], dst, o) else {
+        let Some(end) = line_at(&normal[from..to], dst, o) else {
             return Err(Refusal {
                 number: 6,
                 place: n,

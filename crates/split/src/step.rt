@@ -11,13 +11,6 @@ ghost use Rattle.split.specs.Spaced.{spaced};
 
 use text::{is_blank, lead_end, squeeze_into};
 
-// What comes of a step: its line, up to a place in the buffer; or none, since it is modifiers alone.
-#[derive(Clone, Copy, Drop)]
-pub enum Line {
-    To(usize),
-    Modifiers,
-}
-
 // Writes the words of src, one space apart, into dst from at.
 fn words_at(src: &[u8], dst: &mut [u8], at: usize) -> usize
     requires { at + length (joined (words src.now)) ≤ length dst.old }
@@ -50,17 +43,17 @@ fn step_at(step: &[u8], lead: usize, dst: &mut [u8], at: usize) -> usize
     more_words_at(&step[..lead], dst, o)
 }
 
-// Writes a step's line into dst from at, unless nothing but white space stands behind the modifiers in front: they are looked for
-// once.
-pub fn line_at(step: &[u8], dst: &mut [u8], at: usize) -> Line
+// Writes a step's line into dst from at, and tells where it ends; none if nothing but white space stands behind the modifiers in front,
+// which are looked for once.
+pub fn line_at(step: &[u8], dst: &mut [u8], at: usize) -> Option<usize>
     requires { at + length (line (step_text (words step.now))) ≤ length dst.old }
     ensures { IsLine (words step.now) dst.old at result dst.new }
 {
     let lead = lead_end(step);
     if is_blank(&step[lead..]) {
-        return Line::Modifiers;
+        return None;
     }
     let o = step_at(step, lead, dst, at);
     dst[o] = 10;
-    Line::To(o + 1)
+    Some(o + 1)
 }

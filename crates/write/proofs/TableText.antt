@@ -21,7 +21,7 @@ use Rattle.text.specs.Wrote.{Wrote, WroteAt}
 use Rattle.text.proofs.Wrote.{wrote-front, wrote-fits, wrote-counts}
 use Rattle.record.proofs.SoundTable.{Sound}
 use Rattle.rules.specs.Pipeline.Write.{operator_words, writing, table_writing, written_unless18, write}
-use Rattle.laws_lists.specs.Tests.{and_left, never}
+use Rattle.laws_lists.specs.Tests.{and_left}
 use Rattle.laws_records.specs.Records.{made-keeps}
 use Rattle.laws_records.specs.Written.{writing-short}
 use Rattle.laws_records.specs.Faithful.{table-short}

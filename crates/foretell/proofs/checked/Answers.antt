@@ -1,4 +1,4 @@
-use Rattle.std.specs.Prelude.{None, Err}
+use Rattle.std.specs.Prelude.{None}
 use lib.ListN.{length}
 use mathlib.Core.Path.{◌≡◌}
 use mathlib.Core.Path.{refl, sym, ap, ◌∙◌}
@@ -8,7 +8,6 @@ use native.Mathlib.Omega.{arith}
 use Rattle.rules.specs.Pipeline.Running.{running}
 use Rattle.rules.specs.Pipeline.Check.{verdict, begin, checked}
 use Rattle.rules.specs.declared.Step.{Step}
-use Rattle.laws_lists.specs.Tests.{not_so, not_left}
 use Rattle.record.proofs.SoundTable.{Sound, sound-so, turn-so}
 use Rattle.foretell.specs.Steps.{sofar}
 use Rattle.foretell.proofs.CheckSoFar.{begun, checking-none, checking-few, checking-many, checking-goes, checking-omitted, answers-few, answers-many, told-so, answers-told, ready-so}
@@ -99,5 +98,5 @@ overflow_sub-result c = c.loop-k.invariant.gathered.whole.within
 pub returns : goal.returns
 returns c =
     let snd = sound (goal.at.returns c).Start in
-    told-so (sofar c.loop-k.t c.loop-k.run c.loop-k.depths c.loop-k.deepest c.loop-k.adapts) c.told_places-places.ensures
+    told-so (sofar c.loop-k.t c.loop-k.run c.loop-k.depths c.loop-k.deepest c.loop-k.adapts) c.told_places.ensures
     ∙ answers-told c.loop-k.invariant (omega (arith, c.loop-k-test.false, snd.many)) ∙ ap (λ (l : List Step). checked None l (running c.args.direction l)) (sym snd.rows)

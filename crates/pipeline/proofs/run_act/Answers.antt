@@ -23,41 +23,14 @@ shared c = omega (arith, full c, (does-so c).slots)
 many : (c : Start) → c.args.d.n ≡ length (take c.args.d.n c.args.d.args)
 many c = sym (long c.args.d (full c) (does-so c))
 
-pub slice_bounds-args-end : goal.slice_bounds-args-end
-slice_bounds-args-end c = shared (goal.at.slice_bounds-args-end c).Start
-
-pub slice_bounds-push-end : goal.slice_bounds-push-end
-slice_bounds-push-end c = many (goal.at.slice_bounds-push-end c).Start
+pub slice_bounds-l-end : goal.slice_bounds-l-end
+slice_bounds-l-end c = many (goal.at.slice_bounds-l-end c).Start
 
 pub push-requires : goal.push-requires
 push-requires c = record { depth_bound = c.requires.depth_bound; args_len_bound = omega (arith, long c.args.d (full (goal.at.push-requires c).Start) (does-so (goal.at.push-requires c).Start), (does-so (goal.at.push-requires c).Start).slots); xs_in_bounds = push-room c.args.d (full (goal.at.push-requires c).Start) (does-so (goal.at.push-requires c).Start) c.args.depth _ _ c.in-Pushes.is c.requires.tuples_in_bounds_2 }
 
-pub slice_bounds-args-end-in-Pops : goal.slice_bounds-args-end-in-Pops
-slice_bounds-args-end-in-Pops c = shared (goal.at.slice_bounds-args-end-in-Pops c).Start
-
-pub slice_bounds-pop-end : goal.slice_bounds-pop-end
-slice_bounds-pop-end c = many (goal.at.slice_bounds-pop-end c).Start
-
-pub slice_bounds-args-end-in-PopsAll : goal.slice_bounds-args-end-in-PopsAll
-slice_bounds-args-end-in-PopsAll c = shared (goal.at.slice_bounds-args-end-in-PopsAll c).Start
-
-pub slice_bounds-pop_all-end : goal.slice_bounds-pop_all-end
-slice_bounds-pop_all-end c = many (goal.at.slice_bounds-pop_all-end c).Start
-
-pub slice_bounds-args-end-in-Flips : goal.slice_bounds-args-end-in-Flips
-slice_bounds-args-end-in-Flips c = shared (goal.at.slice_bounds-args-end-in-Flips c).Start
-
-pub slice_bounds-flip-end : goal.slice_bounds-flip-end
-slice_bounds-flip-end c = many (goal.at.slice_bounds-flip-end c).Start
-
 pub roll-requires : goal.roll-requires
 roll-requires c = record { depth_bound = c.requires.depth_bound; n_bound = roll-times c.args.d (full (goal.at.roll-requires c).Start) (does-so (goal.at.roll-requires c).Start) c.in-Rolls.is; xs_in_bounds = c.requires.tuples_in_bounds }
-
-pub slice_bounds-args-end-in-Orders : goal.slice_bounds-args-end-in-Orders
-slice_bounds-args-end-in-Orders c = shared (goal.at.slice_bounds-args-end-in-Orders c).Start
-
-pub slice_bounds-axisswap-end : goal.slice_bounds-axisswap-end
-slice_bounds-axisswap-end c = many (goal.at.slice_bounds-axisswap-end c).Start
 
 pub axisswap-requires : goal.axisswap-requires
 axisswap-requires c =

@@ -4,13 +4,13 @@ use Rattle.prepare.proofs.LentTable.{answered-many, answered-refused, answered-s
 use Rattle.prepare.proofs.answer_of.Goals as goal
 
 pub returns-then-n-gt64 : goal.returns-then-n-gt64
-returns-then-n-gt64 c = c.refusing.ensures ∙ sym (answered-many _ _ _ _ _ _ c.if-n-gt64.true)
+returns-then-n-gt64 c = c.refusing.ensures ∙ sym (answered-many _ _ _ _ c.if-n-gt64.true)
 
-pub returns-then-number-ne0 : goal.returns-then-number-ne0
-returns-then-number-ne0 c = c.refusing-then-number-ne0.ensures ∙ rw c.offset_of.ensures (sym (answered-refused _ _ _ _ _ _ c.if-n-gt64.false c.if-number-ne0.true))
+pub returns-in-Some : goal.returns-in-Some
+returns-in-Some c = c.refusing-in-Some.ensures ∙ rw c.in-Some.is (sym (answered-refused _ _ _ c.if-n-gt64.false _))
 
 pub returns-then-table-n : goal.returns-then-table-n
-returns-then-table-n c = c.refusing-then-table-n.ensures ∙ sym (answered-short _ _ _ _ _ _ c.if-n-gt64.false c.if-number-ne0.false c.if-table-n.true)
+returns-then-table-n c = c.refusing-then-table-n.ensures ∙ rw c.in_default.is (sym (answered-short _ _ _ c.if-n-gt64.false c.if-table-n.true))
 
 pub returns : goal.returns
-returns c = sym (answered-all _ _ _ _ _ _ c.if-n-gt64.false c.if-number-ne0.false c.if-table-n.false)
+returns c = rw c.in_default.is (sym (answered-all _ _ _ c.if-n-gt64.false c.if-table-n.false))

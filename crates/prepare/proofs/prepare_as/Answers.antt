@@ -15,4 +15,4 @@ returns-in-Ok c =
 
 pub returns-in-Err : goal.returns-in-Err
 returns-in-Err c =
-    refuses-named c.args.reading _ _ _ c.prepare_in-p.ensures c.in-Err.is
+    c.refusing.ensures ∙ refuses-named c.args.reading _ _ _ c.prepare_in-p.ensures c.in-Err.is

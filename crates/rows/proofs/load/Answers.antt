@@ -1,5 +1,5 @@
 -- `load`: as many of the row's records as have room are copied over blank ones (`laid`).
-use mathlib.Core.Path.{◌≡◌, ap, ◌∙◌}
+use mathlib.Core.Path.{◌≡◌}
 use mathlib.Core.List.{List, ◌++◌}
 use Prim.Native.Nat.{ℕ, min}
 use borrow.Author.Rules.{rules}

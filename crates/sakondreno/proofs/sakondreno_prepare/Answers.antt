@@ -4,4 +4,4 @@ use Rattle.rules.specs.Face.Plain.{plain_prepared}
 use Rattle.sakondreno.proofs.sakondreno_prepare.Goals as goal
 
 pub returns : goal.returns
-returns c = rw c.counted.ensures (in-other-words plain_prepared c.prepare-p.ensures)
+returns c = rw c.counted.ensures (in-other-words plain_prepared c.prepare.ensures)

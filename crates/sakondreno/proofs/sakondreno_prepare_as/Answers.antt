@@ -5,4 +5,4 @@ use Rattle.sakondreno.proofs.sakondreno_prepare_as.Goals as goal
 
 pub returns : goal.returns
 returns c =
-    rw (c.counted.ensures, ← c.reading_of-how.ensures, ← c.mode_of-page.ensures) (in-other-words plain_prepared c.prepare_as-p.ensures)
+    rw (c.counted.ensures, ← c.reading_of-how.ensures, ← c.mode_of-page.ensures) (in-other-words plain_prepared c.prepare_as.ensures)

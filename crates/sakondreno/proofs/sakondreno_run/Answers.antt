@@ -3,4 +3,4 @@ use Rattle.sakondreno.proofs.PlainPromises.{runs-plain}
 use Rattle.sakondreno.proofs.sakondreno_run.Goals as goal
 
 pub returns : goal.returns
-returns c = runs-plain c.direction_of-d.ensures c.run-ran.ensures c.ended.ensures
+returns c = runs-plain c.direction_of-d.ensures c.run.ensures c.ended.ensures

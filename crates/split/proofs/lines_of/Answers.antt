@@ -38,7 +38,7 @@ loop-from-smaller c =
 
 pub loop-from-preserved : goal.loop-from-preserved
 loop-from-preserved c =
-    lines_more c.loop-from.invariant (sym c.next_from.ensures ∙ c.in-Some.is) c.line_at.ensures c.in-To.is
+    lines_more c.loop-from.invariant (sym c.next_from.ensures ∙ c.in-Some.is) c.line_at.ensures c.in-Some-line_at.is
 
 pub returns-then-n-gt64 : goal.returns-then-n-gt64
 returns-then-n-gt64 c =

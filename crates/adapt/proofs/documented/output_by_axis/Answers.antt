@@ -11,14 +11,14 @@ use Rattle.adapt.proofs.documented.output_by_axis.Goals as goal
 pub overflow_sub-at : goal.overflow_sub-at
 overflow_sub-at c =
     let g : SFits w32 (get_or c.args.to.axes c.args.i (pos 0)) = search rules in
-    place-some c.args.from c.args.to c.requires.ready c.requires.ready_2 c.args.i c.requires.i_bound (simp (to_z-of_z g) at c.size_of.ensures) c.position_of-place.ensures
+    place-some c.args.from c.args.to c.args.i c.requires (simp (to_z-of_z g) at c.size_of.ensures) c.position_of-place.ensures
 
 pub bounds-a-at : goal.bounds-a-at
-bounds-a-at c = omega (arith, place-few c.args.from c.requires.ready c.size_of.result c.position_of-place.ensures, c.requires.ready.four)
+bounds-a-at c = omega (arith, place-few c.args.from c.size_of.result c.position_of-place.ensures, c.args.from.four)
 
 pub signed-requires : goal.signed-requires
 signed-requires c =
-    output-small c.args.from c.args.to c.requires.ready _ c.position_of-place.ensures
+    output-small c.args.from c.args.to _ c.position_of-place.ensures
 
 pub returns : goal.returns
 returns c =
@@ -28,4 +28,4 @@ returns c =
     given_is c.signed.type_inv (c.signed.ensures ∙ made (simp (to_z-of_z f) at c.is_minus.ensures) (simp (to_z-of_z g) at c.is_minus-2.ensures))
 
 pub offset_bounds-a-at : goal.offset_bounds-a-at
-offset_bounds-a-at c = record { fits = omega (arith, place-few c.args.from c.requires.ready c.size_of.result c.position_of-place.ensures, c.requires.ready.four) }
+offset_bounds-a-at c = record { fits = omega (arith, place-few c.args.from c.size_of.result c.position_of-place.ensures, c.args.from.four) }

@@ -6,7 +6,7 @@ use Rattle.adapt.proofs.words.output.Goals as goal
 
 pub signed-requires : goal.signed-requires
 signed-requires c =
-    output-small c.args.from c.args.to c.requires.ready _ c.position_of-place.ensures
+    output-small c.args.from c.args.to _ c.position_of-place.ensures
 
 pub returns : goal.returns
 returns c =

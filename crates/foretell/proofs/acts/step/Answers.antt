@@ -1,5 +1,6 @@
 -- `step`: each arm knows which act it has, and there the act of the doing is what the operator's own call on places ensures. What a call
--- requires is in `Ready`. A drop and an `adapt` move no place.
+-- requires is in `Ready`. Both pops are the same on places; a drop and an `adapt` move no place.
+use mathlib.Core.Logic.{inl, inr}
 use mathlib.Core.Path.{◌≡◌, sym, subst}
 use Prim.Native.Nat.{◌≤◌}
 use native.Mathlib.Omega.{arith}
@@ -8,7 +9,7 @@ use lib.Seq.{length-take-le}
 use Rattle.columns.specs.declared.acts.Act as code
 use Rattle.columns.specs.Doings.{does, doing}
 use Rattle.foretell.specs.Judgement.{Ready}
-use Rattle.foretell.proofs.ReadyActs.{ready-push, ready-pop, ready-pop-all, ready-flip, ready-roll, ready-order, moves-all, moves-none, moves-no-place}
+use Rattle.foretell.proofs.ReadyActs.{ready-push, ready-pops, ready-flip, ready-roll, ready-order, moves-all, moves-none, moves-no-place}
 use borrow.Author.Rules.{rules}
 use Rattle.foretell.proofs.acts.step.Goals as goal
 use Rattle.foretell.proofs.acts.step.Goals.{Start}
@@ -24,38 +25,16 @@ many c = sym (length-take-le _ c.args.d.args (shared c))
 ready : (c : Start) {a : code.Act} → c.args.d.act ≡ a → Ready c.args.t a (take c.args.d.n c.args.d.args)
 ready c e = subst (λ (a : code.Act). Ready c.args.t a (take c.args.d.n c.args.d.args)) e c.requires.ready
 
-pub slice_bounds-args-end : goal.slice_bounds-args-end
-slice_bounds-args-end c = shared (goal.at.slice_bounds-args-end c).Start
-
-pub slice_bounds-push_places-end : goal.slice_bounds-push_places-end
-slice_bounds-push_places-end c = many (goal.at.slice_bounds-push_places-end c).Start
+pub slice_bounds-l-end : goal.slice_bounds-l-end
+slice_bounds-l-end c = many (goal.at.slice_bounds-l-end c).Start
 
 pub push_places-requires : goal.push_places-requires
 push_places-requires c = let all = ready-push (ready (goal.at.push_places-requires c).Start c.in-Pushes.is) in record { whole = all.0; l_value = all.1.0; l_len_bound = all.1.1 }
 
-pub slice_bounds-args-end-in-Pops : goal.slice_bounds-args-end-in-Pops
-slice_bounds-args-end-in-Pops c = shared (goal.at.slice_bounds-args-end-in-Pops c).Start
-
-pub slice_bounds-pop_places-end : goal.slice_bounds-pop_places-end
-slice_bounds-pop_places-end c = many (goal.at.slice_bounds-pop_places-end c).Start
-
 pub pop_places-requires : goal.pop_places-requires
-pop_places-requires c = let all = ready-pop (ready (goal.at.pop_places-requires c).Start c.in-Pops.is) in record { whole = all.0; l_value = all.1.0; l_bound = all.1.1 }
-
-pub slice_bounds-args-end-in-PopsAll : goal.slice_bounds-args-end-in-PopsAll
-slice_bounds-args-end-in-PopsAll c = shared (goal.at.slice_bounds-args-end-in-PopsAll c).Start
-
-pub slice_bounds-pop_places-end-in-PopsAll : goal.slice_bounds-pop_places-end-in-PopsAll
-slice_bounds-pop_places-end-in-PopsAll c = many (goal.at.slice_bounds-pop_places-end-in-PopsAll c).Start
-
-pub pop_places-requires-in-PopsAll : goal.pop_places-requires-in-PopsAll
-pop_places-requires-in-PopsAll c = let all = ready-pop-all (ready (goal.at.pop_places-requires-in-PopsAll c).Start c.in-PopsAll.is) in record { whole = all.0; l_value = all.1.0; l_bound = all.1.1 }
-
-pub slice_bounds-args-end-in-Flips : goal.slice_bounds-args-end-in-Flips
-slice_bounds-args-end-in-Flips c = shared (goal.at.slice_bounds-args-end-in-Flips c).Start
-
-pub slice_bounds-flip_places-end : goal.slice_bounds-flip_places-end
-slice_bounds-flip_places-end c = many (goal.at.slice_bounds-flip_places-end c).Start
+pop_places-requires c =
+    let all = ready-pops (elim c.in-Pops.is [ inl e ↦ inl (ready (goal.at.pop_places-requires c).Start e) | inr e ↦ inr (ready (goal.at.pop_places-requires c).Start e) ]) in
+    record { whole = all.0; l_value = all.1.0; l_bound = all.1.1 }
 
 pub flip_places-requires : goal.flip_places-requires
 flip_places-requires c = let all = ready-flip (ready (goal.at.flip_places-requires c).Start c.in-Flips.is) in record { whole = all.0; l_value = all.1.0; l_bound = all.1.1 }
@@ -66,12 +45,6 @@ roll_places-requires c = let all = ready-roll (ready (goal.at.roll_places-requir
 pub swap_places-requires : goal.swap_places-requires
 swap_places-requires c = c.requires.ready.whole
 
-pub slice_bounds-args-end-in-Orders : goal.slice_bounds-args-end-in-Orders
-slice_bounds-args-end-in-Orders c = shared (goal.at.slice_bounds-args-end-in-Orders c).Start
-
-pub slice_bounds-order_places-end : goal.slice_bounds-order_places-end
-slice_bounds-order_places-end c = many (goal.at.slice_bounds-order_places-end c).Start
-
 pub order_places-requires : goal.order_places-requires
 order_places-requires c = let all = ready-order (ready (goal.at.order_places-requires c).Start c.in-Orders.is) in record { whole = all.0; l_value = all.1 }
 
@@ -81,11 +54,7 @@ returns-in-Pushes c = rw c.in-Pushes.is c.push_places.ensures
 
 pub returns-in-Pops : goal.returns-in-Pops
 unfolding doing does
-returns-in-Pops c = rw c.in-Pops.is c.pop_places.ensures
-
-pub returns-in-PopsAll : goal.returns-in-PopsAll
-unfolding doing does
-returns-in-PopsAll c = rw c.in-PopsAll.is (moves-all c.pop_places-in-PopsAll.ensures)
+returns-in-Pops c = elim c.in-Pops.is [ inl e ↦ rw e c.pop_places.ensures | inr e ↦ rw e (moves-all c.pop_places.ensures) ]
 
 pub returns-in-Flips : goal.returns-in-Flips
 unfolding doing does
@@ -101,12 +70,8 @@ returns-in-Swaps c = rw c.in-Swaps.is c.swap_places.ensures
 
 pub returns-in-Drops : goal.returns-in-Drops
 unfolding doing does
-returns-in-Drops c = rw c.in-Drops.is (moves-none c.requires.ready.whole)
+returns-in-Drops c = elim c.in-Drops.is [ inl e ↦ rw e (moves-none c.requires.ready.whole) | inr x ↦ rw x.2 (moves-no-place c.requires.ready.whole) ]
 
 pub returns-in-Orders : goal.returns-in-Orders
 unfolding doing does
 returns-in-Orders c = rw c.in-Orders.is c.order_places.ensures
-
-pub returns-in-Adapts : goal.returns-in-Adapts
-unfolding doing does
-returns-in-Adapts c = rw c.in-Adapts.is (moves-no-place c.requires.ready.whole)

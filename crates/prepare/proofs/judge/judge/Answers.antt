@@ -1,5 +1,5 @@
 -- `judge`: 10 where no name is given or it is none of the five; else what `judge_named` finds of the one that it is.
-use mathlib.Core.Path.{sym, ◌∙◌}
+use mathlib.Core.Path.{refl, sym, ◌∙◌}
 use Rattle.rules.specs.Text.Ascii.{ascii}
 use Rattle.parameters.specs.Tables.{text, table_in}
 use Rattle.prepare.specs.Lookup.{placed_in}
@@ -10,7 +10,7 @@ use Rattle.prepare.proofs.judge.judge.Goals as goal
 pub returns-in_default : goal.returns-in_default
 unfolding ascii
 returns-in_default c =
-    judged-unnamed _ (placed_in c.args.table.now) (rw (given-in (text c.args.table.now) (table_in c.args.table.now)) c.in_default.ensures) c.refused.ensures
+    judged-unnamed _ (placed_in c.args.table.now) (rw (given-in (text c.args.table.now) (table_in c.args.table.now)) c.in_default.ensures) refl
 
 pub returns-in-Some-name_of : goal.returns-in-Some-name_of
 unfolding ascii
@@ -22,4 +22,4 @@ pub returns-in-None : goal.returns-in-None
 unfolding ascii
 returns-in-None c =
     judged-other _ (placed_in c.args.table.now) (rw (given-in (text c.args.table.now) (table_in c.args.table.now)) c.in-Some.ensures)
-    (sym c.name_of.ensures ∙ c.in-None.is) c.refused-in-None.ensures
+    (sym c.name_of.ensures ∙ c.in-None.is) refl

@@ -1,5 +1,5 @@
 -- `judge_cut`: the words' table has each parameter in its place, or they have no room there.
-use mathlib.Core.Path.{◌≡◌, ap, ◌∙◌}
+use mathlib.Core.Path.{◌≡◌, refl, ap, ◌∙◌}
 use Rattle.parameters.specs.declared.table.Source.{Source}
 use Rattle.parameters.specs.Tables.{front, text, table_in}
 use Rattle.rules.specs.Text.Bytes.{words}
@@ -10,7 +10,7 @@ pub enter_cut-requires : goal.enter_cut-requires
 enter_cut-requires c = record { s_value = rw c.new-table.ensures.from c.requires; none = c.new-table.ensures.none }
 
 pub returns-in-Err : goal.returns-in-Err
-returns-in-Err c = cut-full _ (words (front c.args.source)) (rw c.new-table.ensures.from at c.in-Err.ensures.entered.1) c.refused.ensures
+returns-in-Err c = cut-full _ (words (front c.args.source)) (rw c.new-table.ensures.from at c.in-Err.ensures.entered.1) refl
 
 pub returns-in-Ok : goal.returns-in-Ok
 returns-in-Ok c =

@@ -1,4 +1,6 @@
 -- The order that is given, or the default. No mode alters that.
+use mathlib.Core.Path.{ap}
+use Rattle.rules.specs.Text.Refusal.{answers}
 use Rattle.prepare.proofs.FirstSeries.{numbers-good, series-is}
 use Rattle.prepare.proofs.OwnRules.{order-there, order-default}
 use Rattle.prepare.proofs.own.own_order.Goals as goal
@@ -13,4 +15,4 @@ returns-in-Some c mode =
 
 pub returns-in-None : goal.returns-in-None
 returns-in-None c mode =
-    order-default c.requires.lowers c.requires.number_value mode c.in-None.is c.all_axes.ensures c.recorded.ensures
+    order-default c.requires.lowers c.requires.number_value mode c.in-None.is c.all_axes.ensures (ap answers c.recorded.ensures)

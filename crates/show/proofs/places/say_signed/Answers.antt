@@ -15,7 +15,7 @@ say_marked-o-requires c =
 pub put_digits-requires : goal.put_digits-requires
 unfolding signed_place counted
 put_digits-requires c =
-    rw c.wide-n.ensures
+    rw c.from-n.ensures
     (second-room (c.args.word.now ++ cond c.args.p.minus (ascii "-") []) (digits c.args.p.axis) c.args.out.now c.args.at c.requires
     c.say_marked-o.ensures)
 
@@ -24,4 +24,4 @@ unfolding signed_place counted
 returns c =
     both-said (c.args.word.now ++ cond c.args.p.minus (ascii "-") []) (digits c.args.p.axis) c.args.out.now c.args.at c.requires
     c.say_marked-o.ensures
-    (rw c.wide-n.ensures at c.put_digits.ensures)
+    (rw c.from-n.ensures at c.put_digits.ensures)
