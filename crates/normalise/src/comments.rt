@@ -1,6 +1,8 @@
 // Stripping the comments of a text, and normalising what is left. The Rust is `remove_comments` of src/token/mod.rs. Its branch
 // for a line that is a comment is not here: no text reaches it (laws_source/Branch).
 ghost use Rattle.std.specs.Prelude.{◌+◌, ◌*◌, ◌<◌, ◌≤◌, length};
+ghost use Rattle.rules.specs.Text.Ascii.{is};
+ghost use Rattle.rules.specs.Text.Bytes.{before};
 ghost use Rattle.rules.specs.Text.Comments.{newlines, uncommented, lined, stripped};
 ghost use Rattle.rules.specs.Text.Normal.{normal};
 ghost use Rattle.laws_text.specs.Sizes.{weight};
@@ -9,12 +11,35 @@ ghost use Rattle.text.specs.Wrote.{Wrote, WroteAt, Holds};
 use crate::normal::normal_of;
 use text::{Edge, find, put, replace_into, trim};
 
+// A line of fewer bytes than these is written byte by byte: to search it, and then to copy the part that was found, would
+// cost more.
+const SHORT: usize = 16;
+
+// Writes a short line up to its comment into dst from at.
+fn add_short(line: &[u8], dst: &mut [u8], at: usize) -> usize
+    requires { at + length (before (is "#") line.now) ≤ length dst.old }
+    ensures { WroteAt (before (is "#") line.now) dst.old at result dst.new }
+{
+    let mut o = at;
+    for b in line {
+        if *b == b'#' {
+            return o;
+        }
+        dst[o] = *b;
+        o += 1;
+    }
+    o
+}
+
 // Writes a line up to its comment, after a space, into dst from at.
 fn add_line(line: &[u8], dst: &mut [u8], at: usize) -> usize
     requires { at + length (uncommented line.now) ≤ length dst.old }
     ensures { WroteAt (uncommented line.now) dst.old at result dst.new }
 {
     dst[at] = b' ';
+    if line.len() < SHORT {
+        return add_short(line, dst, at + 1);
+    }
     let end = find(line, 0, b"#");
     put(&line[..end], dst, at + 1)
 }

@@ -177,12 +177,17 @@ fn within<const N: usize, const D: usize>(text: &[u8], mode: Mode, table: Table)
 }
 
 // Prepares text into the table's records from the first on, in a mode and in the crate's reading. It refuses 1, 2, 6 and 8 as splitting does, then
-// the first faulty step by its lowest number of 1, 6, 9 to 14, then 7; and then the table is as it was.
+// the first faulty step by its lowest number of 1, 6, 9 to 14, then 7; and then the table is as it was. It is a function of its own in the
+// program too: a caller that holds all of it fills room for two tables more at each call.
+#[inline(never)]
 fn prepare_in(text: &[u8], mode: Mode, table: Table) -> Preparing
     ensures { result ≡ preparing mode text.now table }
 {
     if let Err(refusal) = tested(text) {
-        return refusing(refusal, table);
+        return Preparing {
+            answer: Err(refusal),
+            table,
+        };
     }
     if text.len() <= FEW {
         return within::<1024, 1033>(text, mode, table);
@@ -225,6 +230,6 @@ pub fn prepare_as(text: &[u8], reading: Reading, mode: Mode, table: Table) -> Pr
                 },
             }
         }
-        Err(refusal) => refusing(refusal, made),
+        Err(_) => p,
     }
 }

@@ -2,79 +2,111 @@
 -- and its laws.
 use Rattle.std.specs.Prelude.{None}
 use mathlib.Core.Path.{◌≡◌, refl, sym, ap, ◌∙◌}
-use mathlib.Core.Bool.{Bool, true, false, cond, not}
-use mathlib.Core.List.{List, [], ◌∷◌}
+use mathlib.Core.Bool.{Bool, true, false, cond, not, ◌&&◌, false≢true}
+use mathlib.Core.List.{[], ◌∷◌, ◌++◌, append-nil}
 use Prim.Native.Nat.{ℕ, suc, ◌+◌, ◌≤◌, ◌<◌}
-use native.Mathlib.Numerals.{add-one}
+use native.Mathlib.Decide.{dec_lt}
 use native.Mathlib.Omega.{arith}
-use lib.ListN.{length, drop, get_or, length-drop, drop_of_length-le}
-use lib.Seq.{drop-cons}
+use borrow.Author.Tests.{not-false}
+use lib.ListN.{length, drop, get_or, drop_of_length-le}
 use Rattle.rules.specs.Text.Ascii.{is}
 use Rattle.rules.specs.Text.Lists.{all_of, kept, non_empty}
 use Rattle.rules.specs.Text.Bytes.{Bytes, white, onto, cut, words}
-use Rattle.rules.specs.Text.Reader.{step, found, next}
-use Rattle.text.proofs.RunEnd.{words-blank}
+use Rattle.rules.specs.Text.Reader.{step, found, next, part}
+use Rattle.text.specs.Runs.{Run}
+use Rattle.text.proofs.RunEnd.{drop-next, other, part-rest, length_part, run-stops, words-blank}
 
--- how many bytes the pieces have, and one between each and behind the last
-pub span : List Bytes → ℕ
-span [] = 0
-span (p ∷ ps) = suc (length p) + span ps
+-- ---- the first piece
 
-span-onto : (x : ℕ) (ps : List Bytes) → 0 < span ps → span (onto x ps) ≡ suc (span ps)
-unfolding span onto
-span-onto x [] h = omega (arith, h)
-span-onto x (p ∷ ps) h = omega arith
-
-span-cut : (test : ℕ → Bool) (t : Bytes) → span (cut test t) ≡ suc (length t)
-unfolding span cut
-span-cut test [] = refl
-span-cut test (x ∷ t) = go (test x) (span-cut test t)
+-- a text without a byte that passes the test is one piece
+cut-free : (test : ℕ → Bool) (t : Bytes) → all_of (other test) t ≡ true → cut test t ≡ t ∷ []
+unfolding all_of cut onto
+cut-free test [] e = refl
+cut-free test (x ∷ t) e = go (test x) e (cut-free test t)
   where
-    go : (b : Bool) → span (cut test t) ≡ suc (length t) → span (cond b ([] ∷ cut test t) (onto x (cut test t))) ≡ suc (suc (length t))
-    go true h = omega (arith, h)
-    go false h = omega (arith, h, span-onto x (cut test t) (omega (arith, h)))
+    go : (b : Bool) → (not b && all_of (other test) t) ≡ true → (all_of (other test) t ≡ true → cut test t ≡ t ∷ [])
+        → cond b ([] ∷ cut test t) (onto x (cut test t)) ≡ (x ∷ t) ∷ []
+    go true g h = absurd (false≢true g)
+    go false g h = ap (onto x) (h g)
 
--- what is found from `at` on, the place behind the first k pieces, is what is found from `start` on
-pub record Walks (s : Bytes) (start k at : ℕ) : Type 0 where
-  pub same : found at (drop k (cut (is "|") (drop start s))) ≡ next s start
-  pub whole : at + span (drop k (cut (is "|") (drop start s))) ≡ length s + 1
+-- at such a byte, the first piece ends
+cut-here : (test : ℕ → Bool) (t : Bytes) (y : ℕ) (u : Bytes) → all_of (other test) t ≡ true → test y ≡ true → cut test (t ++ y ∷ u) ≡ t ∷ cut test u
+unfolding all_of cut onto
+cut-here test [] y u e f = rw f
+cut-here test (x ∷ t) y u e f = go (test x) e (λ g. cut-here test t y u g f)
+  where
+    go : (b : Bool) → (not b && all_of (other test) t) ≡ true → (all_of (other test) t ≡ true → cut test (t ++ y ∷ u) ≡ t ∷ cut test u)
+        → cond b ([] ∷ cut test (t ++ y ∷ u)) (onto x (cut test (t ++ y ∷ u))) ≡ (x ∷ t) ∷ cut test u
+    go true g h = absurd (false≢true g)
+    go false g h = ap (onto x) (h g)
 
-pub walks-none : {s : Bytes} {start : ℕ} → start ≤ length s → Walks s start 0 start
-unfolding next
-walks-none {s} {start} h = record { same = refl; whole = omega (arith, span-cut (is "|") (drop start s), length-drop start s) }
-
-module _ {s : Bytes} {start k at : ℕ} (m : Walks s start k at) where
-  module _ {p : Bytes} (h : k < length (cut (is "|") (drop start s))) (e : p ≡ get_or (cut (is "|") (drop start s)) k p) where
-    split : drop k (cut (is "|") (drop start s)) ≡ p ∷ drop (suc k) (cut (is "|") (drop start s))
-    split = drop-cons (cut (is "|") (drop start s)) k p h ∙ ap (λ (v : Bytes). v ∷ drop (suc k) (cut (is "|") (drop start s))) (sym e)
-
-    -- the piece stands within the text
-    pub walks-within : at + length p ≤ length s
-    unfolding span
-    walks-within = omega (arith, m.whole, ap span split)
-
-    here : cond (non_empty (words p)) (step at (at + length p)) (found (at + suc (length p)) (drop (suc k) (cut (is "|") (drop start s)))) ≡ next s start
-    unfolding found
-    here = rw split at m.same
-
-    -- an empty piece is passed over
-    pub walks-over : {n : ℕ} → all_of white p ≡ true → n ≡ k + 1 → Walks s start n (at + length p + 1)
-    unfolding span
-    walks-over {n} w f =
-        let b : non_empty (words p) ≡ false = words-blank p ∙ ap not w in
-        let a : at + length p + 1 ≡ at + suc (length p) = omega arith in
-        record { same = rw (a, f, add-one k) (rw b at here); whole = rw (f, add-one k) (omega (arith, m.whole, ap span split)) }
-
-    -- another is the step
-    pub walks-here : all_of white p ≡ false → step at (at + length p) ≡ next s start
-    walks-here w = let b : non_empty (words p) ≡ true = words-blank p ∙ ap not w in rw b at here
-
-  -- no piece is left
-  pub walks-end : length (cut (is "|") (drop start s)) ≤ k → None ≡ next s start
-  unfolding found
-  walks-end h = rw (drop_of_length-le (cut (is "|") (drop start s)) h) at m.same
-
--- from beyond the text's end, there is none
-pub next_past : (s : Bytes) (i : ℕ) → length s < i → None ≡ next s i
+-- from the text's end on, or beyond, there is none
+pub next_past : (s : Bytes) (i : ℕ) → length s ≤ i → None ≡ next s i
 unfolding next found words kept cut non_empty
-next_past s i h = let l : length s ≤ i = omega arith in sym (rw (drop_of_length-le s l))
+next_past s i h = sym (rw (drop_of_length-le s h))
+
+module _ {s : Bytes} {i e : ℕ} (m : Run (other (is "|")) s i e) where
+  -- the piece, and those behind it
+  piece-last : e ≡ length s → cut (is "|") (drop i s) ≡ part i e s ∷ []
+  piece-last z =
+      let l : length s ≤ e = omega arith in
+      let d : drop e s ≡ [] = drop_of_length-le s l in
+      ap (cut (is "|")) (part-rest s i e m.ahead ∙ rw d (append-nil (part i e s))) ∙ cut-free (is "|") (part i e s) m.whole
+
+  piece-more : e < length s → cut (is "|") (drop i s) ≡ part i e s ∷ cut (is "|") (drop (e + 1) s)
+  piece-more h =
+      let y : is "|" (get_or s e 0) ≡ true = not-false (is "|" (get_or s e 0)) (run-stops m h) in
+      ap (cut (is "|")) (part-rest s i e m.ahead ∙ rw (drop-next s e h)) ∙ cut-here (is "|") (part i e s) (get_or s e 0) (drop (e + 1) s) m.whole y
+
+  -- an empty piece is passed over, the last one too: behind it there is none
+  next-over : all_of white (part i e s) ≡ true → next s i ≡ next s (e + 1)
+  next-over w = elim (dec_lt e (length s)) [ yes h ↦ more h | no h ↦ last (omega (arith, m.within)) ]
+    where
+      b : non_empty (words (part i e s)) ≡ false
+      b = words-blank (part i e s) ∙ ap not w
+
+      k : i + suc (length (part i e s)) ≡ e + 1
+      k = omega (arith, length_part s i e m.ahead m.within, m.ahead)
+
+      more : e < length s → next s i ≡ next s (e + 1)
+      more h = unfold next found in rw (piece-more h, b, k)
+
+      none : e ≡ length s → next s i ≡ None
+      none z = unfold next found in rw (piece-last z, b)
+
+      last : e ≡ length s → next s i ≡ next s (e + 1)
+      last z = none z ∙ next_past s (e + 1) (omega arith)
+
+  -- another is the step
+  next_here : all_of white (part i e s) ≡ false → step i e ≡ next s i
+  next_here w = elim (dec_lt e (length s)) [ yes h ↦ more h | no h ↦ last (omega (arith, m.within)) ]
+    where
+      b : non_empty (words (part i e s)) ≡ true
+      b = words-blank (part i e s) ∙ ap not w
+
+      k : i + length (part i e s) ≡ e
+      k = omega (arith, length_part s i e m.ahead m.within, m.ahead)
+
+      more : e < length s → step i e ≡ next s i
+      more h = unfold next found in sym (rw (piece-more h, b, k))
+
+      last : e ≡ length s → step i e ≡ next s i
+      last z = unfold next found in sym (rw (piece-last z, b, k))
+
+-- ---- `next_step`: what is found from i on is what is found from the start on
+
+pub record Walks (s : Bytes) (start i : ℕ) : Type 0 where
+  pub same : next s i ≡ next s start
+
+pub walks-none : (s : Bytes) (start : ℕ) → Walks s start start
+walks-none s start = record { same = refl }
+
+module _ {s : Bytes} {start i : ℕ} (m : Walks s start i) where
+  pub walks-over : {e : ℕ} → Run (other (is "|")) s i e → all_of white (part i e s) ≡ true → Walks s start (e + 1)
+  walks-over p w = record { same = sym (next-over p w) ∙ m.same }
+
+  pub walks-here : {e : ℕ} → Run (other (is "|")) s i e → all_of white (part i e s) ≡ false → step i e ≡ next s start
+  walks-here p w = next_here p w ∙ m.same
+
+  pub walks-end : length s ≤ i → None ≡ next s start
+  walks-end h = next_past s i h ∙ m.same

@@ -3,19 +3,17 @@ ghost use Rattle.std.specs.Prelude.{◌≡◌};
 ghost use Rattle.rules.specs.Text.Reader.{next};
 
 use rules::{Cursor, Found};
-use text::is_blank;
+use text::{Kind, is_blank, run_end};
 
 // The next step of a normalised text from the cursor on: the first piece between `|` that is not empty.
 pub fn next_step(normal: &[u8], cursor: Cursor) -> Option<Found>
     ensures { result ≡ next normal.now cursor.at }
 {
-    let Some(rest) = normal.get(cursor.at..) else {
-        return None;
-    };
     let mut from = cursor.at;
-    for piece in rest.split(|b| *b == b'|') {
-        let to = from + piece.len();
-        if !is_blank(piece) {
+    // Stays: with `split` over the pieces, the walk takes half as much time again.
+    while from < normal.len() {
+        let to = run_end(Kind::Piece, normal, from);
+        if !is_blank(&normal[from..to]) {
             return Some(Found {
                 from,
                 to,

@@ -1,5 +1,5 @@
 // Its actions on signed places: what the check does with them.
-ghost use Rattle.std.specs.Prelude.{◌≡◌, true, ◌+◌, ◌*◌, ◌≤◌, ◌<◌, length};
+ghost use Rattle.std.specs.Prelude.{◌≡◌, true, ◌+◌, ◌*◌, ◌≤◌, ◌<◌, ◌++◌, length, take, drop};
 ghost use Rattle.rules.specs.Text.Lists.{all_of};
 ghost use Rattle.rules.specs.Operators.Arguments.{places};
 ghost use Rattle.rules.specs.Operators.Acts.{flips, swaps, rolls};
@@ -9,6 +9,7 @@ ghost use Rattle.numbers.specs.Axes.{is_axis};
 use crate::acts::turns;
 use columns::Traced;
 use numbers::axis_of;
+use rules::Place;
 
 // Each place exchanged with its column, the top one first.
 pub fn flip_places(t: Traced, l: &[i32]) -> Traced
@@ -42,6 +43,17 @@ pub fn swap_places(t: Traced) -> Traced
     r
 }
 
+// The places of `from` into as many others: the first k of them behind the rest.
+fn turn_into(from: &[Place], k: usize, into: &mut [Place])
+    requires few { k ≤ length from.now }
+    requires alike { length into.old ≡ length from.now }
+    ensures { into.new ≡ drop k from.now ++ take k from.now }
+{
+    let (rest, first) = into.split_at_mut(from.len() - k);
+    rest.copy_from_slice(&from[k..]);
+    first.copy_from_slice(&from[..k]);
+}
+
 // The top column goes under the top m, n times: the first n of them go behind the others.
 pub fn roll_places(t: Traced, m: usize, n: usize) -> Traced
     requires whole { Whole t }
@@ -51,6 +63,10 @@ pub fn roll_places(t: Traced, m: usize, n: usize) -> Traced
 {
     let top = t.top;
     let mut r = t;
-    r.columns[top..top + m].rotate_left(turns(m, n));
+    turn_into(
+        &t.columns[top..top + m],
+        turns(m, n),
+        &mut r.columns[top..top + m],
+    );
     r
 }

@@ -1,23 +1,21 @@
--- The words of a text with one space between: what is left to write, byte by byte and word by word, and the loop's invariant.
-use mathlib.Core.Path.{◌≡◌, refl, sym, ap, ◌∙◌}
+-- The words of a text with one space between: what is left to write, the words as std's iterators give them, and the loop's invariant.
+use mathlib.Core.Path.{◌≡◌, refl, ap, ◌∙◌}
 use mathlib.Core.Bool.{Bool, true, false, cond, not, false≢true}
-use mathlib.Core.List.{List, [], ◌∷◌, ◌++◌}
+use mathlib.Core.List.{List, [], ◌∷◌}
 use Rattle.std.specs.List.{slice_split, onto_first, filter}
 use Rattle.std.proofs.lemmas.List.Recursion.{same_from_clauses}
 use Prim.Native.Nat.{ℕ, zero, suc, ◌+◌, ◌≤◌, ◌<◌}
 use native.Mathlib.Nat.{not-suc-le-zero}
 use native.Mathlib.Numerals.{add-one}
-use lib.Seq.{drop-cons}
 use native.Mathlib.Omega.{arith}
-use borrow.Author.Tests.{ne_eqb}
-use lib.Dec.{eqb}
-use lib.ListN.{length, length-append, take, drop, get_or, drop_of_length-le}
+use borrow.Author.Tests.{ne_eqb, lt-ltb, ltb-true}
+use lib.Dec.{eqb, ltb}
+use lib.ListN.{length, drop, get_or, set, drop_of_length-le}
 use Rattle.rules.specs.Text.Lists.{kept, non_empty}
 use Rattle.rules.specs.Text.Bytes.{Bytes, Words, white, cut, onto, words, after_each, joined_by, joined}
 use Rattle.laws_text.specs.Passes.{in_word, grow, words-cons}
-use Rattle.text.specs.Wrote.{Wrote, WroteAt}
-use Rattle.text.specs.Apart.{apart}
-use Rattle.text.proofs.Wrote.{Sofar, sofar-start, sofar-end, sofar-part, sofar-part-room}
+use Rattle.text.specs.Wrote.{Wrote}
+use Rattle.text.proofs.Wrote.{Sofar, sofar-start, sofar-byte, sofar-end, drop-next}
 
 -- each word after a space
 abbrev spaced : Words → Bytes
@@ -63,6 +61,13 @@ spaced-grow x true (w ∷ ws) = refl
 spaced-grow x false ws = refl
 
 module _ (x : ℕ) (t : Bytes) where
+  left-white : (k : ℕ) → (k ≡ 1 → ⊥) → white x ≡ true → left k (x ∷ t) ≡ left k t
+  unfolding left
+  left-white zero n e = rw (words-cons x t, e)
+  left-white (suc zero) n e = absurd (n refl)
+  left-white (suc (suc zero)) n e = rw (words-cons x t, e)
+  left-white (suc (suc (suc k))) n e = rw (words-cons x t, e)
+
   pub left_after : white x ≡ true → left 1 (x ∷ t) ≡ left 2 t
   unfolding left in_word
   left_after e = rw (words-cons x t, e)
@@ -83,12 +88,7 @@ pub left-start : (t : Bytes) → left 0 t ≡ joined (words t)
 unfolding left
 left-start t = refl
 
--- ---- `squeeze_into`: the first k words are written, up to o
-
--- what is left to write of these words behind o bytes
-pub behind : ℕ → Words → Bytes
-behind zero ws = joined ws
-behind (suc o) ws = spaced ws
+-- ---- the words as std's `split` and `filter` give them
 
 -- the pieces that std's `split` gives are those of `cut`, and those that are not empty are the words
 pub cut-is : (test : ℕ → Bool) (t : Bytes) → slice_split test t ≡ cut test t
@@ -117,63 +117,64 @@ pub words-is : (t : Bytes) → filter has_byte (slice_split white t) ≡ words t
 unfolding words
 words-is t = kept-is (slice_split white t) ∙ ap (kept non_empty) (cut-is white t)
 
-pub record Spelling (src dst₀ : Bytes) (k o : ℕ) (dst : Bytes) : Type 0 where
-  pub sofar : Sofar (joined (words src)) (behind o (drop k (words src))) dst₀ o dst
+-- ---- `squeeze_into`: what is left of `src` from i on is still to be written
 
-pub spelling-none : {src dst₀ : Bytes} → length (joined (words src)) ≤ length dst₀ → Spelling src dst₀ 0 0 dst₀
-unfolding behind joined
-spelling-none h = record { sofar = sofar-start _ _ h }
+-- where the place o and the space that is owed leave off: before the first word, behind one, or within one
+pub stage : ℕ → Bool → ℕ
+stage zero owed = 0
+stage (suc o) true = 2
+stage (suc o) false = 1
 
--- a word has a byte
-kept-some : (ps : List Bytes) (k : ℕ) (d : Bytes) → k < length (kept non_empty ps) → non_empty (get_or (kept non_empty ps) k d) ≡ true
-unfolding kept
-kept-some [] k d h = absurd (not-suc-le-zero h)
-kept-some (p ∷ ps) k d h = go (non_empty p) refl k h (λ (j : ℕ). kept-some ps j d)
-  where
-    go : (b : Bool) → non_empty p ≡ b → (k : ℕ) → k < length (cond b (p ∷ kept non_empty ps) (kept non_empty ps))
-        → ((j : ℕ) → j < length (kept non_empty ps) → non_empty (get_or (kept non_empty ps) j d) ≡ true)
-        → non_empty (get_or (cond b (p ∷ kept non_empty ps) (kept non_empty ps)) k d) ≡ true
-    go true e zero h f = e
-    go true e (suc k) h f = f k (omega arith)
-    go false e k h f = f k h
+pub record Squeezing (src dst₀ : Bytes) (i o : ℕ) (owed : Bool) (dst : Bytes) : Type 0 where
+  pub behind : owed ≡ true → 0 < o
+  pub sofar : Sofar (joined (words src)) (left (stage o owed) (drop i src)) dst₀ o dst
 
-non_empty-length : (w : Bytes) → non_empty w ≡ true → 0 < length w
-unfolding non_empty
-non_empty-length [] e = absurd (false≢true e)
-non_empty-length (x ∷ w) e = omega arith
+pub squeezing-none : {src dst₀ : Bytes} → length (joined (words src)) ≤ length dst₀ → Squeezing src dst₀ 0 0 false dst₀
+unfolding left stage
+squeezing-none h = record { behind = λ e. absurd (false≢true e); sofar = sofar-start _ _ h }
 
-behind-word : (o : ℕ) (w : Bytes) (ws : Words) → behind o (w ∷ ws) ≡ apart o w ++ spaced ws
-unfolding behind joined joined_by after_each
-behind-word zero w ws = refl
-behind-word (suc o) w ws = refl
+passes : (x : ℕ) (t : Bytes) (o : ℕ) (owed : Bool) → white x ≡ true → left (stage o owed) (x ∷ t) ≡ left (stage o (ltb 0 o)) t
+unfolding stage
+passes x t zero owed e = left-white x t 0 (λ h. omega (arith, h)) e
+passes x t (suc o) true e = rw (lt-ltb 0 (suc o) (omega arith)) (left-white x t 2 (λ h. omega (arith, h)) e)
+passes x t (suc o) false e = rw (lt-ltb 0 (suc o) (omega arith)) (left_after x t e)
 
-behind-none : (o : ℕ) → behind o [] ≡ []
-unfolding behind joined joined_by after_each
-behind-none zero = refl
-behind-none (suc o) = refl
+stage-owed : (o : ℕ) → 0 < o → stage o true ≡ 2
+unfolding stage
+stage-owed zero h = absurd (not-suc-le-zero h)
+stage-owed (suc o) h = refl
 
-module _ {src dst₀ : Bytes} {k o : ℕ} {dst : Bytes} (m : Spelling src dst₀ k o dst) where
-  module _ {w : Bytes} (h : k < length (words src)) (e : w ≡ get_or (words src) k w) where
-    next : Sofar (joined (words src)) (apart o w ++ spaced (drop (k + 1) (words src))) dst₀ o dst
-    next =
-        let d : drop k (words src) ≡ w ∷ drop (suc k) (words src) = drop-cons (words src) k w h ∙ ap (λ (v : Bytes). v ∷ drop (suc k) (words src)) (sym e) in
-        rw (← behind-word o w (drop (k + 1) (words src)), add-one, ← d) m.sofar
+stage-free : (o : ℕ) → stage o false ≡ 2 → ⊥
+unfolding stage
+stage-free zero h = omega (arith, h)
+stage-free (suc o) h = omega (arith, h)
 
-    pub spelling-room : o + length (apart o w) ≤ length dst
-    spelling-room = sofar-part-room (apart o w) (spaced (drop (k + 1) (words src))) next
+stage-word : (o : ℕ) → stage (o + 1) false ≡ 1
+unfolding stage
+stage-word o = rw (add-one o) refl
 
-    pub spelling-word : {r n : ℕ} {last : Bytes} → WroteAt (apart o w) dst o r last → n ≡ k + 1 → Spelling src dst₀ n r last
-    unfolding behind words
-    spelling-word {r} {n} v f = record { sofar = rw f (go r (some o v.wrote.count) (sofar-part (apart o w) next v.wrote)) }
-      where
-        some : (p : ℕ) → r ≡ length (take p dst ++ apart p w) → 0 < r
-        some zero c = omega (arith, c, non_empty-length w (ap non_empty e ∙ kept-some (cut white src) k w h))
-        some (suc p) c = omega (arith, c, simp length-append at c)
+module _ {src dst₀ : Bytes} {i o : ℕ} {owed : Bool} {dst : Bytes} (m : Squeezing src dst₀ i o owed dst) where
+  pub squeezing-end : length src ≤ i → Wrote (joined (words src)) dst₀ o dst
+  squeezing-end h = sofar-end (rw (drop_of_length-le src h, left_end (stage o owed)) at m.sofar)
 
-        go : {last : Bytes} (q : ℕ) → 0 < q → Sofar (joined (words src)) (spaced (drop (k + 1) (words src))) dst₀ q last
-            → Sofar (joined (words src)) (behind q (drop (k + 1) (words src))) dst₀ q last
-        go zero p s = absurd (not-suc-le-zero p)
-        go (suc q) p s = s
+  module _ (h : i < length src) where
+    pub squeezing-white : white (get_or src i 0) ≡ true → Squeezing src dst₀ (i + 1) o (ltb 0 o) dst
+    squeezing-white e = record {
+      behind = λ f. ltb-true 0 o f;
+      sofar = rw (← passes (get_or src i 0) (drop (i + 1) src) o owed e, ← drop-next src i h) m.sofar;
+    }
 
-  pub spelling-end : length (words src) ≤ k → Wrote (joined (words src)) dst₀ o dst
-  spelling-end h = sofar-end (rw (drop_of_length-le (words src) h, behind-none) at m.sofar)
+    -- the byte at i is none of white space: where no space is owed it is next, and else behind a space
+    pub squeezing-byte : white (get_or src i 0) ≡ false → owed ≡ false
+        → Sofar (joined (words src)) (get_or src i 0 ∷ left 1 (drop (i + 1) src)) dst₀ o dst
+    squeezing-byte e n = rw (← left_word (get_or src i 0) (drop (i + 1) src) (stage o false) (stage-free o) e, ← drop-next src i h) (rw n at m.sofar)
+
+    pub squeezing-space : white (get_or src i 0) ≡ false → owed ≡ true
+        → Sofar (joined (words src)) (32 ∷ get_or src i 0 ∷ left 1 (drop (i + 1) src)) dst₀ o dst
+    squeezing-space e n =
+        rw (← left-space (get_or src i 0) (drop (i + 1) src) e, ← drop-next src i h, ← stage-owed o (m.behind n)) (rw n at m.sofar)
+
+-- it is written
+pub squeezing-more : (src : Bytes) (i : ℕ) {dst₀ : Bytes} {o x : ℕ} {owed : Bool} {dst : Bytes} → owed ≡ false
+    → Sofar (joined (words src)) (x ∷ left 1 (drop (i + 1) src)) dst₀ o dst → Squeezing src dst₀ (i + 1) (o + 1) owed (set dst o x)
+squeezing-more src i {o = o} n s = rw n (record { behind = λ e. omega arith; sofar = rw (stage-word o) (sofar-byte s) })

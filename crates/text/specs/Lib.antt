@@ -2,4 +2,3 @@ pub mod Places
 pub mod Domain
 pub mod Runs
 pub mod Wrote
-pub mod Apart

@@ -9,13 +9,15 @@ use crate::search::find;
 use rules::{NO_ROOM, Refusal};
 
 // Puts all of src into dst from at.
+// Stays: `copy_from_slice` makes the library for C need `memmove` from outside, besides `memcpy` and `memset`.
 pub fn put(src: &[u8], dst: &mut [u8], at: usize) -> usize
     requires { at + length src.now ≤ length dst.old }
     ensures { Wrote (take at dst.old ++ src.now) dst.old result dst.new }
 {
-    let end = at + src.len();
-    dst[at..end].copy_from_slice(src);
-    end
+    for (i, b) in src.iter().enumerate() {
+        dst[at + i] = *b;
+    }
+    at + src.len()
 }
 
 // Hands a whole answer out: puts it into the lent buffer, or refuses 7.

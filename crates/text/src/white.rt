@@ -1,10 +1,7 @@
 // White space, and the words between it: Rust's `split_whitespace`, and `join(" ")`.
-ghost use Rattle.std.specs.Prelude.{◌≡◌, ◌+◌, ◌≤◌, length};
+ghost use Rattle.std.specs.Prelude.{◌≡◌, ◌≤◌, length};
 ghost use Rattle.rules.specs.Text.Bytes.{white, words, joined};
-ghost use Rattle.text.specs.Wrote.{Wrote, WroteAt};
-ghost use Rattle.text.specs.Apart.{apart};
-
-use crate::copy::put;
+ghost use Rattle.text.specs.Wrote.{Wrote};
 
 // "White space is bytes 9 to 13 and 32."
 #[tactic(auto, unfolding(rules::specs::Text::Bytes::white))]
@@ -14,29 +11,26 @@ pub fn is_white(b: u8) -> bool
     matches!(b, b' ' | 9..=13)
 }
 
-// Writes a word into dst from at: behind a space, unless it is the first.
-fn add_word(word: &[u8], dst: &mut [u8], at: usize) -> usize
-    requires { at + length (apart at word.now) ≤ length dst.old }
-    ensures { WroteAt (apart at word.now) dst.old at result dst.new }
-{
-    if at == 0 {
-        return put(word, dst, 0);
-    }
-    dst[at] = b' ';
-    put(word, dst, at + 1)
-}
-
 // Writes the words of src with one space between.
 pub fn squeeze_into(src: &[u8], dst: &mut [u8]) -> usize
     requires { length (joined (words src.now)) ≤ length dst.old }
     ensures { Wrote (joined (words src.now)) dst.old result dst.new }
 {
     let mut o = 0;
-    for word in src
-        .split(|b| is_white(*b))
-        .filter(|piece| !piece.is_empty())
-    {
-        o = add_word(word, dst, o);
+    // is a space to be written before the next word?
+    let mut owed = false;
+    for b in src {
+        if is_white(*b) {
+            owed = 0 < o;
+            continue;
+        }
+        if owed {
+            dst[o] = b' ';
+            o += 1;
+            owed = false;
+        }
+        dst[o] = *b;
+        o += 1;
     }
     o
 }

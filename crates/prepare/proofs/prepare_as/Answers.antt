@@ -15,4 +15,4 @@ returns-in-Ok c =
 
 pub returns-in-Err : goal.returns-in-Err
 returns-in-Err c =
-    c.refusing.ensures ∙ refuses-named c.args.reading _ _ _ c.prepare_in-p.ensures c.in-Err.is
+    (λ i. record { answer = c.in-Err.is i; table = c.prepare_in-p.result.table }) ∙ refuses-named c.args.reading _ _ _ c.prepare_in-p.ensures c.in-Err.is

@@ -1,5 +1,4 @@
 -- `prepare_in`: 1 and 2 are refused as every text call refuses them; any other text is as `within` promises, by its length.
-use mathlib.Core.Path.{◌∙◌}
 use Prim.Native.Nat.{◌≤◌}
 use native.Mathlib.Omega.{arith}
 use lib.ListN.{length}
@@ -9,7 +8,7 @@ use Rattle.prepare.proofs.TextReply.{prepare-first}
 use Rattle.prepare.proofs.prepare_in.Goals as goal
 
 pub returns-in-Err : goal.returns-in-Err
-returns-in-Err c = c.refusing.ensures ∙ prepare-first _ _ _ c.tested.ensures c.in-Err.is
+returns-in-Err c = prepare-first _ _ _ c.tested.ensures c.in-Err.is
 
 pub within-requires-clause-text_value : goal.within-requires-clause-text_value
 within-requires-clause-text_value c = passed-domain c.tested.ensures c.in_default.is

@@ -4,4 +4,4 @@ use Rattle.stack.proofs.TracedRoll.{rolls-all}
 use Rattle.stack.proofs.places.roll_places.Goals as goal
 
 pub returns : goal.returns
-returns c = rolls-all c.requires.whole c.requires.m_bound c.turns.ensures (omega arith) c.rotate_left.ensures.after
+returns c = rolls-all c.requires.whole c.requires.m_bound c.turns.ensures (omega arith) c.turn_into.ensures

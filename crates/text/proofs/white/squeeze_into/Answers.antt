@@ -1,48 +1,59 @@
-use mathlib.Core.Path.{◌≡◌}
-use Prim.Native.Nat.{◌<◌}
-use native.Mathlib.Omega.{arith}
-use lib.ListN.{length, get_or}
-use Rattle.std.proofs.Common.{rules, tests}
-use Rattle.std.proofs.lemmas.List.{length_push}
-use Rattle.std.proofs.lemmas.Iterator.Splits.{YieldsList-from_slice_split}
-use Rattle.std.proofs.lemmas.Iterator.Consumers.{YieldsList-from_filter, YieldsList-turn, YieldsList-end}
-use Rattle.rules.specs.Text.Bytes.{white, words}
-use Rattle.text.proofs.Squeezed.{has_byte, words-is, spelling-none, spelling-room, spelling-word, spelling-end}
+use mathlib.Core.Path.{◌≡◌, sym, ◌∙◌}
+use mathlib.Core.Bool.{false}
+use mathlib.Core.List.{◌∷◌}
+use Prim.Native.Nat.{◌+◌}
+use lib.ListN.{drop, get_or}
+use Rattle.std.proofs.Common.{rules}
+use Rattle.rules.specs.Text.Bytes.{words, joined}
+use Rattle.text.proofs.Wrote.{Sofar, sofar-byte, sofar-byte-room}
+use Rattle.text.proofs.Squeezed.{left, squeezing-none, squeezing-white, squeezing-byte, squeezing-space, squeezing-more, squeezing-end}
 use Rattle.text.proofs.white.squeeze_into.Goals as goal
-use Rattle.text.proofs.white.squeeze_into.Goals.{In-Some}
+use Rattle.text.proofs.white.squeeze_into.Goals.{Then-owed, Joined-owed, then-owed, else-owed}
 
--- a turn's word is the next of those of src
-word : (c : In-Some)
-    → let ws = words c.args.src.now in
-    (length c.loop-word.yielded < length ws) × (c.in-Some.word.now ≡ get_or ws (length c.loop-word.yielded) c.in-Some.word.now)
-word c =
-    let h = c.into_iter-word-iterator.ensures in
-    let t =
-    YieldsList-turn
-    (YieldsList-from_filter {s = c.into_iter-word-iterator.result} _ has_byte
-    (YieldsList-from_slice_split _ white c.args.src.now (cc) (cc) (cc) (λ x b q k. search (rules, tests))) (cc) (λ x b q k. search (rules, tests)))
-    c.loop-word.yielded _ c.loop-word.yielded_by _ _ c.in-Some.word c.in-Some.is c.next.ensures.steps in
-    rw (words-is c.args.src.now) at t
+-- what is left to write where a space is owed
+space : (c : Then-owed)
+    → let b = get_or c.args.src.now c.loop-b.b-index 0 in
+    Sofar (joined (words c.args.src.now)) (32 ∷ b ∷ left 1 (drop (c.loop-b.b-index + 1) c.args.src.now)) c.args.dst.now c.loop-b.o c.loop-b.dst
+space c = squeezing-space c.loop-b.invariant c.loop-b-test.true (sym c.is_white.ensures ∙ c.if-is_white.false) c.if-owed.true
 
-pub loop-word-init : goal.loop-word-init
-loop-word-init c = spelling-none c.requires
+-- where the byte is to be written, no space is owed any more, and the byte is next
+free : (c : Joined-owed) → c.if-owed.owed ≡ false
+free c = elim c.if-owed.branch [
+  | then-owed w ↦ w.owed-is
+  | else-owed w ↦ w.owed-is ∙ w.if-owed.false
+]
 
-pub add_word-o-requires : goal.add_word-o-requires
-add_word-o-requires c =
-    let u = word (goal.at.add_word-o-requires c).In-Some in spelling-room c.loop-word.invariant u.0 u.1
+byte : (c : Joined-owed)
+    → let b = get_or c.args.src.now c.loop-b.b-index 0 in
+    Sofar (joined (words c.args.src.now)) (b ∷ left 1 (drop (c.loop-b.b-index + 1) c.args.src.now)) c.args.dst.now c.if-owed.o c.if-owed.dst
+byte c =
+    let e = sym c.is_white.ensures ∙ c.if-is_white.false in
+    elim c.if-owed.branch [
+      | then-owed w ↦ rw (w.o-is, w.dst-is) (sofar-byte (squeezing-space c.loop-b.invariant c.loop-b-test.true e w.if-owed.true))
+      | else-owed w ↦ rw (w.o-is, w.dst-is) (squeezing-byte c.loop-b.invariant c.loop-b-test.true e w.if-owed.false)
+    ]
 
-pub loop-word-preserved : goal.loop-word-preserved
-loop-word-preserved c =
-    let u = word (goal.at.loop-word-preserved c).In-Some in
-    spelling-word c.loop-word.invariant u.0 u.1 c.add_word-o.ensures (length_push c.loop-word.yielded c.in-Some.word)
+pub loop-b-init : goal.loop-b-init
+loop-b-init c = squeezing-none c.requires
+
+pub loop-b-preserved-then-is_white : goal.loop-b-preserved-then-is_white
+loop-b-preserved-then-is_white c = squeezing-white c.loop-b.invariant c.loop-b-test.true (sym c.is_white.ensures ∙ c.if-is_white.true)
+
+pub bounds-dst-o : goal.bounds-dst-o
+bounds-dst-o c = (sofar-byte-room (space c)).0
+
+pub overflow_add-o : goal.overflow_add-o
+overflow_add-o c = let h = (sofar-byte-room (space c)).0 in search rules
+
+pub bounds-dst-o-in-loop-b : goal.bounds-dst-o-in-loop-b
+bounds-dst-o-in-loop-b c = (sofar-byte-room (byte c)).0
+
+pub overflow_add-o-in-loop-b : goal.overflow_add-o-in-loop-b
+overflow_add-o-in-loop-b c = let h = (sofar-byte-room (byte (goal.at.overflow_add-o-in-loop-b c).Joined-owed)).0 in search rules
+
+pub loop-b-preserved : goal.loop-b-preserved
+loop-b-preserved c =
+    let d = (goal.at.loop-b-preserved c).Joined-owed in squeezing-more _ _ (free d) (byte d)
 
 pub returns : goal.returns
-returns c =
-    let h = c.into_iter-word-iterator.ensures in
-    let t =
-    YieldsList-end
-    (YieldsList-from_filter {s = c.into_iter-word-iterator.result} _ has_byte
-    (YieldsList-from_slice_split _ white c.args.src.now (cc) (cc) (cc) (λ x b q k. search (rules, tests))) (cc) (λ x b q k. search (rules, tests)))
-    c.loop-word.yielded _ c.loop-word.yielded_by _ _ c.in-None.is c.next.ensures.steps in
-    let u = rw (words-is c.args.src.now) at t in
-    spelling-end c.loop-word.invariant (omega (arith, u.1))
+returns c = squeezing-end c.loop-b.invariant c.loop-b-test.false

@@ -1,7 +1,6 @@
--- `squeeze_into`: the words so far are written, and of the others a space comes before each, or before each but the first (`Spelling`).
-use lib.ListN.{length}
-use Rattle.text.proofs.Squeezed.{Spelling}
+-- `squeeze_into`: what is left to write is told by the place, by whether a space is owed, and by the bytes from `b` on (`Squeezing`).
+use Rattle.text.proofs.Squeezed.{Squeezing}
 use Rattle.text.proofs.white.squeeze_into.Given as goal
 
-abbrev pub invariant-loop-word : goal.invariant-loop-word
-invariant-loop-word l = Spelling l.src l.initial.dst (length l.yielded) l.o l.dst
+abbrev pub invariant-loop-b : goal.invariant-loop-b
+invariant-loop-b l = Squeezing l.src l.initial.dst l.b-index l.o l.owed l.dst
