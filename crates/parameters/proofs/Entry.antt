@@ -1,5 +1,5 @@
 -- Entering a part into a table: what stands in it then, and that it is within the text.
-use mathlib.Core.Path.{◌≡◌, sym, ap, ◌∙◌}
+use mathlib.Core.Path.{◌≡◌, refl, sym, ap, ◌∙◌}
 use mathlib.Core.List.{List, [], ◌∷◌, ◌++◌, append_assoc}
 use Prim.Native.Nat.{ℕ, zero, suc, ◌+◌, ◌-◌, ◌≤◌, ◌<◌}
 use native.Mathlib.Omega.{arith}
@@ -40,16 +40,23 @@ within-set s (x ∷ l) (suc i) p w a = (a.0, within-set s l i p w a.1)
 
 -- ---- in the place of another
 
-module _ {s : Bytes} {t : Parts} {p : Part} {i : ℕ} (g : Good s t) (w : Within s p) (h : i < length (held t)) where
-  pub put-held : take t.n (set t.parts i p) ≡ set (held t) i p
-  put-held = take-set-lt t.n t.parts i p (omega (arith, held-length g))
+-- a part that is put behind those in use changes none of them
+take-set : (n : ℕ) (l : List Part) (i : ℕ) (p : Part) → take n (set l i p) ≡ set (take n l) i p
+take-set zero l i p = refl
+take-set (suc n) [] i p = refl
+take-set (suc n) (x ∷ l) zero p = refl
+take-set (suc n) (x ∷ l) (suc i) p = ap (λ (k : List Part). x ∷ k) (take-set n l i p)
 
+module _ {s : Bytes} {t : Parts} {p : Part} (g : Good s t) (w : Within s p) (i : ℕ) where
   pub put-good : Good s (record { parts = set t.parts i p; n = t.n })
   put-good = record {
     fits = g.fits;
     size = length-set t.parts i p ∙ g.size;
-    within = rw put-held (within-set s (held t) i p w g.within);
+    within = rw (take-set t.n t.parts i p) (within-set s (held t) i p w g.within);
   }
+
+  pub put-held : take t.n (set t.parts i p) ≡ set (held t) i p
+  put-held = take-set t.n t.parts i p
 
 -- ---- as a new one, in front of what is from its place on
 

@@ -14,7 +14,7 @@ ghost use Rattle.parameters.specs.Tables.{front};
 
 use normalise::normal_of;
 use rules::Refusal;
-pub use table::{Full, Parameters, Part, Source};
+pub use table::{Full, Parameters, Part, Source, value_at};
 use text::{Kind, is_blank, is_lead, put, run_end, tested};
 
 // A text of so few bytes, ten times as long, has room in 4,096 with nine bytes behind it.
@@ -22,6 +22,7 @@ const FEW: usize = 408;
 
 // Writes the parameters of a step: 6, 9, then 7.
 fn step_out(source: Source, out: &mut [u8]) -> Result<usize, Refusal>
+    requires { length source.s.now ≤ 40969 }
     ensures { Lends (step_reply (words (front source.entry))) out.old result out.new }
 {
     let step = &source.s[..source.n];
@@ -48,6 +49,7 @@ fn step_out(source: Source, out: &mut [u8]) -> Result<usize, Refusal>
 
 // Writes the whole text as the value of `_name`.
 fn name_out(source: Source, out: &mut [u8]) -> Result<usize, Refusal>
+    requires { length source.s.now ≤ 40969 }
     ensures { Lends (name_reply (front source.entry)) out.old result out.new }
 {
     let n = source.n;
@@ -64,6 +66,7 @@ fn name_out(source: Source, out: &mut [u8]) -> Result<usize, Refusal>
 
 // Writes the parameters of a normalised text.
 fn text_out(source: Source, out: &mut [u8]) -> Result<usize, Refusal>
+    requires { length source.s.now ≤ 40969 }
     ensures { Lends (text_reply (front source.entry)) out.old result out.new }
 {
     let n = source.n;

@@ -37,6 +37,7 @@ impl<'a> Parameters<'a> {
 
     // How many bytes the parameters of the table are, as they are written.
     fn length_of(&self) -> usize
+        requires { length (text self.now) ≤ 40969 }
         ensures { result ≡ length (lines_of (text self.now) (table_in self.now)) }
     {
         let mut n = 0;
@@ -50,6 +51,7 @@ impl<'a> Parameters<'a> {
 
     // Writes the parameters of the table into out, or refuses 7.
     pub fn lines_out(&self, out: &mut [u8]) -> Result<usize, Refusal>
+        requires { length (text self.now) ≤ 40969 }
         ensures { Lends (answers (lines_of (text self.now) (table_in self.now))) out.old result out.new }
     {
         if out.len() < self.length_of() {

@@ -1,7 +1,7 @@
 // A step's parameters as a fixed table of 32 parts of a text, kept in byte order as it fills: the `BTreeMap` of
 // `split_into_parameters` of src/token/mod.rs.
-ghost use Rattle.std.specs.Prelude.{◌≡◌, ◌≤◌, length};
-ghost use Rattle.parameters.specs.Parts.{Good, Good-prop};
+ghost use Rattle.std.specs.Prelude.{◌≡◌};
+ghost use Rattle.parameters.specs.Parts.{Good, Good-prop, Within, value_at};
 ghost use Rattle.parameters.specs.Elements.{Spelt, Spelt-prop};
 
 use std::cmp::Ordering;
@@ -22,7 +22,6 @@ pub struct Source<'a> {
     pub s: &'a [u8],
     pub n: usize,
     pub ghost spelt: { Spelt s.now n } by { Spelt-prop s.now n },
-    pub ghost small: { length s.now ≤ 40969 },
 }
 
 // The parameters of a text: a table of 32 parts of it, of which the first n are in use.
@@ -33,6 +32,18 @@ pub struct Parameters<'a> {
     pub parts: [Part; 32],
     pub n: usize,
     pub ghost good: { Good source.s.now (record { parts = parts; n = n }) } by { Good-prop source.s.now (record { parts = parts; n = n }) },
+}
+
+// Where in a text the value of p begins: of a bare word the byte after the key, for its value is the `true` in the nine bytes behind the
+// text.
+pub fn value_at(s: &[u8], p: Part) -> usize
+    requires { Within s.now p }
+    ensures { result ≡ value_at s.now p }
+{
+    if s.len() - p.value < 9 {
+        return p.key_end;
+    }
+    p.value
 }
 
 // The table has no room for one more.
@@ -83,16 +94,12 @@ impl<'a> Parameters<'a> {
         &self.source.s[p.value..p.value_end]
     }
 
-    // Where in the text the value of p begins: of a bare word the byte after the key, for its value is the `true` in the nine bytes
-    // behind the text.
+    // Where in the text the value of p begins.
     pub fn value_at(&self, p: Part) -> usize
         requires { Within (text self.now) p }
         ensures { result ≡ value_at (text self.now) p }
     {
-        if self.source.s.len() - p.value < 9 {
-            return p.key_end;
-        }
-        p.value
+        value_at(self.source.s, p)
     }
 
     // The place of the part with the key of p; or else the place where p goes, in front of the first key that comes after its own.

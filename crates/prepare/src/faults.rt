@@ -1,5 +1,6 @@
 // The refusals 11 to 13 of a step's parameters, and where 12 is; and the series among them, which is read once.
 ghost use Rattle.std.specs.Prelude.{◌≡◌, [], ◌∷◌, ◌+◌, ◌≤◌, length};
+ghost use Rattle.parameters.specs.Tables.{text};
 ghost use Rattle.prepare.specs.Lookup.{placed_in};
 ghost use Rattle.prepare.specs.Faults.{placed, flag_fault, earlier, without, joined, Finds};
 
@@ -89,6 +90,7 @@ fn both(first: Lowest, rest: Lowest) -> Lowest
 
 // Of all of them, one after the other.
 pub fn lowest_of(table: &Parameters, name: Name) -> Lowest
+    requires { length (text table.now) ≤ 40969 }
     ensures { Finds name (placed_in table.now) result }
 {
     let mut low = without_series(14, 0);

@@ -3,7 +3,7 @@ ghost use Rattle.std.specs.Prelude.{◌≡◌, ◌+◌, ◌≤◌, length};
 ghost use Rattle.rules.specs.Text.Bytes.{words, joined};
 ghost use Rattle.rules.specs.Text.Normal.{normal};
 ghost use Rattle.laws_text.specs.Sizes.{weight};
-ghost use Rattle.parameters.specs.Tables.{front};
+ghost use Rattle.parameters.specs.Tables.{front, text};
 ghost use Rattle.prepare.specs.Lookup.{placed_in};
 ghost use Rattle.prepare.specs.Records.{reply_is};
 ghost use Rattle.prepare.specs.StepReply.{Roomy, named_reply, placed_reply, cut_reply, text_reply, step_reply};
@@ -32,6 +32,7 @@ const UNNAMED: Fault = Fault { number: 10, at: 0 };
 
 // Judges the parameters of a step of that name, in a mode: the lowest of 11 to 13, then 14.
 fn judge_named(table: &Parameters, name: Name, mode: Mode) -> Result<Step, Fault>
+    requires { length (text table.now) ≤ 40969 }
     ensures { reply_is result ≡ named_reply mode name (placed_in table.now) }
 {
     let low = lowest_of(table, name);
@@ -46,6 +47,7 @@ fn judge_named(table: &Parameters, name: Name, mode: Mode) -> Result<Step, Fault
 
 // Judges a step's parameters: 10 for a name that is none of the five, then the others.
 fn judge(table: &Parameters, mode: Mode) -> Result<Step, Fault>
+    requires { length (text table.now) ≤ 40969 }
     ensures { reply_is result ≡ placed_reply mode (placed_in table.now) }
 {
     let Some(word) = value_of(table, b"_name") else {
@@ -59,7 +61,8 @@ fn judge(table: &Parameters, mode: Mode) -> Result<Step, Fault>
 
 // Judges a step's text as it is cut into parameters, its words one space apart: 9, then its parameters.
 fn judge_cut(source: Source, mode: Mode) -> Result<Step, Fault>
-    requires { front source ≡ joined (words (front source)) }
+    requires spaced { front source ≡ joined (words (front source)) }
+    requires small { length source.s.now ≤ 40969 }
     ensures { reply_is result ≡ cut_reply mode (words (front source.entry)) }
 {
     let mut table = Parameters::new(source);

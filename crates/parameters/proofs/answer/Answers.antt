@@ -21,10 +21,10 @@ pub slice_bounds-text_out-end-2 : goal.slice_bounds-text_out-end-2
 slice_bounds-text_out-end-2 c = wrote-counts c.put-m.ensures
 
 pub invariant_of-text_out : goal.invariant_of-text_out
-invariant_of-text_out c = record {
-  spelt = front-spelt c.args.text.now c.normal_of-n.ensures c.put-m.ensures;
-  small = front-small c.args.text.now c.normal_of-n.ensures c.put-m.ensures c.requires.text_len_bound;
-}
+invariant_of-text_out c = record { spelt = front-spelt c.args.text.now c.normal_of-n.ensures c.put-m.ensures }
+
+pub text_out-requires : goal.text_out-requires
+text_out-requires c = front-small c.args.text.now c.normal_of-n.ensures c.put-m.ensures c.requires.text_len_bound
 
 pub returns : goal.returns
 returns c =

@@ -18,7 +18,7 @@ value_at-requires c = held-within c.args.table.now.good c.held-p-items.ensures _
 
 pub fault_of-fault-requires : goal.fault_of-fault-requires
 fault_of-fault-requires c =
-    value-small (held-within c.args.table.now.good c.held-p-items.ensures _ no_part c.loop-p-test.true) c.args.table.now.source.small c.value_at.ensures c.value.ensures
+    value-small (held-within c.args.table.now.good c.held-p-items.ensures _ no_part c.loop-p-test.true) c.requires c.value_at.ensures c.value.ensures
 
 pub loop-p-preserved : goal.loop-p-preserved
 loop-p-preserved c =

@@ -7,7 +7,10 @@ use Rattle.prepare.proofs.StepText.{cut-full, cut-table}
 use Rattle.prepare.proofs.judge.judge_cut.Goals as goal
 
 pub enter_cut-requires : goal.enter_cut-requires
-enter_cut-requires c = record { s_value = rw c.new-table.ensures.from c.requires; none = c.new-table.ensures.none }
+enter_cut-requires c = record { s_value = rw c.new-table.ensures.from c.requires.spaced; none = c.new-table.ensures.none }
+
+pub judge-requires : goal.judge-requires
+judge-requires c = rw (ap (λ (x : Source). x.s.now) (c.in-Ok.ensures.from ∙ c.new-table.ensures.from)) c.requires.small
 
 pub returns-in-Err : goal.returns-in-Err
 returns-in-Err c = cut-full _ (words (front c.args.source)) (rw c.new-table.ensures.from at c.in-Err.ensures.entered.1) refl

@@ -30,10 +30,12 @@ put-m-requires c =
 pub invariant_of-judge_cut : goal.invariant_of-judge_cut
 invariant_of-judge_cut c =
     let has = has-line _ _ _ _ c.line_at.ensures c.in-Some.is in
-    record { spelt = cut-spelt c.args.s.now has c.put-m.ensures; small = cut_short c.args.s.now has c.put-m.ensures c.requires.s_len_bound }
+    record { spelt = cut-spelt c.args.s.now has c.put-m.ensures }
 
 pub judge_cut-requires : goal.judge_cut-requires
-judge_cut-requires c = cut-joined c.args.s.now (has-line _ _ _ _ c.line_at.ensures c.in-Some.is) c.put-m.ensures
+judge_cut-requires c =
+    let has = has-line _ _ _ _ c.line_at.ensures c.in-Some.is in
+    record { spaced = cut-joined c.args.s.now has c.put-m.ensures; small = cut_short c.args.s.now has c.put-m.ensures c.requires.s_len_bound }
 
 pub returns : goal.returns
 returns c =
