@@ -4,7 +4,7 @@ use Rattle.std.specs.Prelude.{◌≡◌, ℕ, ◌≤◌, Bool, true, false, cond
 use Rattle.std.proofs.Common.{ap, sym, ◌∙◌, le_trans}
 use Rattle.std.proofs.Math.Seq.{take-append_seam}
 use Rattle.rules.specs.Text.Bytes.{Bytes, joined}
-use Rattle.rules.specs.Text.Refusal.{Reply, answers, refuses, refuses12, tested, lent, outcome, prepared, refusal, refusal_at}
+use Rattle.rules.specs.Text.Refusal.{Reply, answers, refuses, refuses12, tested, lent, outcome, prepared, refusal_at}
 use Rattle.rules.specs.Text.Split.{steps, split_steps}
 use Rattle.rules.specs.Text.Reader.{definition}
 use Rattle.rules.specs.Pipeline.Record.{reading_number, span_end, refusal18}
@@ -79,8 +79,8 @@ check-never-18 r mode t l h d number place e = never (cc (never-18 r mode t l h,
 
 -- and no run of them is refused 18.
 pub run-never-18 : (r : Reading) (mode : Mode) (t : Bytes) (l : List Step) → tested (prepare_as r mode) t ≡ answers l
-    → (d : Direction) (xs store : List Float) (place : ℕ) → (runs d l xs store).answer ≡ refusal 18 place → ⊥
-run-never-18 r mode t l h d xs store place e = never (cc (never-18 r mode t l h, run-refused d l xs store place e))
+    → (d : Direction) (xs store : List Float) (place offset : ℕ) → (runs d l xs store).answer ≡ refusal_at 18 place offset → ⊥
+run-never-18 r mode t l h d xs store place offset e = never (cc (never-18 r mode t l h, run-refused d l xs store place offset e))
 
 -- ---- a lent table
 

@@ -1,7 +1,7 @@
 -- What a run that is not refused answers and leaves, and what a pass of the check tells of it.
 use Rattle.rules.specs.declared.Refusal.{Refusal}
 use Rattle.rules.specs.declared.Finished.{Finished}
-use Rattle.rules.specs.Text.Refusal.{refusal, told}
+use Rattle.rules.specs.Text.Refusal.{refusal_at, told}
 use Rattle.std.specs.Prelude.{◌≡◌, ℕ, ◌*◌, ◌/◌, ◌%◌, ◌≤◌, Bool, not, cond, List, map, length, ltb, eqb, Float, Option, None, Some, Result, Ok, Err}
 use Rattle.std.proofs.Math.Path.{refl, sym}
 use Rattle.std.proofs.Common.{sym, ap, ◌∙◌, arith, eqb-true, le-ltb}
@@ -109,13 +109,13 @@ module _ (l : List Numbered) (xs store : List Float) where
   none-15 false = none-16 (passes64 l (start xs))
 
 -- A run is refused 18 at the place of the first bad record alone.
-pub run-refused : (d : Direction) (t : List Step) (xs store : List Float) (k : ℕ) → (runs d t xs store).answer ≡ refusal 18 k → refusal18 t ≡ Some k
+pub run-refused : (d : Direction) (t : List Step) (xs store : List Float) (k offset : ℕ) → (runs d t xs store).answer ≡ refusal_at 18 k offset → refusal18 t ≡ Some k
 unfolding runs unless18 refused is18
-run-refused d t xs store k h = go (refusal18 t) h
+run-refused d t xs store k offset h = go (refusal18 t) h
   where
-    go : (o : Option ℕ) → (unless18 o d t xs store).answer ≡ refusal 18 k → o ≡ Some k
+    go : (o : Option ℕ) → (unless18 o d t xs store).answer ≡ refusal_at 18 k offset → o ≡ Some k
     go None h = absurd (false≢true (sym (none-15 (running d t) xs store (bad_list xs)) ∙ ap is18 h))
-    go (Some p) h = let e : told 18 p ≡ told 18 k = cc h in ap (λ (r : Refusal). Some r.place) e
+    go (Some p) h = let e : ◌≡◌ {A = Refusal} (told 18 p) (record { number = 18; place = k; offset = offset }) = cc h in ap (λ (r : Refusal). Some r.place) e
 
 -- ---- after a pass
 

@@ -162,7 +162,7 @@ module _ {d : Direction} {t : List Step} {f : Foretold} (checks : Checks d t f) 
 pub demand3 : Demand3
 demand3 = record {
   check-takes-what-is-prepared = λ how mode k p checks h. check-never-18 how mode _ _ (table-tested how mode p) _ 18 k (rw checks.exactly at h);
-  run-takes-what-is-prepared = λ how mode k p ran. run-never-18 how mode _ _ (table-tested how mode p) _ _ _ k (ran-answer ran);
+  run-takes-what-is-prepared = λ how mode k offset p ran. run-never-18 how mode _ _ (table-tested how mode p) _ _ _ k offset (ran-answer ran);
   passes-exactly-when = λ checks xs. rw checks.exactly (passes-exactly _ _ xs);
   too-few-exactly-when = λ checks xs k. rw checks.exactly (few-exactly _ _ xs k);
   too-many-exactly-when = λ checks xs k. rw checks.exactly (many-exactly _ _ xs k);

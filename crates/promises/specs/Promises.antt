@@ -8,7 +8,7 @@ use Rattle.std.specs.Float.Ieee.{mul, div, fits, to_bits}
 use borrow.Fn.World.{World}
 use Rattle.rules.specs.Text.Bytes.{Bytes, joined}
 use Rattle.rules.specs.Text.Lists.{all_of}
-use Rattle.rules.specs.Text.Refusal.{Reply, answers, refuses, refuses12, Promised, Writes, Lends, Wrote, refusal, refusal_at}
+use Rattle.rules.specs.Text.Refusal.{Reply, answers, refuses, refuses12, Promised, Writes, Lends, Wrote, refusal_at}
 use Rattle.rules.specs.Text.Normal.{normalise}
 use Rattle.rules.specs.Text.Split.{steps, split}
 use Rattle.rules.specs.Text.Parameters.{parameters}
@@ -193,8 +193,8 @@ pub record Demand3 : Type 0 where
   -- Whatever preparing leaves, in either reading and mode, is never refused 18, by a check or by a run.
   pub check-takes-what-is-prepared : (how : Reading) (mode : Mode) {text : Bytes} {table table' : List Step} {n : ℕ} {d : Direction} {f : Foretold} (k : ℕ)
       → PreparesAs how mode text table (Ok n) table' → Checks d (take n table') f → f.verdict ≡ Refused 18 k → ⊥
-  pub run-takes-what-is-prepared : (how : Reading) (mode : Mode) {text : Bytes} {table table' : List Step} {n : ℕ} {d : Direction} {xs store xs' store' : List Float} (k : ℕ)
-      → PreparesAs how mode text table (Ok n) table' → Runs d (take n table') xs store (refusal 18 k) xs' store' → ⊥
+  pub run-takes-what-is-prepared : (how : Reading) (mode : Mode) {text : Bytes} {table table' : List Step} {n : ℕ} {d : Direction} {xs store xs' store' : List Float} (k offset : ℕ)
+      → PreparesAs how mode text table (Ok n) table' → Runs d (take n table') xs store (refusal_at 18 k offset) xs' store' → ⊥
   -- "It passes exactly when no step finds fewer columns than it takes and the depth never exceeds 64": no record is bad, and so it is of every step that
   -- runs, on any one list or on all;
   pub passes-exactly-when : {d : Direction} {t : List Step} {f : Foretold} → Checks d t f → (xs : List Float)
