@@ -15,20 +15,12 @@ mod tables;
 mod texts;
 mod writes;
 
-ghost use Rattle.std.specs.Prelude.{◌<◌, ◌≤◌, IfSome, length};
+ghost use Rattle.std.specs.Prelude.{◌≤◌, length};
 
 use answers_say::{Output, UNTOUCHED};
+use answers_wire::last_newline;
 use input::Input;
 use rooms::Rooms;
-
-// The place of the last newline of the input, whose first `seen` bytes have none.
-fn last_newline(input: &[u8], seen: usize) -> Option<usize>
-    ensures { IfSome result (λ n. n < length input.now) }
-{
-    let new = input.get(seen..)?;
-    let last = new.iter().rposition(|b| *b == b'\n')?;
-    Some(seen + last)
-}
 
 // Answers each whole line of the input, whose first `seen` bytes have no newline, and answers where the line that has
 // begun starts.

@@ -1,9 +1,12 @@
 // Output, gathered in a buffer: where the buffer is full, what it holds is written out. A write that fails is not told.
-ghost use Rattle.std.specs.Prelude.{◌≡◌, ◌<◌, ◌≤◌};
+ghost use Rattle.std.specs.Prelude.{◌≡◌, ◌+◌, ◌*◌, ◌≤◌, length};
 
 use std::fmt;
 use std::fmt::{Display, Write};
 use std::io::Print;
+
+// How many bytes are put at a time: the buffer has room for twice as many.
+const PIECE: usize = 4096;
 
 // What is still to be written is the first `at` bytes of the buffer.
 #[derive(Drop)]
@@ -31,25 +34,36 @@ impl<'a, P: Print> Output<'a, P> {
         self.at = 0;
     }
 
-    // Sees to room for a byte.
-    fn make_room(&mut self)
-        ensures { self.new.at < 65536 }
+    // Sees to room for n bytes.
+    fn make_room(&mut self, n: usize)
+        requires { n ≤ 65536 }
+        ensures { self.new.at + n ≤ 65536 }
     {
-        if self.at == self.buffer.len() {
+        if self.buffer.len() - self.at < n {
             self.flush();
         }
     }
 
-    fn byte(&mut self, b: u8) {
-        self.make_room();
-        self.buffer[self.at] = b;
-        self.at += 1;
+    // Puts bytes, which there is room for, as they are.
+    fn put(&mut self, bytes: &[u8])
+        requires { self.old.at + length bytes.now ≤ 65536 }
+        ensures { self.new.at ≡ self.old.at + length bytes.now }
+    {
+        let end = self.at + bytes.len();
+        self.buffer[self.at..end].copy_from_slice(bytes);
+        self.at = end;
     }
 
-    fn bytes(&mut self, bytes: &[u8]) {
-        for b in bytes {
-            self.byte(*b);
+    // Puts two digits for each byte, which there is room for.
+    fn put_hex(&mut self, bytes: &[u8])
+        requires { self.old.at + length bytes.now * 2 ≤ 65536 }
+        ensures { self.new.at ≡ self.old.at + length bytes.now * 2 }
+    {
+        let end = self.at + bytes.len() * 2;
+        for (digits, b) in self.buffer[self.at..end].chunks_exact_mut(2).zip(bytes) {
+            digits.copy_from_slice(&answers_wire::hex_digits(*b));
         }
+        self.at = end;
     }
 
     // Words as they are printed.
@@ -62,8 +76,9 @@ impl<'a, P: Print> Output<'a, P> {
         if bytes.is_empty() {
             self.say('-');
         }
-        for b in bytes {
-            self.bytes(&answers_wire::hex_digits(*b));
+        for piece in bytes.chunks(PIECE) {
+            self.make_room(piece.len() * 2);
+            self.put_hex(piece);
         }
     }
 
@@ -72,8 +87,17 @@ impl<'a, P: Print> Output<'a, P> {
         if x.is_nan() {
             self.say("nan");
         } else {
-            self.hex(&x.to_bits().to_be_bytes());
+            self.make_room(16);
+            self.put_pattern(x.to_bits());
         }
+    }
+
+    // Puts the sixteen digits of a bit pattern, which there is room for.
+    fn put_pattern(&mut self, bits: u64)
+        requires { self.old.at + 16 ≤ 65536 }
+        ensures { self.new.at ≡ self.old.at + 16 }
+    {
+        self.put_hex(&bits.to_be_bytes());
     }
 
     // A list's items, each said by `one`, with commas between; `-` where there are none.
@@ -94,7 +118,10 @@ impl<'a, P: Print> Output<'a, P> {
 
 impl<P: Print> Write for Output<'_, P> {
     fn write_str(&mut self, text: &str) -> fmt::Result {
-        self.bytes(text.as_bytes());
+        for piece in text.as_bytes().chunks(PIECE) {
+            self.make_room(piece.len());
+            self.put(piece);
+        }
         Ok(())
     }
 }

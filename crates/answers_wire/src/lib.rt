@@ -8,7 +8,7 @@ mod number;
 mod read;
 mod write;
 
-pub use line::{field, fields, part, parts};
+pub use line::{field, fields, last_newline, part, parts};
 pub use number::{are_numbers, count_numbers, is_all_number, read_numbers};
 pub use read::{read_natural, read_signed, read_text};
 pub use write::hex_digits;

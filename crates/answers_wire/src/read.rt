@@ -44,7 +44,9 @@ fn are_digits(s: &[u8], most: usize) -> bool
 }
 
 // The bytes that lowercase hex digits spell, two digits a byte, in the first bytes of `room`; `-` spells none.
-pub fn read_text<'a>(field: &[u8], room: &'a mut [u8]) -> Option<&'a [u8]> {
+pub fn read_text<'a>(field: &[u8], room: &'a mut [u8]) -> Option<&'a [u8]>
+    ensures { IfSome result (λ text. length text.now ≤ length room.old) }
+{
     if field == b"-".as_slice() {
         return Some(&[]);
     }
