@@ -50,7 +50,7 @@ impl<'a> Parameters<'a> {
     }
 
     // Writes the parameters of the table into out, or refuses 7.
-    pub fn lines_out(&self, out: &mut [u8]) -> Result<usize, Refusal>
+    pub(crate) fn lines_out(&self, out: &mut [u8]) -> Result<usize, Refusal>
         requires { length (text self.now) ≤ 40969 }
         ensures { Lends (answers (lines_of (text self.now) (table_in self.now))) out.old result out.new }
     {
