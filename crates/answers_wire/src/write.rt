@@ -1,7 +1,7 @@
 // Bytes in hex digits.
 ghost use Rattle.std.specs.Prelude.{◌≡◌, ◌≤◌, ◌/◌, ◌%◌, ◌∷◌, [], slice_index};
 
-// The digits by their values.
+// The digits by their values: the contracts speak of them.
 const DIGITS: &[u8; 16] = b"0123456789abcdef";
 
 // The two lowercase hex digits of a byte.
