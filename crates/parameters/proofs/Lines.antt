@@ -1,5 +1,5 @@
 -- Writing parameters: the laws of a line, and of the loops over a table.
-use mathlib.Core.Path.{◌≡◌, sym, ap, ◌∙◌, subst}
+use mathlib.Core.Path.{◌≡◌, refl, sym, ap, ◌∙◌, subst}
 use mathlib.Core.List.{List, [], ◌∷◌, ◌++◌, append_assoc, map, flat_map}
 use Prim.Native.Nat.{ℕ, ◌+◌, ◌-◌, ◌*◌, ◌≤◌, ◌<◌}
 use native.Mathlib.Omega.{arith}
@@ -140,3 +140,33 @@ module _ {s : Bytes} {l : List Part} {i n : ℕ} (m : Total s l i n) where
     -- no sum on the way is too large
     pub total-small : length l ≤ 32 → n + ((get_or l i d).key_end - (get_or l i d).key) + ((get_or l i d).value_end - (get_or l i d).value) + 2 ≤ 2622080
     total-small k = omega (arith, total-more.few, k)
+
+-- ---- what they leave of a room
+
+-- left is what the lines of the first i parts leave of the room
+pub record Leaves (s : Bytes) (l : List Part) (room i left : ℕ) : Type 0 where
+  pub count : left + length (lines_from s l 0) ≡ room + length (lines_from s l i)
+
+pub leaves-none : (s : Bytes) (l : List Part) (room : ℕ) → Leaves s l room 0 room
+leaves-none s l room = record { count = refl }
+
+module _ {s : Bytes} {l : List Part} {room i left : ℕ} (m : Leaves s l room i left) where
+  pub leaves-end : length l ≤ i → (length (lines_from s l 0) ≤ room) × (left ≡ room - length (lines_from s l 0))
+  leaves-end h = let e = ap length (lines_none s l i h) in (omega (arith, m.count, e), omega (arith, m.count, e))
+
+  module _ (d : Part) (h : i < length l) (w : Within s (get_or l i d)) where
+    line-and-rest : length (lines_from s l i) ≡ ((get_or l i d).key_end - (get_or l i d).key) + ((get_or l i d).value_end - (get_or l i d).value) + 2 + length (lines_from s l (i + 1))
+    line-and-rest =
+        let e = line-length s (get_or l i d) w in
+        let a = ap length (lines_next s l i d h) in
+        let b = length-append (parameter_line (part_of s (get_or l i d))) (lines_from s l (i + 1)) in
+        omega (arith, a, b, e)
+
+    pub leaves-more : ((get_or l i d).key_end - (get_or l i d).key) + ((get_or l i d).value_end - (get_or l i d).value) + 2 ≤ left
+        → {n : ℕ} → n ≡ left - ((get_or l i d).key_end - (get_or l i d).key) - ((get_or l i d).value_end - (get_or l i d).value) - 2 → Leaves s l room (i + 1) n
+    leaves-more f {n} e = record { count = omega (arith, m.count, line-and-rest) }
+
+    -- the line does not fit into what is left
+    pub leaves-over : (((get_or l i d).key_end - (get_or l i d).key) + ((get_or l i d).value_end - (get_or l i d).value) + 2 ≤ left → ⊥)
+        → length (lines_from s l 0) ≤ room → ⊥
+    leaves-over n k = n (omega (arith, m.count, line-and-rest, k))

@@ -38,7 +38,7 @@ fn step_out(source: Source, out: &mut [u8]) -> Result<usize, Refusal>
     }
     let mut table = Parameters::new(source);
     match table.enter_step() {
-        Ok(()) => table.lines_out(out),
+        Ok(()) => table.small_out(out),
         Err(Full) => Err(Refusal {
             number: 9,
             place: 0,
@@ -61,7 +61,7 @@ fn name_out(source: Source, out: &mut [u8]) -> Result<usize, Refusal>
     };
     let mut table = Parameters::new(source);
     let _ = table.enter(p);
-    table.lines_out(out)
+    table.small_out(out)
 }
 
 // Writes the parameters of a normalised text.

@@ -15,4 +15,4 @@ returns c =
     let here : c.new-table.result.source.s.now ≡ c.args.source.s.now = ap (λ (x : Source). x.s.now) c.new-table.ensures.from in
     let then : c.enter.new.self.source.s.now ≡ c.args.source.s.now = ap (λ (x : Source). x.s.now) c.enter.ensures.from ∙ here in
     name-so c.args.source.spelt (held (table_in c.new-table.result)) (held (table_in c.enter.new.self)) c.enter.result c.new-table.ensures.none
-    (rw here at c.enter.ensures.entered) (rw here at c.enter.ensures.full) (rw then at c.lines_out.ensures)
+    (rw here at c.enter.ensures.entered) (rw here at c.enter.ensures.full) (rw then at c.small_out.ensures)

@@ -20,7 +20,7 @@ returns-in-Ok c =
     let then : c.enter_step.new.self.source.s.now ≡ c.args.source.s.now = ap (λ (x : Source). x.s.now) (c.in-Ok.ensures.from ∙ c.new-table.ensures.from) in
     step_lines (front c.args.source) c.args.out.now (sym c.is_lead.ensures ∙ c.if-is_lead.false) (text c.enter_step.new.self) (table_in c.enter_step.new.self)
     (omega (arith, held-length c.enter_step.new.self.good, c.enter_step.new.self.good.fits))
-    (rw then (rw c.new-table.ensures.from at c.in-Ok.ensures.entered.0)) c.lines_out.ensures
+    (rw then (rw c.new-table.ensures.from at c.in-Ok.ensures.entered.0)) c.small_out.ensures
 
 pub returns-in-Err : goal.returns-in-Err
 returns-in-Err c = step-full (front c.args.source) c.args.out.now (sym c.is_lead.ensures ∙ c.if-is_lead.false) (rw c.new-table.ensures.from at c.in-Err.ensures.entered.1)
