@@ -125,17 +125,24 @@ line-length s p w =
       length_part s p.value p.value_end w.value-ahead w.value-within,
     )
 
+-- the lines from one on are its own, and those behind it
+line-and-rest : (s : Bytes) (l : List Part) (i : ℕ) (d : Part) → i < length l → Within s (get_or l i d)
+    → length (lines_from s l i) ≡ ((get_or l i d).key_end - (get_or l i d).key) + ((get_or l i d).value_end - (get_or l i d).value) + 2 + length (lines_from s l (i + 1))
+line-and-rest s l i d h w =
+    ap length (lines_next s l i d h)
+    ∙ omega (arith, length-append (parameter_line (part_of s (get_or l i d))) (lines_from s l (i + 1)), line-length s (get_or l i d) w)
+
 module _ {s : Bytes} {l : List Part} {i n : ℕ} (m : Total s l i n) where
   pub total-end : length l ≤ i → n ≡ length (lines_from s l 0)
   total-end h = omega (arith, m.count, ap length (lines_none s l i h))
 
   module _ (d : Part) (h : i < length l) (small : length s ≤ 40969) (w : Within s (get_or l i d)) where
     pub total-more : Total s l (i + 1) (n + ((get_or l i d).key_end - (get_or l i d).key) + ((get_or l i d).value_end - (get_or l i d).value) + 2)
-    total-more =
-        let e = line-length s (get_or l i d) w in
-        let a = ap length (lines_next s l i d h) in
-        let b = length-append (parameter_line (part_of s (get_or l i d))) (lines_from s l (i + 1)) in
-        record { within = omega arith; count = omega (arith, m.count, a, b, e); few = omega (arith, m.few, small, w.key-within, w.value-within) }
+    total-more = record {
+      within = omega arith;
+      count = omega (arith, m.count, line-and-rest s l i d h w);
+      few = omega (arith, m.few, small, w.key-within, w.value-within);
+    }
 
     -- no sum on the way is too large
     pub total-small : length l ≤ 32 → n + ((get_or l i d).key_end - (get_or l i d).key) + ((get_or l i d).value_end - (get_or l i d).value) + 2 ≤ 2622080
@@ -155,18 +162,11 @@ module _ {s : Bytes} {l : List Part} {room i left : ℕ} (m : Leaves s l room i 
   leaves-end h = let e = ap length (lines_none s l i h) in (omega (arith, m.count, e), omega (arith, m.count, e))
 
   module _ (d : Part) (h : i < length l) (w : Within s (get_or l i d)) where
-    line-and-rest : length (lines_from s l i) ≡ ((get_or l i d).key_end - (get_or l i d).key) + ((get_or l i d).value_end - (get_or l i d).value) + 2 + length (lines_from s l (i + 1))
-    line-and-rest =
-        let e = line-length s (get_or l i d) w in
-        let a = ap length (lines_next s l i d h) in
-        let b = length-append (parameter_line (part_of s (get_or l i d))) (lines_from s l (i + 1)) in
-        omega (arith, a, b, e)
-
     pub leaves-more : ((get_or l i d).key_end - (get_or l i d).key) + ((get_or l i d).value_end - (get_or l i d).value) + 2 ≤ left
         → {n : ℕ} → n ≡ left - ((get_or l i d).key_end - (get_or l i d).key) - ((get_or l i d).value_end - (get_or l i d).value) - 2 → Leaves s l room (i + 1) n
-    leaves-more f {n} e = record { count = omega (arith, m.count, line-and-rest) }
+    leaves-more f {n} e = record { count = omega (arith, m.count, line-and-rest s l i d h w) }
 
     -- the line does not fit into what is left
     pub leaves-over : (((get_or l i d).key_end - (get_or l i d).key) + ((get_or l i d).value_end - (get_or l i d).value) + 2 ≤ left → ⊥)
         → length (lines_from s l 0) ≤ room → ⊥
-    leaves-over n k = n (omega (arith, m.count, line-and-rest, k))
+    leaves-over n k = n (omega (arith, m.count, line-and-rest s l i d h w, k))
